@@ -1,0 +1,3 @@
+-- What the finder's definitions are made of.
+pub mod Lists
+pub mod Bits

@@ -1,0 +1,35 @@
+-- The starred lines of the small scheme hold, by computation. Assumes nothing.
+use mathlib.Core.Path.{refl}
+use Rattle.base.specs.Lists.{every}
+use Rattle.base.specs.Bits.{wordOf}
+use Rattle.rules.specs.Places.{edgeLawful, gridLawful, within, inGrid, regionOf, regions, inRect}
+use Rattle.rules.specs.Worth.{distance², diagonal², valueAt, valueOf}
+use Rattle.rules.specs.Names.{allowed, nameAllowed, spanned, name}
+use Rattle.rules.specs.Tables.{rising, shapeLawful, namesAllowed, namesInOrder, standLawful, standsLawful, tableRefusal}
+use Rattle.rules.specs.Questions.{under, regionOfStand, better}
+use Rattle.rules.specs.Indexes.{beginnings}
+use Rattle.rules.specs.Sessions.{sessionOf, typeRefusal}
+use Rattle.rules.specs.Scheme.{SmallScheme}
+
+pub small-scheme : SmallScheme
+unfolding every wordOf edgeLawful gridLawful within inGrid regionOf regions inRect distance² diagonal² valueAt valueOf allowed nameAllowed spanned name rising shapeLawful namesAllowed namesInOrder standLawful standsLawful tableRefusal under regionOfStand better beginnings sessionOf typeRefusal
+small-scheme =
+    record {
+      lawful = refl;
+      diagonal = refl;
+      line1-regions = refl;
+      line1-order = refl;
+      line2-nodes = refl;
+      line2-entries = refl;
+      line3 = refl;
+      line4 = refl;
+      line5 = refl;
+      line5-narrower = refl;
+      line6 = refl;
+      line6-none = λ r. refl;
+      line7 = refl;
+      line8 = refl;
+      line9 = refl;
+      line10 = refl;
+      line11 = refl;
+    }

@@ -1,0 +1,68 @@
+-- The small scheme to reckon by: five stands, and what the definitions give for them, line by line.
+-- SmallScheme is one statement about the definitions; its proof is a computation.
+use mathlib.Core.Path.{_≡_}
+use mathlib.Core.List.{List, [], _∷_}
+use Prim.Native.Nat.{ℕ}
+use lib.IntN.{ℤ, pos}
+use Rattle.base.specs.Lists.{each, eachList, upTo}
+use Rattle.rules.specs.declared.Grid.{Grid}
+use Rattle.rules.specs.declared.Rect.{Rect}
+use Rattle.rules.specs.declared.Ranking.{Ranking}
+use Rattle.rules.specs.declared.Hit.{Hit}
+use Rattle.rules.specs.Worth.{diagonal²}
+use Rattle.rules.specs.Tables.{Table, tableRefusal}
+use Rattle.rules.specs.Questions.{regionOfStand, rangeList, rankedList}
+use Rattle.rules.specs.Indexes.{orderWords, nodeCount, entryCount, nodeRow, entryRow, entriesOf}
+use Rattle.rules.specs.Sessions.{sessionOf, lettersTyped, lettersRubbed}
+
+abbrev pub grid : Grid
+grid = record { west = pos 0; south = pos 0; cell = 10 }
+
+-- kibo, kibo, kibori, kito, mto
+abbrev pub table : Table
+table =
+    record {
+      text = 107 ∷ 105 ∷ 98 ∷ 111 ∷ 107 ∷ 105 ∷ 98 ∷ 111 ∷ 107 ∷ 105 ∷ 98 ∷ 111 ∷ 114 ∷ 105 ∷ 107 ∷ 105 ∷ 116 ∷ 111 ∷ 109 ∷ 116 ∷ 111 ∷ [];
+      starts = 0 ∷ 4 ∷ 8 ∷ 14 ∷ 18 ∷ 21 ∷ [];
+      east = pos 5 ∷ pos 75 ∷ pos 12 ∷ pos 9 ∷ pos 10 ∷ [];
+      north = pos 5 ∷ pos 75 ∷ pos 5 ∷ pos 9 ∷ pos 9 ∷ [];
+      score = 100 ∷ 900 ∷ 400 ∷ 400 ∷ 0 ∷ [];
+    }
+
+abbrev pub ki : List ℕ
+ki = 107 ∷ 105 ∷ []
+
+abbrev pub kiz : List ℕ
+kiz = 107 ∷ 105 ∷ 122 ∷ []
+
+abbrev pub box : ℕ → ℕ → ℕ → ℕ → Rect
+box west east south north = record { west = pos west; east = pos east; south = pos south; north = pos north }
+
+-- asked at (5, 5)
+abbrev pub asked : ℕ → ℕ → Ranking
+asked weight k = record { place = record { east = pos 5; north = pos 5 }; weight = weight; k = k }
+
+abbrev pub hit : ℕ → ℕ → Hit
+hit stand value = record { stand = stand; value = value }
+
+abbrev pub numbersOf : List Hit → List ℕ
+numbersOf hits = each (λ h. h .stand) hits
+
+pub record SmallScheme : Type 0 where
+  pub lawful : tableRefusal table grid ≡ 0
+  pub diagonal : diagonal² grid ≡ 12800
+  pub line1-regions : each (regionOfStand grid table) (upTo 5) ≡ 0 ∷ 63 ∷ 1 ∷ 0 ∷ 1 ∷ []
+  pub line1-order : orderWords table grid ≡ 0 ∷ 3 ∷ 2 ∷ 4 ∷ 1 ∷ []
+  pub line2-nodes : nodeCount table ≡ 12
+  pub line2-entries : entryCount table grid ≡ 22
+  pub line3 : nodeRow table grid 2 ≡ 1 ∷ 105 ∷ 0 ∷ 4 ∷ 9 ∷ 3 ∷ 2147483648 ∷ 6 ∷ []
+  pub line4 : eachList entryRow (entriesOf table grid ki) ≡ 63 ∷ 900 ∷ 4 ∷ 5 ∷ 0 ∷ 400 ∷ 0 ∷ 2 ∷ 1 ∷ 400 ∷ 2 ∷ 3 ∷ []
+  pub line5 : rangeList table grid ki (box 0 12 0 9) ≡ 0 ∷ 3 ∷ 2 ∷ []
+  pub line5-narrower : rangeList table grid ki (box 0 11 0 9) ≡ 0 ∷ 3 ∷ []
+  pub line6 : rangeList table grid [] (box 12 12 5 5) ≡ 2 ∷ []
+  pub line6-none : (r : Rect) → rangeList table grid kiz r ≡ []
+  pub line7 : rankedList table grid ki (asked 0 2) ≡ hit 0 204800000 ∷ hit 3 204288000 ∷ []
+  pub line8 : rankedList table grid ki (asked 16 2) ≡ hit 1 184320000 ∷ hit 2 81920000 ∷ []
+  pub line9 : rankedList table grid ki (asked 8 4) ≡ hit 3 143104000 ∷ hit 2 142968000 ∷ hit 1 116160000 ∷ hit 0 112640000 ∷ []
+  pub line10 : numbersOf (rankedList table grid [] (asked 0 3)) ≡ 0 ∷ 3 ∷ 4 ∷ []
+  pub line11 : sessionOf table (lettersRubbed (lettersTyped (lettersTyped (lettersTyped [] 107) 105) 122)) ≡ sessionOf table ki
