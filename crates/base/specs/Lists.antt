@@ -1,6 +1,6 @@
 -- Lists, as the finder's definitions use them: runs of numbers, tests, filters, sums, sorts.
 -- `cond`, `&&`, `||`, `length`, `take`, `drop` and `getD` are the library's.
-use mathlib.Core.Bool.{Bool, true, false, cond, _&&_}
+use mathlib.Core.Bool.{Bool, true, false, cond, _&&_, _||_}
 use mathlib.Core.List.{List, [], _∷_, _++_}
 use Prim.Native.Nat.{ℕ, zero, suc, _+_}
 use lib.Dec.{eqb, ltb}
@@ -70,6 +70,12 @@ begins [] n = true
 begins (a ∷ p) [] = false
 begins (a ∷ p) (b ∷ n) = eqb a b && begins p n
 
+-- how many elements two lists share at their beginnings
+abbrev pub sharedLength : List ℕ → List ℕ → ℕ
+sharedLength [] n = 0
+sharedLength (a ∷ m) [] = 0
+sharedLength (a ∷ m) (b ∷ n) = cond (eqb a b) (suc (sharedLength m n)) 0
+
 -- where x stands in the list; its length where it doesn't
 abbrev pub positionIn : ℕ → List ℕ → ℕ
 positionIn x [] = 0
@@ -78,6 +84,10 @@ positionIn x (y ∷ ys) = cond (eqb x y) 0 (suc (positionIn x ys))
 -- a room after these words are written at its start
 abbrev pub written : List ℕ → List ℕ → List ℕ
 written words room = words ++ drop (length words) room
+
+-- whether a goes before b: the larger f first, and where those are equal the smaller g
+abbrev pub leads : {A : Type 0} → (A → ℕ) → (A → ℕ) → A → A → Bool
+leads f g a b = ltb (f b) (f a) || eqb (f a) (f b) && ltb (g a) (g b)
 
 -- x put before the first that it goes before
 abbrev pub insertBy : {A : Type 0} → (A → A → Bool) → A → List A → List A

@@ -1,2 +1,5 @@
--- What holds of the definitions.
+-- What holds of the definitions: the small scheme, the order of names, lawful tables, and that answers are told apart by their numbers.
 pub mod Scheme
+pub mod Orders
+pub mod Bytes
+pub mod Lawful

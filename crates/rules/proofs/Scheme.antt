@@ -6,13 +6,13 @@ use Rattle.rules.specs.Places.{edgeLawful, gridLawful, within, inGrid, r
 use Rattle.rules.specs.Worth.{distance², diagonal², valueAt, valueOf}
 use Rattle.rules.specs.Names.{allowed, nameAllowed, spanned, name}
 use Rattle.rules.specs.Tables.{rising, shapeLawful, namesAllowed, namesInOrder, standLawful, standsLawful, tableRefusal}
-use Rattle.rules.specs.Questions.{under, regionOfStand, better}
+use Rattle.rules.specs.Questions.{under, regionOfStand}
 use Rattle.rules.specs.Indexes.{beginnings}
 use Rattle.rules.specs.Sessions.{sessionOf, typeRefusal}
 use Rattle.rules.specs.Scheme.{SmallScheme}
 
 pub small-scheme : SmallScheme
-unfolding every wordOf edgeLawful gridLawful within inGrid regionOf regions inRect distance² diagonal² valueAt valueOf allowed nameAllowed spanned name rising shapeLawful namesAllowed namesInOrder standLawful standsLawful tableRefusal under regionOfStand better beginnings sessionOf typeRefusal
+unfolding every wordOf edgeLawful gridLawful within inGrid regionOf regions inRect distance² diagonal² valueAt valueOf allowed nameAllowed spanned name rising shapeLawful namesAllowed namesInOrder standLawful standsLawful tableRefusal under regionOfStand beginnings sessionOf typeRefusal
 small-scheme =
     record {
       lawful = refl;

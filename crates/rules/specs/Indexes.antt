@@ -1,11 +1,11 @@
 -- The index, word by word; what building answers and writes, and which sets are lawful.
 -- Nodes are the distinct beginnings of names, in pre-order; a node's row is eight words, an entry's four.
-use mathlib.Core.Bool.{Bool, true, false, cond, not, _&&_, _||_}
+use mathlib.Core.Bool.{Bool, true, false, cond, not, _||_}
 use mathlib.Core.List.{List, [], _∷_, _++_}
 use Prim.Native.Nat.{ℕ, zero, suc, _+_, _-_, _*_}
 use lib.Dec.{eqb, ltb}
 use lib.ListN.{length, take, getD}
-use Rattle.base.specs.Lists.{every, fromOn, upTo, keep, each, eachList, total, largest, firstOf, isEmpty, sameList, sortBy, begins, positionIn, written}
+use Rattle.base.specs.Lists.{every, fromOn, upTo, keep, each, eachList, total, largest, firstOf, isEmpty, sameList, sortBy, begins, positionIn, written, leads}
 use Rattle.base.specs.Bits.{wordOf}
 use Rattle.rules.specs.declared.Grid.{Grid}
 use Rattle.rules.specs.Numbers.{firstGiven, BuildTold, CheckTold}
@@ -65,7 +65,7 @@ entryOf t g p r =
 
 -- a larger score first; of equal scores the smaller region
 abbrev pub ahead : Entry → Entry → Bool
-ahead a b = ltb (b .score) (a .score) || eqb (a .score) (b .score) && ltb (a .region) (b .region)
+ahead = leads (λ e. e .score) (λ e. e .region)
 
 abbrev pub entriesOf : Table → Grid → List ℕ → List Entry
 entriesOf t g p = sortBy ahead (each (entryOf t g p) (regionsUnder t g p))

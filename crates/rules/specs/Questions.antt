@@ -1,11 +1,11 @@
 -- The two questions, worked out from the table alone: no index is in sight.
 -- For each: the list that is meant, the first refusal that holds, what is answered, and the room afterwards.
-use mathlib.Core.Bool.{Bool, true, false, cond, not, _&&_, _||_}
+use mathlib.Core.Bool.{Bool, true, false, cond, not, _||_}
 use mathlib.Core.List.{List, [], _∷_}
 use Prim.Native.Nat.{ℕ, zero, suc}
 use lib.Dec.{eqb, ltb, leb}
 use lib.ListN.{length, take}
-use Rattle.base.specs.Lists.{all, every, upTo, keep, each, eachList, sortBy, begins, written}
+use Rattle.base.specs.Lists.{all, every, upTo, keep, each, eachList, sortBy, begins, written, leads}
 use Rattle.rules.specs.declared.Grid.{Grid}
 use Rattle.rules.specs.declared.Rect.{Rect}
 use Rattle.rules.specs.declared.Ranking.{Ranking}
@@ -35,8 +35,8 @@ abbrev pub rangeList : Table → Grid → List ℕ → Rect → List ℕ
 rangeList t g p r = byRegion g t (keep (λ i. inRect r (placeOf t i)) (under t p))
 
 -- a larger value is better; of equal values the smaller stand number
-unfoldable pub better : Hit → Hit → Bool
-better a b = ltb (b .value) (a .value) || eqb (a .value) (b .value) && ltb (a .stand) (b .stand)
+abbrev pub better : Hit → Hit → Bool
+better = leads (λ h. h .value) (λ h. h .stand)
 
 abbrev pub hitOf : Table → Grid → Ranking → ℕ → Hit
 hitOf t g q i = record { stand = i; value = valueOf g (q .weight) (scoreOf t i) (placeOf t i) (q .place) }

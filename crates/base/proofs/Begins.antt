@@ -1,0 +1,167 @@
+-- Lists that begin with another, and the length that two lists share.
+-- Sharing is the invariant of a loop that compares byte by byte. Assumes nothing.
+use mathlib.Core.Path.{_≡_, refl, sym, ap, _∙_}
+use mathlib.Core.Logic.{_⊎_, inl, inr, ⊎-elim}
+use mathlib.Core.Bool.{Bool, true, false, _&&_, false≢true}
+use mathlib.Core.List.{List, [], _∷_, _++_}
+use Prim.Native.Nat.{ℕ, zero, suc, _+_, _≤_, _<_}
+use native.Mathlib.Numerals.{add-one}
+use native.Mathlib.Omega.{arith}
+use lib.Dec.{eqb, eqb·zero-suc, eqb·suc-suc}
+use lib.ListN.{length, take, drop, getD, drop-of-length-le}
+use lib.Seq.{drop-cons}
+use borrow.Author.Tests.{eqb-true, eqb-false, eq-eqb, ne-eqb}
+use Rattle.base.specs.Lists.{begins, sameList, sharedLength}
+use Rattle.base.proofs.Tests.{which, and-parts}
+
+pub begins-cases : (a b : ℕ) (p n : List ℕ) → begins (a ∷ p) (b ∷ n) ≡ true → (a ≡ b) × (begins p n ≡ true)
+begins-cases a b p n e = let t = and-parts (eqb a b) (begins p n) e in (eqb-true a b (t .0), t .1)
+
+pub begins-same : (a b : ℕ) (p n : List ℕ) → a ≡ b → begins p n ≡ true → begins (a ∷ p) (b ∷ n) ≡ true
+begins-same a b p n e h = rw (eq-eqb a b e, h)
+
+pub begins-refl : (p : List ℕ) → begins p p ≡ true
+begins-refl [] = refl
+begins-refl (a ∷ p) = begins-same a a p p refl (begins-refl p)
+
+pub begins-trans : (p q n : List ℕ) → begins p q ≡ true → begins q n ≡ true → begins p n ≡ true
+begins-trans [] q n h k = refl
+begins-trans (a ∷ p) [] n h k = absurd (false≢true h)
+begins-trans (a ∷ p) (b ∷ q) [] h k = absurd (false≢true k)
+begins-trans (a ∷ p) (b ∷ q) (c ∷ n) h k =
+    let s = begins-cases a b p q h in
+    let t = begins-cases b c q n k in
+    begins-same a c p n (s .0 ∙ t .0) (begins-trans p q n (s .1) (t .1))
+
+pub begins-length : (p n : List ℕ) → begins p n ≡ true → length p ≤ length n
+begins-length [] n h = omega arith
+begins-length (a ∷ p) [] h = absurd (false≢true h)
+begins-length (a ∷ p) (b ∷ n) h = let t = begins-length p n (begins-cases a b p n h .1) in omega arith
+
+-- of two beginnings of one name the shorter begins the longer
+pub begins-_&&_ : (p q n : List ℕ) → begins p n ≡ true → begins q n ≡ true → length p ≤ length q → begins p q ≡ true
+begins-_&&_ [] q n h k l = refl
+begins-_&&_ (a ∷ p) [] n h k l = absurd (omega arith)
+begins-_&&_ (a ∷ p) (b ∷ q) [] h k l = absurd (false≢true h)
+begins-_&&_ (a ∷ p) (b ∷ q) (c ∷ n) h k l =
+    let s = begins-cases a c p n h in
+    let t = begins-cases b c q n k in
+    begins-same a b p q (s .0 ∙ sym (t .0)) (begins-_&&_ p q n (s .1) (t .1) (omega arith))
+
+-- a beginning as long as the whole is the whole
+pub begins-whole : (p q : List ℕ) → begins p q ≡ true → length q ≤ length p → p ≡ q
+begins-whole [] [] h l = refl
+begins-whole [] (b ∷ q) h l = absurd (omega arith)
+begins-whole (a ∷ p) [] h l = absurd (false≢true h)
+begins-whole (a ∷ p) (b ∷ q) h l = let s = begins-cases a b p q h in cc (s .0, begins-whole p q (s .1) (omega arith))
+
+pub take-begins : (l : ℕ) (n : List ℕ) → begins (take l n) n ≡ true
+take-begins zero n = refl
+take-begins (suc l) [] = refl
+take-begins (suc l) (b ∷ n) = begins-same b b (take l n) n refl (take-begins l n)
+
+pub begins-is-take : (p n : List ℕ) → begins p n ≡ true → p ≡ take (length p) n
+begins-is-take [] n h = refl
+begins-is-take (a ∷ p) [] h = absurd (false≢true h)
+begins-is-take (a ∷ p) (b ∷ n) h = let t = begins-cases a b p n h in cc (t .0, begins-is-take p n (t .1))
+
+pub begins-append : (p q : List ℕ) → begins p (p ++ q) ≡ true
+begins-append [] q = refl
+begins-append (a ∷ p) q = begins-same a a p (p ++ q) refl (begins-append p q)
+
+pub same-true : (p q : List ℕ) → sameList p q ≡ true → p ≡ q
+same-true [] [] h = refl
+same-true [] (b ∷ q) h = absurd (false≢true h)
+same-true (a ∷ p) [] h = absurd (false≢true h)
+same-true (a ∷ p) (b ∷ q) h = let t = and-parts (eqb a b) (sameList p q) h in cc (eqb-true a b (t .0), same-true p q (t .1))
+
+pub same-refl : (p : List ℕ) → sameList p p ≡ true
+same-refl [] = refl
+same-refl (a ∷ p) = rw (eq-eqb a a refl, same-refl p)
+
+pub record Sharing (a b : List ℕ) (i : ℕ) : Type 0 where
+  pub within : i ≤ length a
+  pub within-other : i ≤ length b
+  pub rest : sharedLength a b ≡ i + sharedLength (drop i a) (drop i b)
+
+module _ (a b : List ℕ) where
+  pub begin : Sharing a b 0
+  begin = record { within = omega arith; within-other = omega arith; rest = omega arith }
+
+  pub step : (i : ℕ) → i < length a → i < length b → getD a i 0 ≡ getD b i 0 → Sharing a b i → Sharing a b (i + 1)
+  step i h k e s =
+      let more : sharedLength (drop i a) (drop i b) ≡ suc (sharedLength (drop (i + 1) a) (drop (i + 1) b)) =
+      rw (drop-cons a i 0 h, drop-cons b i 0 k, eq-eqb _ _ e, add-one) in
+      record { within = omega arith; within-other = omega arith; rest = omega arith }
+
+  pub differ : (i : ℕ) → i < length a → i < length b → (getD a i 0 ≡ getD b i 0 → ⊥) → Sharing a b i → i ≡ sharedLength a b
+  differ i h k e s =
+      let none : sharedLength (drop i a) (drop i b) ≡ 0 = rw (drop-cons a i 0 h, drop-cons b i 0 k, ne-eqb _ _ e) in
+      omega (arith, s .rest)
+
+  pub ended : (i : ℕ) → length a ≤ i → Sharing a b i → i ≡ sharedLength a b
+  ended i h s = let none : sharedLength (drop i a) (drop i b) ≡ 0 = rw (drop-of-length-le a h) in omega (arith, s .rest)
+
+  pub ended-other : (i : ℕ) → i < length a → length b ≤ i → Sharing a b i → i ≡ sharedLength a b
+  ended-other i h k s =
+      let none : sharedLength (drop i a) (drop i b) ≡ 0 = rw (drop-cons a i 0 h, drop-of-length-le b k) in omega (arith, s .rest)
+
+pub shared-le : (a b : List ℕ) → sharedLength a b ≤ length a
+shared-le [] b = omega arith
+shared-le (x ∷ a) [] = omega arith
+shared-le (x ∷ a) (y ∷ b) =
+    ⊎-elim (λ e. rw e (omega (arith, shared-le a b))) (λ e. rw e (omega arith)) (which (eqb x y))
+
+pub shared-le-other : (a b : List ℕ) → sharedLength a b ≤ length b
+shared-le-other [] b = omega arith
+shared-le-other (x ∷ a) [] = omega arith
+shared-le-other (x ∷ a) (y ∷ b) =
+    ⊎-elim (λ e. rw e (omega (arith, shared-le-other a b))) (λ e. rw e (omega arith)) (which (eqb x y))
+
+-- a list begins with p where all of p is shared
+pub begins-shared : (p n : List ℕ) → begins p n ≡ eqb (sharedLength p n) (length p)
+begins-shared [] n = refl
+begins-shared (x ∷ p) [] = sym (eqb·zero-suc (length p))
+begins-shared (x ∷ p) (y ∷ n) =
+    ⊎-elim (λ e. rw e (begins-shared p n ∙ sym (eqb·suc-suc (sharedLength p n) (length p)))) (λ e. rw e (sym (eqb·zero-suc (length p)))) (which (eqb x y))
+
+pub begins-take : (m n : List ℕ) (l : ℕ) → l ≤ sharedLength m n → begins (take l n) m ≡ true
+begins-take m n zero h = refl
+begins-take [] n (suc l) h = absurd (omega arith)
+begins-take (a ∷ m) [] (suc l) h = absurd (omega arith)
+begins-take (a ∷ m) (b ∷ n) (suc l) h = step (begins-take m n l) (which (eqb a b))
+  where
+    step : (l ≤ sharedLength m n → begins (take l n) m ≡ true) → (eqb a b ≡ true) ⊎ (eqb a b ≡ false) → begins (take (suc l) (b ∷ n)) (a ∷ m) ≡ true
+    step below (inl q) = begins-same b a (take l n) m (sym (eqb-true a b q)) (below (omega (arith, rw q at h)))
+    step below (inr q) = absurd (omega (arith, rw q at h))
+
+pub begins-take-not : (m n : List ℕ) (l : ℕ) → sharedLength m n < l → l ≤ length n → begins (take l n) m ≡ false
+begins-take-not m n zero h k = absurd (omega arith)
+begins-take-not m [] (suc l) h k = absurd (omega arith)
+begins-take-not [] (b ∷ n) (suc l) h k = refl
+begins-take-not (a ∷ m) (b ∷ n) (suc l) h k = step (begins-take-not m n l) (which (eqb a b))
+  where
+    step : (sharedLength m n < l → l ≤ length n → begins (take l n) m ≡ false) → (eqb a b ≡ true) ⊎ (eqb a b ≡ false) → begins (take (suc l) (b ∷ n)) (a ∷ m) ≡ false
+    step below (inl q) = rw (eq-eqb b a (sym (eqb-true a b q))) (below (omega (arith, rw q at h)) (omega arith))
+    step below (inr q) = rw (ne-eqb b a (λ e. eqb-false a b q (sym e)))
+
+-- the two names share their first `sharedLength` bytes
+pub sharedLength-take : (m n : List ℕ) (l : ℕ) → l ≤ sharedLength m n → take l m ≡ take l n
+sharedLength-take m n zero h = refl
+sharedLength-take [] n (suc l) h = absurd (omega arith)
+sharedLength-take (a ∷ m) [] (suc l) h = absurd (omega arith)
+sharedLength-take (a ∷ m) (b ∷ n) (suc l) h = step (sharedLength-take m n l) (which (eqb a b))
+  where
+    step : (l ≤ sharedLength m n → take l m ≡ take l n) → (eqb a b ≡ true) ⊎ (eqb a b ≡ false) → a ∷ take l m ≡ b ∷ take l n
+    step below (inl q) = cc (eqb-true a b q, below (omega (arith, rw q at h)))
+    step below (inr q) = absurd (omega (arith, rw q at h))
+
+pub sharedLength-sym : (m n : List ℕ) → sharedLength m n ≡ sharedLength n m
+sharedLength-sym [] [] = refl
+sharedLength-sym [] (b ∷ n) = refl
+sharedLength-sym (a ∷ m) [] = refl
+sharedLength-sym (a ∷ m) (b ∷ n) = step (which (eqb a b)) (sharedLength-sym m n)
+  where
+    step : (eqb a b ≡ true) ⊎ (eqb a b ≡ false) → sharedLength m n ≡ sharedLength n m → sharedLength (a ∷ m) (b ∷ n) ≡ sharedLength (b ∷ n) (a ∷ m)
+    step (inl q) r = rw (q, eq-eqb b a (sym (eqb-true a b q)), r)
+    step (inr q) r = rw (q, ne-eqb b a (λ e. eqb-false a b q (sym e)))

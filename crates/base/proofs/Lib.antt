@@ -1,0 +1,10 @@
+-- Laws of lists, tests and words of bits, for any of the finder's proofs.
+pub mod Tests
+pub mod Scans
+pub mod Members
+pub mod Runs
+pub mod Begins
+pub mod Words
+pub mod Shuffles
+pub mod Sorts
+pub mod Machine

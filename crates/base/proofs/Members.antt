@@ -1,0 +1,146 @@
+-- Members of a list, and what `keep`, `each` and `eachList` do to them.
+-- Assumes nothing.
+use mathlib.Core.Path.{_≡_, refl, sym, ap, _∙_}
+use mathlib.Core.Logic.{_⊎_, inl, inr}
+use mathlib.Core.Bool.{Bool, true, false, not, true≢false}
+use mathlib.Core.List.{List, [], _∷_, _++_, append-assoc}
+use Prim.Native.Nat.{ℕ, zero, suc, _<_}
+use native.Mathlib.Omega.{arith}
+use lib.ListN.{length, getD}
+use borrow.Author.Tests.{eq-eqb, ne-eqb}
+use Rattle.base.specs.Lists.{keep, each, eachList, isEmpty, positionIn}
+use Rattle.base.proofs.Tests.{which}
+
+abbrev pub In : {A : Type 0} → A → List A → Type 0
+In x [] = ⊥
+In x (y ∷ l) = (x ≡ y) ⊎ In x l
+
+pub in-left : {A : Type 0} (x : A) (s t : List A) → In x s → In x (s ++ t)
+in-left x [] t h = absurd h
+in-left x (y ∷ s) t (inl e) = inl e
+in-left x (y ∷ s) t (inr h) = inr (in-left x s t h)
+
+pub in-right : {A : Type 0} (x : A) (s t : List A) → In x t → In x (s ++ t)
+in-right x [] t h = h
+in-right x (y ∷ s) t h = inr (in-right x s t h)
+
+pub in-_||_ : {A : Type 0} (x : A) (s t : List A) → In x (s ++ t) → In x s ⊎ In x t
+in-_||_ x [] t h = inr h
+in-_||_ x (y ∷ s) t (inl e) = inl (inl e)
+in-_||_ x (y ∷ s) t (inr h) = step (in-_||_ x s t h)
+  where
+    step : In x s ⊎ In x t → In x (y ∷ s) ⊎ In x t
+    step (inl k) = inl (inr k)
+    step (inr k) = inr k
+
+pub getD-in : {A : Type 0} (d : A) (l : List A) (i : ℕ) → i < length l → In (getD l i d) l
+getD-in d [] i h = absurd (omega arith)
+getD-in d (x ∷ l) zero h = inl refl
+getD-in d (x ∷ l) (suc i) h = inr (getD-in d l i (omega arith))
+
+pub in-at : {A : Type 0} (d x : A) (l : List A) → In x l → (i : ℕ) × (i < length l) × (getD l i d ≡ x)
+in-at d x [] h = absurd h
+in-at d x (y ∷ l) (inl e) = (0, omega arith, sym e)
+in-at d x (y ∷ l) (inr h) = let t = in-at d x l h in (suc (t .0), omega arith, t .2)
+
+module _ {A : Type 0} (f : A → Bool) where
+  pub in-keep : (l : List A) (x : A) → In x l → f x ≡ true → In x (keep f l)
+  in-keep [] x h t = h
+  in-keep (y ∷ l) x (inl e) t = rw (rw e at t) (inl e)
+  in-keep (y ∷ l) x (inr h) t = step (which (f y)) (in-keep l x h t)
+    where
+      step : (f y ≡ true) ⊎ (f y ≡ false) → In x (keep f l) → In x (keep f (y ∷ l))
+      step (inl q) r = rw q (inr r)
+      step (inr q) r = rw q r
+
+  pub keep-in : (l : List A) (x : A) → In x (keep f l) → In x l × (f x ≡ true)
+  keep-in [] x h = absurd h
+  keep-in (y ∷ l) x h = step (keep-in l x) (which (f y))
+    where
+      first : f y ≡ true → (In x (keep f l) → In x l × (f x ≡ true)) → (x ≡ y) ⊎ In x (keep f l) → In x (y ∷ l) × (f x ≡ true)
+      first q below (inl e) = (inl e, ap f e ∙ q)
+      first q below (inr r) = (inr (below r .0), below r .1)
+
+      step : (In x (keep f l) → In x l × (f x ≡ true)) → (f y ≡ true) ⊎ (f y ≡ false) → In x (y ∷ l) × (f x ≡ true)
+      step below (inl q) = first q below (rw q at h)
+      step below (inr q) = let r = below (rw q at h) in (inr (r .0), r .1)
+
+  pub keep-none : (l : List A) → ((x : A) → In x l → f x ≡ false) → keep f l ≡ []
+  keep-none [] h = refl
+  keep-none (y ∷ l) h = rw (h y (inl refl)) (keep-none l (λ x k. h x (inr k)))
+
+  pub keep-every : (l : List A) → ((x : A) → In x l → f x ≡ true) → keep f l ≡ l
+  keep-every [] h = refl
+  keep-every (y ∷ l) h = rw (h y (inl refl)) (ap (λ (r : List A). y ∷ r) (keep-every l (λ x k. h x (inr k))))
+
+  pub keep-append : (s t : List A) → keep f (s ++ t) ≡ keep f s ++ keep f t
+  keep-append [] t = refl
+  keep-append (y ∷ s) t = step (which (f y)) (keep-append s t)
+    where
+      step : (f y ≡ true) ⊎ (f y ≡ false) → keep f (s ++ t) ≡ keep f s ++ keep f t → keep f ((y ∷ s) ++ t) ≡ keep f (y ∷ s) ++ keep f t
+      step (inl q) r = rw (q, r)
+      step (inr q) r = rw (q, r)
+
+pub keep-each : {A B : Type 0} (f : B → Bool) (g : A → B) (l : List A) → keep f (each g l) ≡ each g (keep (λ x. f (g x)) l)
+keep-each f g [] = refl
+keep-each f g (x ∷ l) = step (which (f (g x))) (keep-each f g l)
+  where
+    step : (f (g x) ≡ true) ⊎ (f (g x) ≡ false) → keep f (each g l) ≡ each g (keep (λ x. f (g x)) l) → keep f (each g (x ∷ l)) ≡ each g (keep (λ x. f (g x)) (x ∷ l))
+    step (inl q) r = rw (q, r)
+    step (inr q) r = rw (q, r)
+
+pub length-each : {A B : Type 0} (g : A → B) (l : List A) → length (each g l) ≡ length l
+length-each g [] = refl
+length-each g (x ∷ l) = ap suc (length-each g l)
+
+pub in-each : {A B : Type 0} (g : A → B) (l : List A) (y : B) → In y (each g l) → (x : A) × In x l × (y ≡ g x)
+in-each g [] y h = absurd h
+in-each g (x ∷ l) y (inl e) = (x, inl refl, e)
+in-each g (x ∷ l) y (inr h) = let t = in-each g l y h in (t .0, inr (t .1), t .2)
+
+pub each-in : {A B : Type 0} (g : A → B) (l : List A) (x : A) → In x l → In (g x) (each g l)
+each-in g [] x h = h
+each-in g (y ∷ l) x (inl e) = inl (ap g e)
+each-in g (y ∷ l) x (inr h) = inr (each-in g l x h)
+
+pub position-seam : (x : ℕ) (l z : List ℕ) → (In x l → ⊥) → positionIn x (l ++ (x ∷ z)) ≡ length l
+position-seam x [] z h = rw (eq-eqb x x refl)
+position-seam x (y ∷ l) z h = rw (ne-eqb x y (λ e. h (inl e)), position-seam x l z (λ k. h (inr k)))
+
+pub in-eachList : {A B : Type 0} (f : A → List B) (l : List A) (y : B) → In y (eachList f l) → (x : A) × In x l × In y (f x)
+in-eachList f [] y h = absurd h
+in-eachList {A} {B} f (x ∷ l) y h = step (in-eachList f l y) (in-_||_ y (f x) (eachList f l) h)
+  where
+    step : (In y (eachList f l) → (z : A) × In z l × In y (f z)) → In y (f x) ⊎ In y (eachList f l) → (z : A) × In z (x ∷ l) × In y (f z)
+    step below (inl k) = (x, inl refl, k)
+    step below (inr k) = let r = below k in (r .0, inr (r .1), r .2)
+
+pub keep-comm : {A : Type 0} (f g : A → Bool) (l : List A) → keep f (keep g l) ≡ keep g (keep f l)
+keep-comm f g [] = refl
+keep-comm f g (x ∷ l) = step (which (f x)) (which (g x)) (keep-comm f g l)
+  where
+    step : (f x ≡ true) ⊎ (f x ≡ false) → (g x ≡ true) ⊎ (g x ≡ false) → keep f (keep g l) ≡ keep g (keep f l) → keep f (keep g (x ∷ l)) ≡ keep g (keep f (x ∷ l))
+    step (inl a) (inl b) r = simp (a, b, r)
+    step (inl a) (inr b) r = simp (a, b, r)
+    step (inr a) (inl b) r = simp (a, b, r)
+    step (inr a) (inr b) r = simp (a, b, r)
+
+pub eachList-keep : {A B : Type 0} (f : A → List B) (g : A → Bool) (l : List A) → ((x : A) → g x ≡ false → f x ≡ []) → eachList f l ≡ eachList f (keep g l)
+eachList-keep f g [] h = refl
+eachList-keep f g (x ∷ l) h = step (which (g x)) (eachList-keep f g l h)
+  where
+    step : (g x ≡ true) ⊎ (g x ≡ false) → eachList f l ≡ eachList f (keep g l) → eachList f (x ∷ l) ≡ eachList f (keep g (x ∷ l))
+    step (inl q) r = simp (q, r)
+    step (inr q) r = simp (q, h x q, r)
+
+pub eachList-same : {A B : Type 0} (f g : A → List B) (l : List A) → ((x : A) → f x ≡ g x) → eachList f l ≡ eachList g l
+eachList-same f g [] h = refl
+eachList-same f g (x ∷ l) h = rw (h x, eachList-same f g l h)
+
+pub eachList-append : {A B : Type 0} (f : A → List B) (s u : List A) → eachList f (s ++ u) ≡ eachList f s ++ eachList f u
+eachList-append f [] u = refl
+eachList-append f (x ∷ s) u = rw (eachList-append f s u) (sym (append-assoc (f x) (eachList f s) (eachList f u)))
+
+pub empty-of : {A : Type 0} (l : List A) → not (isEmpty l) ≡ false → l ≡ []
+empty-of [] h = refl
+empty-of (x ∷ l) h = absurd (true≢false h)

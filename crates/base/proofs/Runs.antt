@@ -1,0 +1,89 @@
+-- Runs of numbers: their places and members, how they split, and the run that a convex test keeps of one.
+-- Assumes nothing.
+use mathlib.Core.Path.{_≡_, refl, sym, ap, _∙_}
+use mathlib.Core.Logic.{_⊎_, inl, inr}
+use mathlib.Core.Bool.{Bool, true, false}
+use mathlib.Core.List.{List, [], _∷_, _++_}
+use Prim.Native.Nat.{ℕ, zero, suc, _+_, _-_, _≤_, _<_}
+use native.Mathlib.Omega.{arith}
+use native.Mathlib.Nat.{add-suc, add-zero, zero-add, suc-add}
+use lib.Dec.{eqb}
+use lib.ListN.{length, getD}
+use borrow.Author.Tests.{eqb-true, eqb-false}
+use Rattle.base.specs.Lists.{fromOn, upTo, keep, each, firstOf}
+use Rattle.base.proofs.Tests.{which, never}
+use Rattle.base.proofs.Members.{In, keep-none}
+
+pub length-from : (a n : ℕ) → length (fromOn a n) ≡ n
+length-from a zero = refl
+length-from a (suc n) = ap suc (length-from (suc a) n)
+
+pub getD-from : (a n i d : ℕ) → i < n → getD (fromOn a n) i d ≡ a + i
+getD-from a zero i d h = absurd (omega arith)
+getD-from a (suc n) zero d h = omega arith
+getD-from a (suc n) (suc i) d h = let t = getD-from (suc a) n i d (omega arith) in omega arith
+
+pub in-from : (a n x : ℕ) → In x (fromOn a n) → (a ≤ x) × (x < a + n)
+in-from a zero x h = absurd h
+in-from a (suc n) x (inl e) = (omega arith, omega arith)
+in-from a (suc n) x (inr h) = let t = in-from (suc a) n x h in (omega arith, omega arith)
+
+pub from-in : (a n x : ℕ) → a ≤ x → x < a + n → In x (fromOn a n)
+from-in a zero x h k = absurd (omega arith)
+from-in a (suc n) x h k = step (from-in (suc a) n x) (which (eqb x a))
+  where
+    step : (suc a ≤ x → x < suc a + n → In x (fromOn (suc a) n)) → (eqb x a ≡ true) ⊎ (eqb x a ≡ false) → In x (fromOn a (suc n))
+    step below (inl q) = inl (eqb-true x a q)
+    step below (inr q) = let n = eqb-false x a q in inr (below (omega arith) (omega arith))
+
+pub each-shift : {B : Type 0} (g : ℕ → B) (a n : ℕ) → each g (fromOn (suc a) n) ≡ each (λ i. g (suc i)) (fromOn a n)
+each-shift g a zero = refl
+each-shift {B} g a (suc n) = ap (λ (l : List B). g (suc a) ∷ l) (each-shift g (suc a) n)
+
+-- the list by its places
+pub each-getD : {A : Type 0} (d : A) (l : List A) → l ≡ each (λ i. getD l i d) (upTo (length l))
+each-getD d [] = refl
+each-getD {A} d (x ∷ l) = ap (λ (r : List A). x ∷ r) (each-getD d l ∙ sym (each-shift (λ i. getD (x ∷ l) i d) 0 (length l)))
+
+pub from-split : (a n m : ℕ) → fromOn a (n + m) ≡ fromOn a n ++ fromOn (a + n) m
+from-split a zero m = rw (zero-add, add-zero)
+from-split a (suc n) m = rw (suc-add, add-suc) (ap (λ (l : List ℕ). a ∷ l) (rw suc-add at (from-split (suc a) n m)))
+
+pub upTo-split : (i n : ℕ) → i < n → upTo n ≡ upTo i ++ (i ∷ fromOn (suc i) (n - suc i))
+upTo-split i n h =
+    let e : n ≡ i + suc (n - suc i) = omega arith in
+    let z : 0 + i ≡ i = omega arith in
+    ap upTo e ∙ from-split 0 i (suc (n - suc i)) ∙ ap (λ (k : ℕ). upTo i ++ fromOn k (suc (n - suc i))) z
+
+pub upTo-suc : (i : ℕ) → upTo (suc i) ≡ upTo i ++ (i ∷ [])
+upTo-suc i = let z : suc i - suc i ≡ 0 = omega arith in upTo-split i (suc i) (omega arith) ∙ ap (λ (k : ℕ). upTo i ++ (i ∷ fromOn (suc i) k)) z
+
+pub getD-each-from : {B : Type 0} (g : ℕ → B) (a n k : ℕ) (d : B) → k < n → getD (each g (fromOn a n)) k d ≡ g (a + k)
+getD-each-from g a zero k d h = absurd (omega arith)
+getD-each-from g a (suc n) zero d h = ap g (omega arith)
+getD-each-from g a (suc n) (suc k) d h = let e : suc a + k ≡ a + suc k = omega arith in getD-each-from g (suc a) n k d (omega arith) ∙ ap g e
+
+module _ (f : ℕ → Bool) (e : ℕ) where
+  keep-down : (a n : ℕ) → a + n ≡ e → ((i k : ℕ) → a ≤ i → i ≤ k → k < e → f k ≡ true → f i ≡ true) → keep f (fromOn a n) ≡ fromOn a (length (keep f (fromOn a n)))
+  keep-down a zero q down = refl
+  keep-down a (suc n) q down = step (which (f a)) (keep-down (suc a) n (omega arith) (λ i k u. down i k (omega arith)))
+    where
+      off : f a ≡ false → (x : ℕ) → In x (fromOn (suc a) n) → f x ≡ false
+      off r x h = test (which (f x)) (in-from (suc a) n x h)
+        where
+          test : (f x ≡ true) ⊎ (f x ≡ false) → (suc a ≤ x) × (x < suc a + n) → f x ≡ false
+          test (inl s) t = never _ (down a x (omega arith) (omega arith) (omega arith) s) r
+          test (inr s) t = s
+
+      step : (f a ≡ true) ⊎ (f a ≡ false) → keep f (fromOn (suc a) n) ≡ fromOn (suc a) (length (keep f (fromOn (suc a) n))) → keep f (fromOn a (suc n)) ≡ fromOn a (length (keep f (fromOn a (suc n))))
+      step (inl r) t = rw r (ap (λ (l : List ℕ). a ∷ l) t)
+      step (inr r) t = rw (r, keep-none f (fromOn (suc a) n) (off r))
+
+  -- the run that a convex test keeps
+  pub keep-run : (a n : ℕ) → a + n ≡ e → ((i j k : ℕ) → i ≤ j → j ≤ k → k < e → f i ≡ true → f k ≡ true → f j ≡ true) → keep f (fromOn a n) ≡ fromOn (firstOf (keep f (fromOn a n))) (length (keep f (fromOn a n)))
+  keep-run a zero q convex = refl
+  keep-run a (suc n) q convex = step (which (f a)) (keep-run (suc a) n (omega arith) convex)
+    where
+      step : (f a ≡ true) ⊎ (f a ≡ false) → keep f (fromOn (suc a) n) ≡ fromOn (firstOf (keep f (fromOn (suc a) n))) (length (keep f (fromOn (suc a) n))) → keep f (fromOn a (suc n)) ≡ fromOn (firstOf (keep f (fromOn a (suc n)))) (length (keep f (fromOn a (suc n))))
+      step (inl r) t = rw r (ap (λ (l : List ℕ). a ∷ l) (keep-down (suc a) n (omega arith) (λ i k u v w s. convex a i k (omega arith) v w r s)))
+      step (inr r) t = rw r t

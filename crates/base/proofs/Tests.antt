@@ -1,0 +1,84 @@
+-- Bools: the two cases of one, the parts of `&&` and `||`, tests in a row; and what an `if` of the code says of a definition.
+-- Assumes nothing.
+use mathlib.Core.Path.{_≡_, refl, sym, _∙_}
+use mathlib.Core.Logic.{_⊎_, inl, inr, ⊎-elim}
+use mathlib.Core.Bool.{Bool, true, false, not, _&&_, _||_, true≢false, false≢true}
+use mathlib.Core.List.{List, [], _∷_}
+use Prim.Native.Nat.{ℕ, zero, suc, _<_, _≤_}
+use lib.Dec.{leb}
+use lib.ListN.{getD}
+use borrow.Author.Tests.{leb-true, leb-false, not-true, not-false}
+use Rattle.base.specs.Lists.{every}
+
+-- a test is one of the two, kept as an equation
+pub which : (b : Bool) → (b ≡ true) ⊎ (b ≡ false)
+which true = inl refl
+which false = inr refl
+
+pub never : {A : Type 0} (b : Bool) → b ≡ true → b ≡ false → A
+never b p q = absurd (true≢false (sym p ∙ q))
+
+pub le-or-lt : (a b : ℕ) → (a ≤ b) ⊎ (b < a)
+le-or-lt a b = ⊎-elim (λ e. inl (leb-true a b e)) (λ e. inr (leb-false a b e)) (which (leb a b))
+
+pub and-left : (a b : Bool) → (a && b) ≡ true → a ≡ true
+and-left true b e = refl
+and-left false b e = e
+
+pub and-right : (a b : Bool) → (a && b) ≡ true → b ≡ true
+and-right true b e = e
+and-right false b e = absurd (false≢true e)
+
+pub and-parts : (a b : Bool) → (a && b) ≡ true → (a ≡ true) × (b ≡ true)
+and-parts a b e = (and-left a b e, and-right a b e)
+
+pub and-true : (b : Bool) → (b && true) ≡ b
+and-true true = refl
+and-true false = refl
+
+pub and-false : (b : Bool) → (b && false) ≡ false
+and-false true = refl
+and-false false = refl
+
+pub or-cases : (a b : Bool) → (a || b) ≡ true → (a ≡ true) ⊎ (b ≡ true)
+or-cases true b e = inl refl
+or-cases false b e = inr e
+
+pub or-false : (b : Bool) → (b || false) ≡ b
+or-false true = refl
+or-false false = refl
+
+pub ap2 : {A B C : Type 0} (f : A → B → C) {x x′ : A} {y y′ : B} → x ≡ x′ → y ≡ y′ → f x y ≡ f x′ y′
+ap2 f p q = rw (p, q)
+
+-- what a test `if !f(..)` says of f's definition, where it is taken and where it is left
+pub breaks : (r d : Bool) → r ≡ d → not r ≡ true → d ≡ false
+breaks r d e t = sym e ∙ not-true r t
+
+pub holds : (r d : Bool) → r ≡ d → not r ≡ false → d ≡ true
+holds r d e t = sym e ∙ not-false r t
+
+-- of tests in a row that all hold, each holds
+pub every-at : (bs : List Bool) (k : ℕ) → every bs ≡ true → getD bs k true ≡ true
+unfolding every
+every-at [] k e = refl
+every-at (b ∷ bs) zero e = and-left b (every bs) e
+every-at (b ∷ bs) (suc k) e = every-at bs k (and-right b (every bs) e)
+
+-- each of these holds, as a product
+abbrev pub Holding : List Bool → Type 0
+Holding [] = Unit {0}
+Holding (b ∷ bs) = (b ≡ true) × Holding bs
+
+-- tests in a row hold where each does
+pub every-of : (bs : List Bool) → Holding bs → every bs ≡ true
+unfolding every
+every-of [] e = refl
+every-of (b ∷ bs) e = rw (e .0) (every-of bs (e .1))
+
+-- one test that fails is enough
+pub every-not : (bs : List Bool) (k : ℕ) → getD bs k true ≡ false → every bs ≡ false
+unfolding every
+every-not [] k e = e
+every-not (b ∷ bs) zero e = rw e
+every-not (b ∷ bs) (suc k) e = rw (every-not bs k e) (and-false b)

@@ -1,0 +1,184 @@
+-- The byte order of names: a total order, in which the names that begin alike stand together.
+-- Assumes nothing.
+use mathlib.Core.Path.{_≡_, refl, sym, ap, _∙_}
+use mathlib.Core.Logic.{_⊎_, inl, inr, ⊎-elim}
+use mathlib.Core.Bool.{Bool, true, false, _&&_, _||_, true≢false, false≢true}
+use mathlib.Core.List.{List, [], _∷_, _++_}
+use Prim.Native.Nat.{ℕ, zero, suc, _+_, _-_, _≤_, _<_}
+use native.Mathlib.Omega.{arith}
+use native.Mathlib.Nat.{add-zero}
+use lib.Dec.{eqb, ltb}
+use lib.ListN.{length, getD}
+use borrow.Author.Tests.{ltb-true, ltb-false, eqb-true, lt-ltb, le-ltb, eq-eqb}
+use Rattle.base.specs.Lists.{begins, sharedLength}
+use Rattle.base.proofs.Tests.{which, never, and-parts, or-cases}
+use Rattle.base.proofs.Begins.{begins-cases, begins-same}
+use Rattle.rules.specs.Names.{inOrder}
+
+pub order-cases : (a b : ℕ) (m n : List ℕ) → inOrder (a ∷ m) (b ∷ n) ≡ true → (a < b) ⊎ ((a ≡ b) × (inOrder m n ≡ true))
+order-cases a b m n e = first (or-cases (ltb a b) (_&&_ (eqb a b) (inOrder m n)) e)
+  where
+    first : (ltb a b ≡ true) ⊎ (_&&_ (eqb a b) (inOrder m n) ≡ true) → (a < b) ⊎ ((a ≡ b) × (inOrder m n ≡ true))
+    first (inl h) = inl (ltb-true a b h)
+    first (inr h) = let t = and-parts (eqb a b) (inOrder m n) h in inr (eqb-true a b (t .0), t .1)
+
+pub order-less : (a b : ℕ) (m n : List ℕ) → a < b → inOrder (a ∷ m) (b ∷ n) ≡ true
+order-less a b m n h = rw (lt-ltb a b h)
+
+pub order-same : (a b : ℕ) (m n : List ℕ) → a ≡ b → inOrder m n ≡ true → inOrder (a ∷ m) (b ∷ n) ≡ true
+order-same a b m n p h = rw (le-ltb a b (omega arith), eq-eqb a b p, h)
+
+pub order-refl : (m : List ℕ) → inOrder m m ≡ true
+order-refl [] = refl
+order-refl (a ∷ m) = order-same a a m m refl (order-refl m)
+
+pub order-trans : (x y z : List ℕ) → inOrder x y ≡ true → inOrder y z ≡ true → inOrder x z ≡ true
+order-trans [] y z p q = refl
+order-trans (a ∷ x) [] z p q = absurd (false≢true p)
+order-trans (a ∷ x) (b ∷ y) [] p q = absurd (false≢true q)
+order-trans (a ∷ x) (b ∷ y) (c ∷ z) p q = step (order-trans x y z) (order-cases a b x y p) (order-cases b c y z q)
+  where
+    step : (inOrder x y ≡ true → inOrder y z ≡ true → inOrder x z ≡ true) → (a < b) ⊎ ((a ≡ b) × (inOrder x y ≡ true)) → (b < c) ⊎ ((b ≡ c) × (inOrder y z ≡ true)) → inOrder (a ∷ x) (c ∷ z) ≡ true
+    step below (inl h) (inl k) = order-less a c x z (omega arith)
+    step below (inl h) (inr k) = order-less a c x z (omega arith)
+    step below (inr h) (inl k) = order-less a c x z (omega arith)
+    step below (inr h) (inr k) = order-same a c x z (h .0 ∙ k .0) (below (h .1) (k .1))
+
+pub order-antisym : (x y : List ℕ) → inOrder x y ≡ true → inOrder y x ≡ true → x ≡ y
+order-antisym [] [] p q = refl
+order-antisym [] (b ∷ y) p q = absurd (false≢true q)
+order-antisym (a ∷ x) [] p q = absurd (false≢true p)
+order-antisym (a ∷ x) (b ∷ y) p q = step (order-antisym x y) (order-cases a b x y p) (order-cases b a y x q)
+  where
+    step : (inOrder x y ≡ true → inOrder y x ≡ true → x ≡ y) → (a < b) ⊎ ((a ≡ b) × (inOrder x y ≡ true)) → (b < a) ⊎ ((b ≡ a) × (inOrder y x ≡ true)) → a ∷ x ≡ b ∷ y
+    step below (inl h) (inl k) = absurd (omega arith)
+    step below (inl h) (inr k) = absurd (omega arith)
+    step below (inr h) (inl k) = absurd (omega arith)
+    step below (inr h) (inr k) = cc (h .0, below (h .1) (k .1))
+
+-- not in order: strictly in order the other way. `inOrder y x ≡ false` is the strict order "x before y" from here on
+pub order-total : (x y : List ℕ) → inOrder y x ≡ false → inOrder x y ≡ true
+order-total [] y p = refl
+order-total (a ∷ x) [] p = absurd (true≢false p)
+order-total (a ∷ x) (b ∷ y) p = step (order-total x y) (which (ltb a b)) (which (ltb b a))
+  where
+    step : (inOrder y x ≡ false → inOrder x y ≡ true) → (ltb a b ≡ true) ⊎ (ltb a b ≡ false) → (ltb b a ≡ true) ⊎ (ltb b a ≡ false) → inOrder (a ∷ x) (b ∷ y) ≡ true
+    step below (inl h) k = order-less a b x y (ltb-true a b h)
+    step below (inr h) (inl k) = never _ (order-less b a y x (ltb-true b a k)) p
+    step below (inr h) (inr k) = same (omega (arith, ltb-false a b h, ltb-false b a k))
+      where
+        same : a ≡ b → inOrder (a ∷ x) (b ∷ y) ≡ true
+        same e = order-same a b x y e (below (rw (k, eq-eqb b a (sym e)) at p))
+
+pub begins-order : (p n : List ℕ) → begins p n ≡ true → inOrder p n ≡ true
+begins-order [] n h = refl
+begins-order (a ∷ p) [] h = h
+begins-order (a ∷ p) (b ∷ n) h = let s = begins-cases a b p n h in order-same a b p n (s .0) (begins-order p n (s .1))
+
+-- the interval law: it needs no more than p before x, p begins n, x before n
+pub begins-between : (p x n : List ℕ) → inOrder p x ≡ true → inOrder x n ≡ true → begins p n ≡ true → begins p x ≡ true
+begins-between [] x n h k l = refl
+begins-between (a ∷ p) [] n h k l = h
+begins-between (a ∷ p) (b ∷ x) [] h k l = absurd (false≢true k)
+begins-between (a ∷ p) (b ∷ x) (c ∷ n) h k l = step (begins-between p x n) (begins-cases a c p n l) (order-cases a b p x h) (order-cases b c x n k)
+  where
+    step : (inOrder p x ≡ true → inOrder x n ≡ true → begins p n ≡ true → begins p x ≡ true) → (a ≡ c) × (begins p n ≡ true) → (a < b) ⊎ ((a ≡ b) × (inOrder p x ≡ true)) → (b < c) ⊎ ((b ≡ c) × (inOrder x n ≡ true)) → begins (a ∷ p) (b ∷ x) ≡ true
+    step below s (inl u) (inl v) = absurd (omega arith)
+    step below s (inl u) (inr v) = absurd (omega arith)
+    step below s (inr u) (inl v) = absurd (omega arith)
+    step below s (inr u) (inr v) = begins-same a b p x (u .0) (below (u .1) (v .1) (s .1))
+
+pub begins-interval : (p m x n : List ℕ) → begins p m ≡ true → inOrder m x ≡ true → inOrder x n ≡ true → begins p n ≡ true → begins p x ≡ true
+begins-interval p m x n h u v k = begins-between p x n (order-trans p m x (begins-order p m h) u) v k
+
+-- a beginning of n that does not begin the name before comes strictly after that name
+pub begins-above : (m n p : List ℕ) → inOrder m n ≡ true → begins p n ≡ true → begins p m ≡ false → inOrder p m ≡ false
+begins-above m n p o h k = step (which (inOrder p m))
+  where
+    step : (inOrder p m ≡ true) ⊎ (inOrder p m ≡ false) → inOrder p m ≡ false
+    step (inl s) = never _ (begins-between p m n s o h) k
+    step (inr s) = s
+
+-- a longer one that p begins comes strictly after p
+pub begins-strict : (p q : List ℕ) → begins p q ≡ true → length p < length q → inOrder q p ≡ false
+begins-strict p [] h l = absurd (omega arith)
+begins-strict [] (b ∷ q) h l = refl
+begins-strict (a ∷ p) (b ∷ q) h l =
+    let t = begins-cases a b p q h in
+    rw (le-ltb b a (omega arith), eq-eqb b a (sym (t .0)), begins-strict p q (t .1) (omega arith))
+
+-- x not after m, m strictly before y: x strictly before y
+pub strict-after : (x m y : List ℕ) → inOrder x m ≡ true → inOrder y m ≡ false → inOrder y x ≡ false
+strict-after x m y h k = step (which (inOrder y x))
+  where
+    step : (inOrder y x ≡ true) ⊎ (inOrder y x ≡ false) → inOrder y x ≡ false
+    step (inl u) = never _ (order-trans y x m u h) k
+    step (inr u) = u
+
+pub order-append : (p u v : List ℕ) → inOrder (p ++ u) (p ++ v) ≡ inOrder u v
+order-append [] u v = refl
+order-append (a ∷ p) u v = rw (le-ltb a a (omega arith), eq-eqb a a refl) (order-append p u v)
+
+-- ---- by the length that two names share
+
+pub order-whole : (a b : List ℕ) → sharedLength a b ≡ length a → inOrder a b ≡ true
+order-whole [] b e = refl
+order-whole (x ∷ a) [] e = absurd (omega arith)
+order-whole (x ∷ a) (y ∷ b) e =
+    ⊎-elim
+    (λ (q : eqb x y ≡ true).
+    let h : sharedLength a b ≡ length a = omega (arith, rw q at e) in
+    ⊎-elim (λ (l : ltb x y ≡ true). rw l) (λ (l : ltb x y ≡ false). rw (l, q) (order-whole a b h)) (which (ltb x y)))
+    (λ q. absurd (omega (arith, rw q at e)))
+    (which (eqb x y))
+
+pub order-longer : (a b : List ℕ) → (sharedLength a b ≡ length a → ⊥) → sharedLength a b ≡ length b → inOrder a b ≡ false
+order-longer [] b n e = absurd (n refl)
+order-longer (x ∷ a) [] n e = refl
+order-longer (x ∷ a) (y ∷ b) n e =
+    ⊎-elim
+    (λ q.
+    let h : sharedLength a b ≡ length b = omega (arith, rw q at e) in
+    let m : sharedLength a b ≡ length a → ⊥ = λ z. n (rw q (ap suc z)) in
+    rw (q, order-longer a b m h, le-ltb x y (omega (arith, eqb-true x y q))))
+    (λ q. absurd (omega (arith, rw q at e)))
+    (which (eqb x y))
+
+pub order-byte : (a b : List ℕ) → (sharedLength a b ≡ length a → ⊥) → (sharedLength a b ≡ length b → ⊥)
+    → inOrder a b ≡ ltb (getD a (sharedLength a b) 0) (getD b (sharedLength a b) 0)
+order-byte [] b n m = absurd (n refl)
+order-byte (x ∷ a) [] n m = absurd (m refl)
+order-byte (x ∷ a) (y ∷ b) n m =
+    ⊎-elim
+    (λ q. rw (q, order-byte a b (λ z. n (rw q (ap suc z))) (λ z. m (rw q (ap suc z))), le-ltb x y (omega (arith, eqb-true x y q))))
+    (λ q. rw q (⊎-elim (λ l. rw l) (λ l. rw l) (which (ltb x y))))
+    (which (eqb x y))
+
+-- ---- names by number
+
+abbrev pub Rising : (ℕ → List ℕ) → ℕ → Type 0
+Rising g n = (i k : ℕ) → i ≤ k → k < n → inOrder (g i) (g k) ≡ true
+
+abbrev pub StrictlyRising : (ℕ → List ℕ) → ℕ → Type 0
+StrictlyRising g n = (i k : ℕ) → i < k → k < n → inOrder (g k) (g i) ≡ false
+
+-- neighbours in order: all in order
+pub rising : (g : ℕ → List ℕ) (n : ℕ) → ((i : ℕ) → i + 1 < n → inOrder (g i) (g (i + 1)) ≡ true) → Rising g n
+rising g n h i k le lt = rw (eq k i le) at (far (k - i) (omega arith))
+  where
+    eq : (k i : ℕ) → i ≤ k → i + (k - i) ≡ k
+    eq k i l = omega arith
+
+    far : (d : ℕ) → i + d < n → inOrder (g i) (g (i + d)) ≡ true
+    far zero u = rw add-zero (order-refl (g i))
+    far (suc d) u = order-trans (g i) (g (i + d)) (g (i + suc d)) (far d (omega arith)) (rw (more d) at (h (i + d) (omega arith)))
+      where
+        more : (d : ℕ) → i + d + 1 ≡ i + suc d
+        more d = omega arith
+
+pub strict-rising : (g : ℕ → List ℕ) (n : ℕ) → StrictlyRising g n → Rising g n
+strict-rising g n up i k le lt = step (which (ltb i k))
+  where
+    step : (ltb i k ≡ true) ⊎ (ltb i k ≡ false) → inOrder (g i) (g k) ≡ true
+    step (inl h) = order-total (g i) (g k) (up i k (ltb-true i k h) lt)
+    step (inr h) = let e : i ≡ k = omega (arith, ltb-false i k h) in rw e (order-refl (g k))
