@@ -8,12 +8,8 @@ use Prim.Native.Nat.{ℕ, zero, suc, _<_}
 use native.Mathlib.Omega.{arith}
 use lib.ListN.{length, getD}
 use borrow.Author.Tests.{eq-eqb, ne-eqb}
-use Rattle.base.specs.Lists.{keep, each, eachList, isEmpty, positionIn}
+use Rattle.base.specs.Lists.{keep, each, eachList, isEmpty, positionIn, In}
 use Rattle.base.proofs.Tests.{which}
-
-abbrev pub In : {A : Type 0} → A → List A → Type 0
-In x [] = ⊥
-In x (y ∷ l) = (x ≡ y) ⊎ In x l
 
 pub in-left : {A : Type 0} (x : A) (s t : List A) → In x s → In x (s ++ t)
 in-left x [] t h = absurd h

@@ -10,9 +10,9 @@ use native.Mathlib.Nat.{add-suc, add-zero, zero-add, suc-add}
 use lib.Dec.{eqb}
 use lib.ListN.{length, getD}
 use borrow.Author.Tests.{eqb-true, eqb-false}
-use Rattle.base.specs.Lists.{fromOn, upTo, keep, each, firstOf}
+use Rattle.base.specs.Lists.{fromOn, upTo, keep, each, firstOf, In}
 use Rattle.base.proofs.Tests.{which, never}
-use Rattle.base.proofs.Members.{In, keep-none}
+use Rattle.base.proofs.Members.{keep-none}
 
 pub length-from : (a n : ℕ) → length (fromOn a n) ≡ n
 length-from a zero = refl

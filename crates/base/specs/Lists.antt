@@ -1,5 +1,7 @@
 -- Lists, as the finder's definitions use them: runs of numbers, tests, filters, sums, sorts.
 -- `cond`, `&&`, `||`, `length`, `take`, `drop` and `getD` are the library's.
+use mathlib.Core.Path.{_≡_}
+use mathlib.Core.Logic.{_⊎_}
 use mathlib.Core.Bool.{Bool, true, false, cond, _&&_, _||_}
 use mathlib.Core.List.{List, [], _∷_, _++_}
 use Prim.Native.Nat.{ℕ, zero, suc, _+_}
@@ -14,6 +16,11 @@ fromOn a (suc n) = a ∷ fromOn (suc a) n
 -- 0, 1, .., n - 1
 abbrev pub upTo : ℕ → List ℕ
 upTo n = fromOn 0 n
+
+-- x is an element of the list
+abbrev pub In : {A : Type 0} → A → List A → Type 0
+In x [] = ⊥
+In x (y ∷ l) = (x ≡ y) ⊎ In x l
 
 -- those that pass the test, in their order
 abbrev pub keep : {A : Type 0} → (A → Bool) → List A → List A
