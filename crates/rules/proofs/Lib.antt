@@ -3,3 +3,4 @@ pub mod Scheme
 pub mod Orders
 pub mod Bytes
 pub mod Lawful
+pub mod Outcomes

@@ -77,8 +77,7 @@ checkedNumbers checked.Unlawful = record { lawful = 0; nodes = 0; entries = 0 }
 
 abbrev pub rangeNumbers : RangeAnswer → Told
 rangeNumbers (range.Found n) = telling n
-rangeNumbers (range.TooMany n) = record { refusal = 13; number = n }
-rangeNumbers (range.Refused r) = refusing (refusalNumber r)
+rangeNumbers (range.Refused r matches) = record { refusal = refusalNumber r; number = matches }
 
 abbrev pub rankedNumbers : RankedAnswer → Told
 rankedNumbers (ranked.Found n) = telling n

@@ -98,7 +98,7 @@ impl Session {
     }
 }
 
-// Why a call refuses. Refusals.antt has the number of each.
+// Why a call refuses, in the order of their numbers, from 1.
 pub enum Refusal {
     TableMisshapen,
     GridOutsideLimits,
@@ -140,11 +140,10 @@ pub enum Checked {
     Unlawful,
 }
 
-// How many stands a range question wrote to its room, or would have if that were long enough.
+// How many stands a range question wrote to its room; a refusal for want of room tells how many match.
 pub enum RangeAnswer {
     Found(u32),
-    TooMany(u32),
-    Refused(Refusal),
+    Refused { why: Refusal, matches: u32 },
 }
 
 // How many stands a ranked question wrote to its rooms.
