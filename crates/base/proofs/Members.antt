@@ -20,10 +20,10 @@ pub in-right : {A : Type 0} (x : A) (s t : List A) → In x t → In x (s ++ t)
 in-right x [] t h = h
 in-right x (y ∷ s) t h = inr (in-right x s t h)
 
-pub in-_||_ : {A : Type 0} (x : A) (s t : List A) → In x (s ++ t) → In x s ⊎ In x t
-in-_||_ x [] t h = inr h
-in-_||_ x (y ∷ s) t (inl e) = inl (inl e)
-in-_||_ x (y ∷ s) t (inr h) = step (in-_||_ x s t h)
+pub in-either : {A : Type 0} (x : A) (s t : List A) → In x (s ++ t) → In x s ⊎ In x t
+in-either x [] t h = inr h
+in-either x (y ∷ s) t (inl e) = inl (inl e)
+in-either x (y ∷ s) t (inr h) = step (in-either x s t h)
   where
     step : In x s ⊎ In x t → In x (y ∷ s) ⊎ In x t
     step (inl k) = inl (inr k)
@@ -105,7 +105,7 @@ position-seam x (y ∷ l) z h = rw (ne-eqb x y (λ e. h (inl e)), position-seam 
 
 pub in-eachList : {A B : Type 0} (f : A → List B) (l : List A) (y : B) → In y (eachList f l) → (x : A) × In x l × In y (f x)
 in-eachList f [] y h = absurd h
-in-eachList {A} {B} f (x ∷ l) y h = step (in-eachList f l y) (in-_||_ y (f x) (eachList f l) h)
+in-eachList {A} {B} f (x ∷ l) y h = step (in-eachList f l y) (in-either y (f x) (eachList f l) h)
   where
     step : (In y (eachList f l) → (z : A) × In z l × In y (f z)) → In y (f x) ⊎ In y (eachList f l) → (z : A) × In z (x ∷ l) × In y (f z)
     step below (inl k) = (x, inl refl, k)
