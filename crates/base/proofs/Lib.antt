@@ -8,3 +8,4 @@ pub mod Words
 pub mod Shuffles
 pub mod Sorts
 pub mod Machine
+pub mod Pairs
