@@ -1,2 +1,5 @@
 -- Laws of the letter tree and of the words of an index.
 pub mod Blocks
+pub mod Fresh
+pub mod Tree
+pub mod Children
