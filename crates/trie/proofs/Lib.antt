@@ -3,3 +3,5 @@ pub mod Blocks
 pub mod Fresh
 pub mod Tree
 pub mod Children
+pub mod Tables
+pub mod Regions
