@@ -9,3 +9,4 @@ pub mod Shuffles
 pub mod Sorts
 pub mod Machine
 pub mod Pairs
+pub mod Rows

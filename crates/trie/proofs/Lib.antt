@@ -5,3 +5,4 @@ pub mod Tree
 pub mod Children
 pub mod Tables
 pub mod Regions
+pub mod Words
