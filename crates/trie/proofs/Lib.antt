@@ -6,3 +6,5 @@ pub mod Children
 pub mod Tables
 pub mod Regions
 pub mod Words
+pub mod Adding
+pub mod Walking
