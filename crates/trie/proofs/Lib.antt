@@ -8,3 +8,4 @@ pub mod Regions
 pub mod Words
 pub mod Adding
 pub mod Walking
+pub mod Meaning

@@ -13,7 +13,7 @@ use Rattle.base.proofs.Tests.{which, never}
 use Rattle.base.proofs.Members.{in-left, in-right, in-either, getD-in, in-each}
 use Rattle.base.proofs.Runs.{in-from}
 use Rattle.base.proofs.Begins.{begins-trans, take-begins, same-true, same-refl}
-use Rattle.base.proofs.Pairs.{pairs-append, pairs-keep, pairs-at, pairs-once}
+use Rattle.base.proofs.Pairs.{pairs-append, pairs-keep, pairs-at, pairs-weaken, distinct-once}
 use Rattle.rules.specs.Names.{inOrder}
 use Rattle.rules.specs.Indexes.{beginningsOf, numberIn}
 use Rattle.rules.proofs.Orders.{StrictlyRising, order-refl, begins-order, begins-above, begins-strict, strict-after}
@@ -29,7 +29,9 @@ sorted-at B s = pairs-at Before [] B s
 
 -- two places with one text are one place
 pub sorted-once : (B : List (List ℕ)) → Sorted B → (i k : ℕ) → i < length B → k < length B → getD B i [] ≡ getD B k [] → i ≡ k
-sorted-once B s = pairs-once Before [] B s (λ x y e h. never _ (order-refl y) (rw e at h))
+sorted-once B s =
+    distinct-once (λ x. x) [] B
+    (pairs-weaken Before (λ x y. x ≡ y → ⊥) B (λ x y u v h e. never _ (order-refl y) (rw e at h)) s)
 
 -- ---- the new beginnings of one name
 
