@@ -2,42 +2,42 @@
 -- Assumes nothing.
 use mathlib.Core.Path.{_≡_, refl, sym, ap, _∙_, subst}
 use mathlib.Core.Logic.{_⊎_, inl, inr, ⊎-elim}
-use mathlib.Core.Bool.{Bool, true, false}
-use mathlib.Core.List.{List, [], _∷_, _++_}
+use mathlib.Core.Bool.{Bool, true}
+use mathlib.Core.List.{List, [], _++_}
 use Prim.Native.Nat.{ℕ, _+_, _-_, _≤_, _<_, min}
 use native.Mathlib.Omega.{arith}
-use lib.Dec.{eqb}
-use lib.ListN.{length, take, drop, getD, length-take, take-append-drop}
+use lib.ListN.{length, take, drop, getD, length-take, length-drop, take-append-drop}
 use borrow.Author.Tests.{eqb-true, eq-eqb}
 use Rattle.base.specs.Lists.{upTo, keep, each, largest, sortBy, begins, In, Pairwise}
-use Rattle.base.proofs.Members.{in-either, getD-in, in-at, in-keep, keep-in, length-each, in-each, each-in, in-some, some-in, in-take, in-largest, largest-in}
+use Rattle.base.proofs.Members.{in-either, getD-in, in-at, in-keep, keep-in, length-each, in-each, each-in, in-some, some-in, some-length, in-take, in-largest, largest-in}
 use Rattle.base.proofs.Runs.{in-from, from-in, length-from}
 use Rattle.base.proofs.Begins.{take-begins}
-use Rattle.base.proofs.Shuffles.{Shuffle, shuffle-sym, shuffle-length, shuffle-in, sort-shuffle, parts-shuffle}
+use Rattle.base.proofs.Shuffles.{shuffle-sym, shuffle-length, shuffle-in, sort-shuffle}
 use Rattle.base.proofs.Sorts.{length-sort, Wins}
-use Rattle.base.proofs.Pairs.{pairs-seam, pairs-keep, pairs-take, pairs-at, pairs-each, pairs-weaken, Distinct, distinct-once, distinct-sort, Less, less-from, PartFirst, parts-pairs, sort-wins}
+use Rattle.base.proofs.Pairs.{pairs-seam, pairs-keep, pairs-take, pairs-at, pairs-each, pairs-weaken, Distinct, distinct-once, distinct-sort, Less, less-from, parts-pairs, sort-wins}
 use Rattle.rules.specs.declared.Grid.{Grid}
 use Rattle.rules.specs.declared.Rect.{Rect}
 use Rattle.rules.specs.declared.Ranking.{Ranking}
 use Rattle.rules.specs.declared.Hit.{Hit}
 use Rattle.rules.specs.Places.{regions, inRect}
-use Rattle.rules.specs.Tables.{Table, stands, nameOf, placeOf, scoreOf, Ordered, LawfulTable}
-use Rattle.rules.specs.Questions.{under, regionOfStand, inRegion, byRegion, rangeList, better, hitOf, rankedList}
-use Rattle.rules.specs.Indexes.{orderWords, beginnings, nodeCount, numberIn, butLast, occupied, regionsUnder, Entry, entryOf, ahead, entriesOf}
-use Rattle.rules.proofs.Places.{region-less}
+use Rattle.rules.specs.Tables.{Table, stands, nameOf, placeOf, scoreOf, Ordered, LawfulTable, tableRefusal}
+use Rattle.rules.specs.Questions.{under, regionOfStand, inRegion, byRegion, better, hitOf}
+use Rattle.rules.specs.Indexes.{orderWords, beginnings, nodeCount, butLast, occupied, regionsUnder, Entry, entryOf, ahead, entriesOf}
+use Rattle.rules.proofs.Lawful.{lawful}
 use Rattle.trie.specs.Trees.{Tree, textOf}
-use Rattle.trie.specs.Meaning.{StandUnder, BeginningsMean, RegionFirst, ListedByRegion, OrderMeans, RangeMeans, noEntry, entryAt, EntriesMean, Better, noHit, RankedMeans}
+use Rattle.trie.specs.Meaning.{StandUnder, BeginningsMean, RegionFirst, ListedByRegion, OrderMeans, RangeMeans, noEntry, entryAt, EntriesMean, Better, noHit, RankedMeans, TableMeans}
 use Rattle.trie.proofs.Tree.{sorted-once, number-at}
-use Rattle.trie.proofs.Children.{subtree-in, subtree-only, child-bytes, parent-child}
+use Rattle.trie.proofs.Children.{subtree-in, subtree-only, way-child, child-way, child-bytes, child-parent, parent-child}
 use Rattle.trie.proofs.Tables.{beginnings-tree, beginnings-of, beginnings-from, under-in, in-under}
-use Rattle.trie.proofs.Regions.{entry-slice}
+use Rattle.trie.proofs.Regions.{entry-slice, region-small, by-region-shuffle}
+use Rattle.trie.proofs.Sizes.{sizes-bounded}
 
 -- ---- the letter tree
 
 module _ (t : Table) where
-  root : textOf t 0 ≡ []
+  root : (0 < nodeCount t) × (textOf t 0 ≡ [])
   unfolding beginnings
-  root = refl
+  root = (omega arith, refl)
 
   pub beginnings-mean : Ordered t → BeginningsMean t
   beginnings-mean o =
@@ -50,6 +50,8 @@ module _ (t : Table) where
         parent = λ j h k. (tree .closed (butLast (getD B j [])) (getD B j []) (getD-in [] B j k) (take-begins (length (getD B j []) - 1) (getD B j [])), parent-child B tree j h k .1);
         subtree = λ j i h k. subtree-in B (tree .sorted) j h i k;
         unbroken = λ j i h. subtree-only B (tree .sorted) j h i;
+        way = λ j c h. (way-child B tree j h c, child-way B tree j h c);
+        parents = λ j c h. child-parent B tree j h c;
         children = λ j c k h. child-bytes B tree j h c k;
       }
     where
@@ -73,20 +75,13 @@ module _ (t : Table) (p : List ℕ) where
   under-stand i u = under-in t p i (u .stand) (u .named)
 
 module _ (t : Table) (g : Grid) (l : LawfulTable t g) where
-  region-small : (i : ℕ) → i < stands t → regionOfStand g t i < regions
-  unfolding regionOfStand
-  region-small i h = region-less g (placeOf t i) (l .gridded) (l .placed i h)
-
-  mixed : (s : List ℕ) → ((i : ℕ) → In i s → i < stands t) → Shuffle (byRegion g t s) s
-  mixed s small = parts-shuffle (regionOfStand g t) regions s (λ i h. region-small i (small i h))
-
   -- rising stands put by region
   listed : (s : List ℕ) (wanted : ℕ → Type 0) → Pairwise Less s → ((i : ℕ) → In i s → i < stands t)
       → ((i : ℕ) → wanted i → In i s) → ((i : ℕ) → In i s → wanted i) → ListedByRegion g t wanted (byRegion g t s)
   listed s wanted up small to from =
       record {
-        every = λ i w. shuffle-in (shuffle-sym (mixed s small)) i (to i w);
-        only = λ i h. from i (shuffle-in (mixed s small) i h);
+        every = λ i w. shuffle-in (shuffle-sym (by-region-shuffle t g l s small)) i (to i w);
+        only = λ i h. from i (shuffle-in (by-region-shuffle t g l s small) i h);
         once = distinct-once (λ x. x) 0 (byRegion g t s) (pairs-weaken (RegionFirst g t) (λ x y. x ≡ y → ⊥) (byRegion g t s) (λ x y u v. apart x y) turned);
         inTurn = pairs-at (RegionFirst g t) 0 (byRegion g t s) turned;
       }
@@ -102,7 +97,7 @@ module _ (t : Table) (g : Grid) (l : LawfulTable t g) where
   order-means =
       record {
         listed = listed (upTo (stands t)) (λ i. i < stands t) (less-from 0 (stands t)) below (λ i h. from-in 0 (stands t) i (omega arith) (omega arith)) below;
-        whole = shuffle-length (mixed (upTo (stands t)) below) ∙ length-from 0 (stands t);
+        whole = shuffle-length (by-region-shuffle t g l (upTo (stands t)) below) ∙ length-from 0 (stands t);
       }
     where
       below : (i : ℕ) → In i (upTo (stands t)) → i < stands t
@@ -175,6 +170,14 @@ module _ (t : Table) (g : Grid) (l : LawfulTable t g) (p : List ℕ) where
   outscored : (r i : ℕ) → StandUnder t p i → regionOfStand g t i ≡ r → scoreOf t i ≤ entryOf t g p r .score
   outscored r i u e = in-largest (each (scoreOf t) (S r)) (scoreOf t i) (each-in (scoreOf t) (S r) i (region-in r i u e))
 
+  bounded : (r : ℕ) → r < regions → occupied t g p r ≡ true → (entryOf t g p r .first < entryOf t g p r .past) × (entryOf t g p r .past ≤ stands t)
+  bounded r h q =
+      let at = entryOf t g p r .first in
+      let O = orderWords t g in
+      let size : length (S r) ≡ min (at + length (S r) - at) (length O - at) =
+      sym (ap length (entry-slice t g (l .ordered) p r h q)) ∙ length-take (at + length (S r) - at) (drop at O) ∙ ap (min (at + length (S r) - at)) (length-drop at O) in
+      (omega (arith, some-length (S r) q), omega (arith, some-length (S r) q, order-means t g l .whole))
+
   pub entries-mean : EntriesMean t g p
   entries-mean =
       record {
@@ -186,6 +189,9 @@ module _ (t : Table) (g : Grid) (l : LawfulTable t g) (p : List ℕ) where
         largest = λ a h.
             let s = entry-of a h in
             subst (λ (e : Entry). (i : ℕ) → StandUnder t p i → regionOfStand g t i ≡ e .region → scoreOf t i ≤ e .score) (sym (s .3)) (outscored (s .0));
+        bounds = λ a h.
+            let s = entry-of a h in
+            subst (λ (e : Entry). (e .first < e .past) × (e .past ≤ stands t)) (sym (s .3)) (bounded (s .0) (s .1) (s .2));
         places = λ a h.
             let s = entry-of a h in
             subst (λ (e : Entry). take (e .past - e .first) (drop (e .first) (orderWords t g)) ≡ keep (inRegion g t (e .region)) (under t p)) (sym (s .3))
@@ -238,3 +244,17 @@ module _ (t : Table) (g : Grid) (p : List ℕ) (q : Ranking) where
         inTurn = pairs-at Better noHit (take (q .k) sorted) (pairs-take Better (q .k) sorted hits-turn);
         best = left-out;
       }
+
+-- ---- all of it
+
+pub table-means : (t : Table) (g : Grid) → tableRefusal t g ≡ 0 → TableMeans t g
+table-means t g e =
+    let l = lawful t g e in
+    record {
+      tree = beginnings-mean t (l .ordered);
+      order = order-means t g l;
+      entries = entries-mean t g l;
+      range = range-means t g l;
+      ranked = ranked-means t g;
+      sizes = sizes-bounded t g l;
+    }

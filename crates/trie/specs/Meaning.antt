@@ -1,5 +1,5 @@
 -- What the definitions of the rules come to, in plain statements, so that nobody has to trust the shape of a definition.
--- Each record is a theorem of proofs/Meaning, for every table that no refusal from 1 to 5 meets.
+-- TableMeans, at the end, puts them together: it holds of every table and grid that no refusal from 1 to 5 meets.
 use mathlib.Core.Path.{_≡_}
 use mathlib.Core.Logic.{_⊎_}
 use mathlib.Core.Bool.{true}
@@ -15,7 +15,7 @@ use Rattle.rules.specs.Places.{inRect}
 use Rattle.rules.specs.Tables.{Table, stands, nameOf, placeOf, scoreOf}
 use Rattle.rules.specs.Questions.{under, regionOfStand, inRegion, rangeList, hitOf, rankedList}
 use Rattle.rules.specs.Indexes.{orderWords, beginnings, nodeCount, numberIn, lastByte, butLast, pastOf, Entry, entriesOf, entryCount}
-use Rattle.trie.specs.Trees.{Child, textOf}
+use Rattle.trie.specs.Trees.{Child, OnWay, textOf}
 
 -- a stand of the table whose name begins with the text p
 pub record StandUnder (t : Table) (p : List ℕ) (i : ℕ) : Type 0 where
@@ -25,8 +25,8 @@ pub record StandUnder (t : Table) (p : List ℕ) (i : ℕ) : Type 0 where
 -- ---- the beginnings are the nodes of the letter tree, in pre-order, children by rising byte
 
 pub record BeginningsMean (t : Table) : Type 0 where
-  -- node 0 is the empty text
-  pub root : textOf t 0 ≡ []
+  -- node 0 is there, and is the empty text
+  pub root : (0 < nodeCount t) × (textOf t 0 ≡ [])
   -- each beginning of each name is a node
   pub every : (i : ℕ) (p : List ℕ) → StandUnder t p i → In p (beginnings t)
   -- and nothing else is, but the empty text
@@ -35,12 +35,16 @@ pub record BeginningsMean (t : Table) : Type 0 where
   pub once : (j k : ℕ) → j < nodeCount t → k < nodeCount t → textOf t j ≡ textOf t k → j ≡ k
   -- a node's number is its place
   pub numbered : (j : ℕ) → j < nodeCount t → numberIn (textOf t j) (beginnings t) ≡ j
-  -- the text without its last byte is a node, with a smaller number
+  -- a node's text without its last byte is a node, with a smaller number
   pub parent : (j : ℕ) → 0 < j → j < nodeCount t → In (butLast (textOf t j)) (beginnings t) × (numberIn (butLast (textOf t j)) (beginnings t) < j)
   -- a subtree is in one piece, from its node on to the number past it: each node below j stands there
   pub subtree : (j i : ℕ) → j < nodeCount t → i < nodeCount t → begins (textOf t j) (textOf t i) ≡ true → (j ≤ i) × (i < pastOf (beginnings t) j)
   -- and no other does
   pub unbroken : (j i : ℕ) → j < nodeCount t → j ≤ i → i < pastOf (beginnings t) j → (i < nodeCount t) × (begins (textOf t j) (textOf t i) ≡ true)
+  -- the numbers j + 1, past of that, past of that one, .., short of j's own past, are the children of node j
+  pub way : (j c : ℕ) → j < nodeCount t → (OnWay (beginnings t) j c → Child (beginnings t) j c) × (Child (beginnings t) j c → OnWay (beginnings t) j c)
+  -- whose parent is j
+  pub parents : (j c : ℕ) → j < nodeCount t → Child (beginnings t) j c → numberIn (butLast (textOf t c)) (beginnings t) ≡ j
   -- of two children of a node the one with the smaller number has the smaller last byte
   pub children : (j c k : ℕ) → j < nodeCount t → Child (beginnings t) j c → Child (beginnings t) j k → c < k → lastByte (textOf t c) < lastByte (textOf t k)
 
@@ -87,7 +91,8 @@ pub record EntriesMean (t : Table) (g : Grid) (p : List ℕ) : Type 0 where
   -- and none of them has a larger one
   pub largest : (a : ℕ) → a < length (entriesOf t g p)
       → (i : ℕ) → StandUnder t p i → regionOfStand g t i ≡ entryAt t g p a .region → scoreOf t i ≤ entryAt t g p a .score
-  -- the places of the stand order from the first on, short of the past, hold exactly those stands, by number
+  -- first and past are places of the stand order, and the places from the first on, short of the past, hold exactly those stands, by number
+  pub bounds : (a : ℕ) → a < length (entriesOf t g p) → (entryAt t g p a .first < entryAt t g p a .past) × (entryAt t g p a .past ≤ stands t)
   pub places : (a : ℕ) → a < length (entriesOf t g p)
       → take (entryAt t g p a .past - entryAt t g p a .first) (drop (entryAt t g p a .first) (orderWords t g)) ≡ keep (inRegion g t (entryAt t g p a .region)) (under t p)
   -- a larger score first; of equal scores the smaller region
@@ -127,3 +132,13 @@ pub record SizesBounded (t : Table) (g : Grid) : Type 0 where
   pub entries : entryCount t g ≤ 25 * stands t
   pub nodes-most : nodeCount t ≤ 24577
   pub entries-most : entryCount t g ≤ 25600
+
+-- ---- all of it
+
+pub record TableMeans (t : Table) (g : Grid) : Type 0 where
+  pub tree : BeginningsMean t
+  pub order : OrderMeans t g
+  pub entries : (p : List ℕ) → EntriesMean t g p
+  pub range : (p : List ℕ) (r : Rect) → RangeMeans t g p r
+  pub ranked : (p : List ℕ) (q : Ranking) → RankedMeans t g p q
+  pub sizes : SizesBounded t g
