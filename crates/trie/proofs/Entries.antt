@@ -32,7 +32,7 @@ module _ (t : Table) (g : Grid) (l : LawfulTable t g) (p : List ℕ) where
   -- ---- which entries there are
 
   -- an entry is that of a region that holds a stand
-  pub record OfRegion (e : Entry) : Type 0 where
+  record OfRegion (e : Entry) : Type 0 where
     pub number : ℕ
     pub small : number < regions
     pub held : occupied t g p number ≡ true
