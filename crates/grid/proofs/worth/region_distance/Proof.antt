@@ -1,0 +1,54 @@
+-- `grid::worth::region_distance` meets its contract. The nearest metre is one of the grid, so less than 65,536 metres away.
+-- Assumes nothing.
+use mathlib.Core.Path.{_∙_, _≡_}
+use Prim.Native.Nat.{_%_, _/_}
+use native.Mathlib.Omega.{arith}
+use borrow.Author.Needs.{needs}
+use mir.Val.{SFits}
+use mir.Syntax.{w32}
+use mir.Facts.{toZ-ofZ}
+use Rattle.rules.specs.Worth.{acrossTo, alongTo, regionDistance²}
+use Rattle.grid.proofs.Distances.{gap-less}
+use Rattle.grid.proofs.Inside.{cell-some, cell-small, east-inside, north-inside}
+use Rattle.grid.proofs.worth.region_distance.Statement.{statement}
+use Rattle.grid.proofs.worth.region_distance.Tie as tie
+
+-- the two legs, of the coordinates and not of their bits
+across-is : (c : tie.After-gap) → c .gap .result ≡ acrossTo (c .before .before .before .args .grid) (c .before .before .before .args .region) (c .before .before .before .args .place)
+across-is c =
+    let s = c .before .before .before in
+    let f : SFits w32 (s .args .grid .west) = search needs in
+    let g : SFits w32 (s .args .place .east) = search needs in
+    c .gap .ensures ∙ rw (toZ-ofZ f, toZ-ofZ g)
+
+along-is : (c : tie.After-gap2) → c .gap2 .result ≡ alongTo (c .before .before .before .before .before .before .args .grid) (c .before .before .before .before .before .before .args .region) (c .before .before .before .before .before .before .args .place)
+along-is c =
+    let s = c .before .before .before .before .before .before in
+    let f : SFits w32 (s .args .grid .south) = search needs in
+    let g : SFits w32 (s .args .place .north) = search needs in
+    c .gap2 .ensures ∙ rw (toZ-ofZ f, toZ-ofZ g)
+
+gap-requires : tie.Need-gap-requires
+gap-requires c κs =
+    let s = c .before .before in
+    (cell-some _ (s .pre .0), cell-small _ (s .pre .0), omega arith)
+
+gap-requires-2 : tie.Need-gap-requires-2
+gap-requires-2 c κs =
+    let s = c .before .before .before .before .before in
+    (cell-some _ (s .pre .0), cell-small _ (s .pre .0), omega (arith, s .pre .2))
+
+squares-requires : tie.Need-squares-requires
+squares-requires c κs =
+    let s = c .before .before .before .before .before .before in
+    let small = cell-small _ (s .pre .0) in
+    let some = cell-some _ (s .pre .0) in
+    rw (across-is (c .before .before .before), along-is c)
+    (omega (arith, gap-less _ _ (s .args .region % 8) _ some (omega arith) (east-inside _ _ (s .pre .1))), omega (arith, gap-less _ _ (s .args .region / 8) _ some (omega (arith, s .pre .2)) (north-inside _ _ (s .pre .1))))
+
+returns : tie.Need-returns
+unfolding regionDistance²
+returns c = rw (c .squares .ensures, across-is (c .before .before .before .before), along-is (c .before))
+
+pub region-distance-spec : {M : Type 1} → statement M
+region-distance-spec = tie.close (tie.spec gap-requires gap-requires-2 squares-requires returns)
