@@ -6,7 +6,7 @@ use mathlib.Core.Bool.{Bool, true, _&&_}
 use Prim.Native.Nat.{ℕ, _/_, _%_, _<_, _≤_}
 use native.Mathlib.Nat.{le-div-iff-mul-le, div-mul-le-self, le-trans}
 use native.Mathlib.Omega.{arith}
-use lib.IntN.{ℤ, pos, negsuc}
+use lib.IntN.{ℤ, pos}
 use lib.Signed.{leZ}
 use borrow.Author.Tests.{le-leb, leb-true}
 use mir.Syntax.{w32}
@@ -16,17 +16,17 @@ use Rattle.rules.specs.declared.Grid.{Grid}
 use Rattle.rules.specs.declared.Place.{Place}
 use Rattle.rules.specs.declared.Rect.{Rect}
 use Rattle.rules.specs.Places.{lifted, edgeStrip, gridLawful, within, inGrid, strip, regionOf, inRect}
-use Rattle.grid.specs.Cells.{edgesSpan, inSpan, touched, columnsOf, rowsOf, cellsOf, hasCell}
+use Rattle.grid.specs.Cells.{edgesSpan, touched, cellsOf, hasCell}
 use Rattle.grid.proofs.Signed.{ahead, behind}
-use Rattle.grid.proofs.Inside.{cell-some, west-fits, south-fits, from-edge, strip-less, east-inside, north-inside, region-less}
+use Rattle.grid.proofs.Inside.{cell-some, west-fits, south-fits, from-edge, east-inside, north-inside, column-back, row-back, region-less}
 use Rattle.grid.proofs.Spans.{span-exact}
 use Rattle.grid.proofs.Sets.{has-by}
-use Rattle.grid.proofs.Distances.{column-back, row-back}
 
--- with no clipping: a region's bit is set exactly if its column and its row lie between the floored edges
+-- column or row k lies between two floored edges
 abbrev pub between : ℤ → ℕ → ℤ → ℤ → ℕ → Bool
 between origin c low high k = leZ (edgeStrip origin c low) (pos k) && leZ (pos k) (edgeStrip origin c high)
 
+-- for the reader, with no clipping: a region's bit is set exactly if its column and its row lie between the floored edges
 pub cells-exact : (g : Grid) (rect : Rect) (r : ℕ) → r < 64 → hasCell (cellsOf g rect) r ≡ (between (g .west) (g .cell) (rect .west) (rect .east) (r % 8) && between (g .south) (g .cell) (rect .south) (rect .north) (r / 8))
 unfolding cellsOf touched edgesSpan
 cells-exact g rect r h =
@@ -56,14 +56,14 @@ module _ (o : ℤ) (c : ℕ) (low high x : ℤ) (fo : SFits w32 o) (fl : SFits w
   strip-between : lifted low ≤ lifted x → lifted x ≤ lifted high → between o c low high (strip o c x) ≡ true
   strip-between h k = rw (from-low h, to-high k)
 
--- the edges are numbers of 32 bits
+-- the edges are numbers of 32 bits, as any that a call is given
 pub record Edges (r : Rect) : Type 0 where
   pub west : SFits w32 (r .west)
   pub east : SFits w32 (r .east)
   pub south : SFits w32 (r .south)
   pub north : SFits w32 (r .north)
 
--- a place of the grid that lies in a rectangle is in one of the rectangle's regions
+-- for the reader: a place of the grid that lies in a rectangle is in one of the rectangle's regions
 pub covered : (g : Grid) (r : Rect) (p : Place) → gridLawful g ≡ true → Edges r → inGrid g p ≡ true → inRect r p ≡ true → hasCell (cellsOf g r) (regionOf g p) ≡ true
 unfolding inRect
 covered g r p lawful e inside in-rect =

@@ -2,9 +2,10 @@
 -- Assumes nothing.
 use mathlib.Core.Path.{_≡_}
 use mathlib.Core.Bool.{true}
-use Prim.Native.Nat.{ℕ, _+_, _*_, _<_, _≤_}
+use Prim.Native.Nat.{ℕ, _+_, _*_, _/_, _%_, _<_, _≤_}
 use native.Mathlib.Nat.{div-lt-iff-lt-mul}
 use native.Mathlib.Omega.{arith}
+use lib.Arith.{digits-div, digits-mod}
 use lib.IntN.{ℤ, pos, negsuc}
 use lib.Dec.{leb}
 use borrow.Author.Tests.{leb-true, ltb-true}
@@ -14,7 +15,6 @@ use Rattle.base.proofs.Tests.{and-left, and-right, every-at}
 use Rattle.rules.specs.declared.Grid.{Grid}
 use Rattle.rules.specs.declared.Place.{Place}
 use Rattle.rules.specs.Places.{lifted, edgeLawful, gridLawful, within, inGrid, strip, regionOf}
-use Rattle.rules.specs.Worth.{apart}
 
 -- a lawful edge is a number of 32 bits
 edge-fits : (e : ℤ) → edgeLawful e ≡ true → SFits w32 e
@@ -23,14 +23,6 @@ edge-fits (pos n) h = record { sfits = omega (arith, leb-true n 1000000 h) }
 edge-fits (negsuc n) h = record { sfits = omega (arith, leb-true n 999999 (and-left _ true h)) }
 
 module _ (g : Grid) (lawful : gridLawful g ≡ true) where
-  pub cell-some : 0 < g .cell
-  unfolding gridLawful
-  cell-some = leb-true 1 (g .cell) (every-at _ 2 lawful)
-
-  pub cell-small : g .cell ≤ 8192
-  unfolding gridLawful
-  cell-small = leb-true (g .cell) 8192 (every-at _ 3 lawful)
-
   pub west-fits : SFits w32 (g .west)
   unfolding gridLawful
   west-fits = edge-fits (g .west) (every-at _ 0 lawful)
@@ -39,6 +31,15 @@ module _ (g : Grid) (lawful : gridLawful g ≡ true) where
   unfolding gridLawful
   south-fits = edge-fits (g .south) (every-at _ 1 lawful)
 
+  pub cell-some : 0 < g .cell
+  unfolding gridLawful
+  cell-some = leb-true 1 (g .cell) (every-at _ 2 lawful)
+
+  pub cell-small : g .cell ≤ 8192
+  unfolding gridLawful
+  cell-small = leb-true (g .cell) 8192 (every-at _ 3 lawful)
+
+-- along one direction
 module _ (o : ℤ) (c : ℕ) (x : ℤ) (inside : within o c x ≡ true) where
   pub from-edge : lifted o ≤ lifted x
   unfolding within
@@ -60,16 +61,20 @@ module _ (g : Grid) (p : Place) (inside : inGrid g p ≡ true) where
   unfolding inGrid
   north-inside = and-right (within (g .west) (g .cell) (p .east)) _ inside
 
--- two coordinates of the grid are less than its side apart
-pub near : (o : ℤ) (c : ℕ) (x y : ℤ) → within o c x ≡ true → within o c y ≡ true → apart (lifted x) (lifted y) < 8 * c
-near o c x y hx hy =
-    let a = from-edge o c x hx in
-    let b = before-end o c x hx in
-    let d = from-edge o c y hy in
-    let e = before-end o c y hy in
-    omega arith
+-- a region's column and row
+module _ (g : Grid) (p : Place) (some : 0 < g .cell) (inside : inGrid g p ≡ true) where
+  column-less : strip (g .west) (g .cell) (p .east) < 8
+  column-less = strip-less _ _ _ (east-inside g p inside) some
 
--- each place of a lawful grid is in a region below 64
+  pub column-back : regionOf g p % 8 ≡ strip (g .west) (g .cell) (p .east)
+  unfolding regionOf
+  column-back = digits-mod (strip (g .south) (g .cell) (p .north)) column-less
+
+  pub row-back : regionOf g p / 8 ≡ strip (g .south) (g .cell) (p .north)
+  unfolding regionOf
+  row-back = digits-div (strip (g .south) (g .cell) (p .north)) column-less
+
+-- for the reader: each place of a lawful grid is in a region below 64
 pub region-less : (g : Grid) (p : Place) → gridLawful g ≡ true → inGrid g p ≡ true → regionOf g p < 64
 unfolding regionOf
 region-less g p lawful inside =

@@ -1,6 +1,6 @@
 -- Four rows to a word, eight bits each: the columns' mask, laid at each row of the span, makes the word of the touched regions.
 -- Assumes nothing.
-use mathlib.Core.Path.{_≡_, refl, sym, _∙_}
+use mathlib.Core.Path.{_≡_, refl, _∙_}
 use mathlib.Core.Logic.{⊎-elim}
 use mathlib.Core.Bool.{Bool, true, false, cond, _&&_}
 use Prim.Native.Nat.{ℕ, zero, suc, _+_, _*_, _/_, _%_, _^_, _<_, _≤_}
@@ -10,7 +10,7 @@ use native.Mathlib.Omega.{arith}
 use lib.Pow.{pow-add, pow-mono, shl-exact}
 use Rattle.base.specs.Bits.{wordOf}
 use Rattle.base.proofs.Tests.{which, and-true, and-false}
-use Rattle.base.proofs.Words.{word-same, word-none, word-split, word-less}
+use Rattle.base.proofs.Words.{word-same, word-none, word-split}
 use Rattle.grid.specs.declared.cells.Span.{Span}
 use Rattle.grid.specs.Cells.{inSpan, touched, laid}
 
@@ -18,7 +18,10 @@ module _ (columns rows : Span) where
   -- region 8r + k is in column k of row r
   region-touched : (r k : ℕ) → k < 8 → touched columns rows (8 * r + k) ≡ (inSpan columns k && inSpan rows r)
   unfolding touched
-  region-touched r k h = let column : (8 * r + k) % 8 ≡ k = omega arith in let row : (8 * r + k) / 8 ≡ r = omega arith in rw (column, row)
+  region-touched r k h =
+      let column : (8 * r + k) % 8 ≡ k = omega arith in
+      let row : (8 * r + k) / 8 ≡ r = omega arith in
+      rw (column, row)
 
   -- a row of the span has the columns' mask, any other none
   row-word : (r : ℕ) → wordOf (touched columns rows) (8 * r) 8 ≡ cond (inSpan rows r) (wordOf (inSpan columns) 0 8) 0
@@ -28,6 +31,7 @@ module _ (columns rows : Span) where
       (λ (e : inSpan rows r ≡ false). rw e (word-same _ (λ k. false) (8 * r) 0 8 (λ k h. region-touched r k h ∙ rw e (and-false (inSpan columns k))) ∙ word-none 0 8))
       (which (inSpan rows r))
 
+  -- n rows from `from` on are 8n regions
   pub laid-touched : (from n : ℕ) → laid (wordOf (inSpan columns) 0 8) rows from n ≡ wordOf (touched columns rows) (8 * from) (8 * n)
   unfolding laid wordOf
   laid-touched from zero = refl
@@ -38,17 +42,18 @@ module _ (columns rows : Span) where
 
 -- what a turn of the loop adds, and that the sums fit
 module _ (mask : ℕ) (rows : Span) (from : ℕ) (small : mask < 256) where
-  either-less : (b : Bool) → cond b mask 0 ≤ 255
-  either-less true = omega arith
-  either-less false = omega arith
+  row-less : (b : Bool) → cond b mask 0 ≤ 255
+  row-less true = omega arith
+  row-less false = omega arith
 
   laid-less : (n : ℕ) → laid mask rows from n < 2 ^ (8 * n)
   unfolding laid
   laid-less zero = omega arith
   laid-less (suc n) =
       let more : 8 * suc n ≡ 8 + 8 * n = omega arith in
-      rw (more, pow-add 2 8 (8 * n)) (omega (arith, laid-less n, mul-le-mul-right (2 ^ (8 * n)) (either-less (inSpan rows (from + n)))))
+      rw (more, pow-add 2 8 (8 * n)) (omega (arith, laid-less n, mul-le-mul-right (2 ^ (8 * n)) (row-less (inSpan rows (from + n)))))
 
+  -- the shift loses no bit
   pub moved : (n : ℕ) → n < 4 → mask * 2 ^ (8 * n) % 4294967296 ≡ mask * 2 ^ (8 * n)
   moved n h = shl-exact 8 (8 * n) 32 small (omega arith)
 

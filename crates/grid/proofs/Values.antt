@@ -14,30 +14,32 @@ use Rattle.grid.proofs.Inside.{cell-some, cell-small}
 use Rattle.grid.proofs.Squares.{cell-squared}
 use Rattle.grid.proofs.Distances.{cell-least}
 
-pub diagonal-most : (g : Grid) → gridLawful g ≡ true → diagonal² g ≤ 8589934592
+diagonal-most : (g : Grid) → gridLawful g ≡ true → diagonal² g ≤ 8589934592
 unfolding diagonal²
 diagonal-most g h = omega (arith, cell-squared (g .cell) (cell-small g h))
 
-module _ (g : Grid) (a s d : ℕ) (can : Weighable g a s) where
+-- the two sums of a value
+module _ (g : Grid) (a s : ℕ) (can : Weighable g a s) where
   pub weighted-most : a * s ≤ 16000
   weighted-most = mul-le-mul (can .weight) (can .score)
 
   pub by-score-most : a * s * diagonal² g ≤ 137438953472000
   by-score-most = mul-le-mul weighted-most (diagonal-most g (can .lawful))
 
-  pub by-place-most : (16 - a) * (diagonal² g - d) ≤ 137438953472
-  by-place-most = mul-le-mul {n₂ = 16} {m₂ = 8589934592} (omega arith) (omega (arith, diagonal-most g (can .lawful)))
+  pub by-place-most : (d : ℕ) → (16 - a) * (diagonal² g - d) ≤ 137438953472
+  by-place-most d = mul-le-mul {n₂ = 16} {m₂ = 8589934592} (omega arith) (omega (arith, diagonal-most g (can .lawful)))
 
-pub value-order : (g : Grid) (a s s' d d' : ℕ) → s ≤ s' → d' ≤ d → valueAt g a s d ≤ valueAt g a s' d'
+-- more score and less distance are worth no less
+value-order : (g : Grid) (a s s′ d d′ : ℕ) → s ≤ s′ → d′ ≤ d → valueAt g a s d ≤ valueAt g a s′ d′
 unfolding valueAt
-value-order g a s s' d d' hs hd =
-    let x = mul-le-mul-right (diagonal² g) (mul-le-mul-left a hs) in
-    let r : diagonal² g - d ≤ diagonal² g - d' = omega arith in
-    let y = mul-le-mul-right 1000 (mul-le-mul-left (16 - a) r) in
+value-order g a s s′ d d′ hs hd =
+    let by-score = mul-le-mul-right (diagonal² g) (mul-le-mul-left a hs) in
+    let nearer : diagonal² g - d ≤ diagonal² g - d′ = omega arith in
+    let by-place = mul-le-mul-right 1000 (mul-le-mul-left (16 - a) nearer) in
     omega arith
 
--- a stand of a region, with a score up to s, is worth no more than the region's bound
-pub bound-holds : (g : Grid) (a score s : ℕ) (stand place : Place) → gridLawful g ≡ true → inGrid g stand ≡ true → score ≤ s → valueOf g a score stand place ≤ boundOf g a s (regionOf g stand) place
+-- for the reader: a stand of a region, with a score up to s, is worth no more at any place than the region's bound there
+pub value-within-bound : (g : Grid) (a score s : ℕ) (stand place : Place) → gridLawful g ≡ true → inGrid g stand ≡ true → score ≤ s → valueOf g a score stand place ≤ boundOf g a s (regionOf g stand) place
 unfolding valueOf boundOf
-bound-holds g a score s stand place lawful inside h =
-    value-order g a score s _ _ h (cell-least g stand (cell-some g lawful) inside place)
+value-within-bound g a score s stand place lawful inside h =
+    value-order g a score s _ _ h (cell-least g stand place (cell-some g lawful) inside)

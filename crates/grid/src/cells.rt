@@ -2,7 +2,7 @@
 // An edge's column is floored and clipped to 0..7; a rectangle wholly beside the grid has an empty span.
 ghost use mathlib.Core.Path.{_≡_};
 ghost use mathlib.Core.Bool.{true, false};
-ghost use Prim.Native.Nat.{ℕ, _≤_, _<_};
+ghost use Prim.Native.Nat.{_≤_, _<_};
 ghost use Rattle.base.specs.Bits.{wordOf, bitAt};
 ghost use Rattle.rules.specs.Places.{gridLawful};
 ghost use Rattle.grid.specs.Cells.{clip, spanOf, edgesSpan, inSpan, laid, cellsOf, cellsBy, hasCell, bothCells, withCell};
@@ -10,12 +10,7 @@ use super::metres::edge_strip;
 use rules::Grid;
 use rules::Rect;
 
-// Columns or rows from first on, past not among them.
-pub struct Span {
-    pub first: u32,
-    pub past: u32,
-}
-
+// One bit for each region.
 pub struct Cells {
     pub low: u32,
     pub high: u32,
@@ -69,6 +64,7 @@ impl Cells {
     }
 }
 
+// Whether bit i is 1.
 fn bit_at(word: u32, i: u32) -> bool
     requires { ⌜ i < 32 ⌝ }
     ensures { λ r. ⌜ r ≡ bitAt word i ⌝ }
@@ -76,44 +72,16 @@ fn bit_at(word: u32, i: u32) -> bool
     (word >> i) % 2 == 1
 }
 
-fn clipped(strip: i64) -> u32
-    ensures { λ r. ⌜ r ≡ clip strip ⌝ }
-{
-    if strip < 0 {
-        return 0;
-    }
-    if 7 < strip {
-        return 7;
-    }
-    strip as u32
-}
+// The grid's last column, and its last row.
+const LAST: i64 = (Grid::SIDE - 1) as i64;
 
-// The columns of the grid from one floored edge to the other.
-fn span_between(from: i64, to: i64) -> Span
-    ensures { λ r. ⌜ r ≡ spanOf from to ⌝ }
-{
-    if to < 0 {
-        return Span { first: 0, past: 0 };
-    }
-    if 7 < from {
-        return Span { first: 0, past: 0 };
-    }
-    let first = clipped(from);
-    let last = clipped(to);
-    Span {
-        first,
-        past: last + 1,
-    }
-}
+// How many rows' bits make a word.
+const ROWS: u32 = Grid::SIDE / 2;
 
-// The columns or rows from the edge low to the edge high.
-fn strips(origin: i32, cell: u32, low: i32, high: i32) -> Span
-    requires { ⌜ 0 < cell ⌝ }
-    ensures { λ r. ⌜ r ≡ edgesSpan origin cell low high ⌝ }
-{
-    let from = edge_strip(origin, cell, low);
-    let to = edge_strip(origin, cell, high);
-    span_between(from, to)
+// Columns or rows from first on, past not among them.
+struct Span {
+    first: u32,
+    past: u32,
 }
 
 impl Span {
@@ -140,6 +108,47 @@ impl Span {
     }
 }
 
+// To a column or row of the grid.
+fn clipped(strip: i64) -> u32
+    ensures { λ r. ⌜ r ≡ clip strip ⌝ }
+{
+    if strip < 0 {
+        return 0;
+    }
+    if LAST < strip {
+        return LAST as u32;
+    }
+    strip as u32
+}
+
+// The columns of the grid from one floored edge to the other.
+fn span_between(from: i64, to: i64) -> Span
+    ensures { λ r. ⌜ r ≡ spanOf from to ⌝ }
+{
+    if to < 0 {
+        return Span { first: 0, past: 0 };
+    }
+    if LAST < from {
+        return Span { first: 0, past: 0 };
+    }
+    let first = clipped(from);
+    let last = clipped(to);
+    Span {
+        first,
+        past: last + 1,
+    }
+}
+
+// The columns or rows from the edge low to the edge high.
+fn strips(origin: i32, cell: u32, low: i32, high: i32) -> Span
+    requires { ⌜ 0 < cell ⌝ }
+    ensures { λ r. ⌜ r ≡ edgesSpan origin cell low high ⌝ }
+{
+    let from = edge_strip(origin, cell, low);
+    let to = edge_strip(origin, cell, high);
+    span_between(from, to)
+}
+
 // The mask at each row of the span, eight bits to a row, for the four rows from `from` on.
 fn lay(mask: u32, rows: Span, from: u32) -> u32
     requires { ⌜ (mask < 256) × (from ≤ 4) ⌝ }
@@ -147,7 +156,7 @@ fn lay(mask: u32, rows: Span, from: u32) -> u32
 {
     let mut word: u32 = 0;
     let mut row: u32 = 0;
-    while row < 4 {
+    while row < ROWS {
         if rows.has(from + row) {
             word += mask << (Grid::SIDE * row);
         }
@@ -166,6 +175,6 @@ pub fn cells_of(grid: Grid, rect: Rect) -> Cells
     let mask = columns.mask();
     Cells {
         low: lay(mask, rows, 0),
-        high: lay(mask, rows, 4),
+        high: lay(mask, rows, ROWS),
     }
 }

@@ -2,7 +2,7 @@
 // Distances and values are in `worth`, a rectangle's regions in `cells`, signed metres in `metres`.
 ghost use mathlib.Core.Path.{_≡_};
 ghost use mathlib.Core.Bool.{true};
-ghost use Prim.Native.Nat.{ℕ, _<_};
+ghost use Prim.Native.Nat.{_<_};
 ghost use Rattle.rules.specs.Numbers.{locatedNumbers};
 ghost use Rattle.rules.specs.Places.{edgeLawful, gridLawful, within, inGrid, strip, regionOf, regionTold};
 

@@ -1,7 +1,7 @@
 // Signed metres: lifted to natural numbers for sums and distances, and floor division of a signed difference.
 // Every number of 32 bits is taken; nothing here asks for a lawful grid.
 ghost use mathlib.Core.Path.{_≡_};
-ghost use Prim.Native.Nat.{ℕ, _<_};
+ghost use Prim.Native.Nat.{_<_};
 ghost use lib.IntN.{_-ℤ_};
 ghost use Rattle.rules.specs.Places.{lifted, floorDiv, edgeStrip};
 ghost use Rattle.rules.specs.Worth.{apart};

@@ -2,7 +2,7 @@
 // All of it fits 64 bits on a lawful grid, for places in it, a score to 1,000 and a weight to 16.
 ghost use mathlib.Core.Path.{_≡_};
 ghost use mathlib.Core.Bool.{true};
-ghost use Prim.Native.Nat.{ℕ, _+_, _*_, _≤_, _<_};
+ghost use Prim.Native.Nat.{_+_, _*_, _≤_, _<_};
 ghost use Rattle.rules.specs.Places.{gridLawful, inGrid, lifted};
 ghost use Rattle.rules.specs.Worth.{apart, squared, distance², diagonal², nearest, nearestIn, regionDistance², valueAt, valueOf, boundOf};
 ghost use Rattle.grid.specs.Weights.{Weighable};

@@ -1,43 +1,37 @@
 -- `grid::holds` meets its contract. The two tests are those of the definition, east first.
 -- Assumes nothing.
-use mathlib.Core.Path.{_≡_, sym, _∙_}
-use borrow.Author.Tests.{not-true, not-false}
+use mathlib.Core.Path.{_≡_, _∙_}
 use borrow.Author.Needs.{needs}
-use mir.Val.{SFits}
-use mir.Syntax.{w32}
-use mir.Facts.{toZ-ofZ}
+use Rattle.base.proofs.Tests.{breaks, holds}
+use Rattle.base.proofs.Machine.{arrive}
 use Rattle.rules.specs.Places.{within, inGrid}
 use Rattle.grid.proofs.holds.Statement.{statement}
 use Rattle.grid.proofs.holds.Tie as tie
 
 -- what the tests say, of the coordinates and not of their bits
-east-is : (c : tie.After-within) → within (c .before .before .before .args .grid .west) (c .before .before .before .args .grid .cell) (c .before .before .before .args .place .east) ≡ c .within .result
+east-is : (c : tie.After-within) → c .within .result ≡ within (c .before .before .before .args .grid .west) (c .before .before .before .args .grid .cell) (c .before .before .before .args .place .east)
 east-is c =
-    let s = c .before .before .before in
-    let f : SFits w32 (s .args .grid .west) = search needs in
-    let h : SFits w32 (s .args .place .east) = search needs in
-    sym (c .within .ensures ∙ rw (toZ-ofZ f, toZ-ofZ h))
+    let a = c .before .before .before .args in
+    c .within .ensures ∙ arrive (λ o x. within o (a .grid .cell) x) (a .grid .west) (a .place .east) (search needs) (search needs)
 
-north-is : (c : tie.After-within2) → within (c .before .before .before .before .before .before .before .args .grid .south) (c .before .before .before .before .before .before .before .args .grid .cell) (c .before .before .before .before .before .before .before .args .place .north) ≡ c .within2 .result
+north-is : (c : tie.After-within2) → c .within2 .result ≡ within (c .before .before .before .before .before .before .before .args .grid .south) (c .before .before .before .before .before .before .before .args .grid .cell) (c .before .before .before .before .before .before .before .args .place .north)
 north-is c =
-    let s = c .before .before .before .before .before .before .before in
-    let f : SFits w32 (s .args .grid .south) = search needs in
-    let h : SFits w32 (s .args .place .north) = search needs in
-    sym (c .within2 .ensures ∙ rw (toZ-ofZ f, toZ-ofZ h))
+    let a = c .before .before .before .before .before .before .before .args in
+    c .within2 .ensures ∙ arrive (λ o x. within o (a .grid .cell) x) (a .grid .south) (a .place .north) (search needs) (search needs)
 
 within-requires : tie.Need-within-requires
 within-requires c κs = search needs
 
 returns : tie.Need-returns
 unfolding inGrid
-returns c = rw (east-is (c .before) ∙ not-true _ (c .if1 .taken))
+returns c = rw (breaks _ _ (east-is (c .before)) (c .if1 .taken))
 
 within-requires-2 : tie.Need-within-requires-2
 within-requires-2 c κs = search needs
 
 returns-2 : tie.Need-returns-2
 unfolding inGrid
-returns-2 c = rw (east-is (c .before .before .before .before) ∙ not-false _ (c .before .before .before .if1 .left)) (sym (north-is c))
+returns-2 c = rw (holds _ _ (east-is (c .before .before .before .before)) (c .before .before .before .if1 .left)) (north-is c)
 
 pub holds-spec : {M : Type 1} → statement M
 holds-spec = tie.close (tie.spec within-requires returns within-requires-2 returns-2)

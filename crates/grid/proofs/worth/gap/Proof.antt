@@ -1,5 +1,6 @@
 -- `grid::worth::gap` meets its contract. The strip starts below 2^33.
 -- Assumes nothing.
+use Prim.Native.Nat.{_+_, _*_, _<_}
 use native.Mathlib.Nat.{mul-le-mul, le-of-lt}
 use native.Mathlib.Omega.{arith}
 use borrow.Author.Needs.{needs}
@@ -8,29 +9,25 @@ use Rattle.grid.proofs.Signed.{lifted-less}
 use Rattle.grid.proofs.worth.gap.Statement.{statement}
 use Rattle.grid.proofs.worth.gap.Tie as tie
 
+low-less : (c : tie.After-lift) → c .lift .result + c .before .args .strip * c .before .args .cell < 8589934592
+low-less c =
+    let s = c .before in
+    rw (c .lift .ensures, toZ-ofZ (s .fits .edge)) (omega (arith, lifted-less _ (s .fits .edge), mul-le-mul (le-of-lt (s .pre .2)) (s .pre .1)))
+
 lift-requires : tie.Need-lift-requires
 lift-requires c κs = search needs
 
 mul-low : tie.Need-mul-low
-mul-low c =
-    let s = c .before in
-    let m = mul-le-mul (le-of-lt (s .pre .2)) (s .pre .1) in
-    omega arith
+mul-low c = omega (arith, low-less c)
 
 add-low : tie.Need-add-low
-add-low c =
-    let s = c .before in
-    let m = mul-le-mul (le-of-lt (s .pre .2)) (s .pre .1) in
-    rw (c .lift .ensures, toZ-ofZ (s .fits .edge)) (omega (arith, lifted-less _ (s .fits .edge)))
+add-low c = omega (arith, low-less c)
 
 lift-requires-2 : tie.Need-lift-requires-2
 lift-requires-2 c κs = search needs
 
 nearest-requires : tie.Need-nearest-requires
-nearest-requires c κs =
-    let s = c .before .before in
-    let m = mul-le-mul (le-of-lt (s .pre .2)) (s .pre .1) in
-    (s .pre .0, rw (c .before .lift .ensures, toZ-ofZ (s .fits .edge)) (omega (arith, lifted-less _ (s .fits .edge))))
+nearest-requires c κs = (c .before .before .pre .0, low-less (c .before))
 
 apart-requires : tie.Need-apart-requires
 apart-requires c κs = search needs

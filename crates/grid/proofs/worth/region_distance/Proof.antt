@@ -1,32 +1,27 @@
 -- `grid::worth::region_distance` meets its contract. The nearest metre is one of the grid, so less than 65,536 metres away.
 -- Assumes nothing.
-use mathlib.Core.Path.{_∙_, _≡_}
+use mathlib.Core.Path.{_≡_, _∙_}
 use Prim.Native.Nat.{_%_, _/_}
 use native.Mathlib.Omega.{arith}
 use borrow.Author.Needs.{needs}
-use mir.Val.{SFits}
-use mir.Syntax.{w32}
-use mir.Facts.{toZ-ofZ}
-use Rattle.rules.specs.Worth.{acrossTo, alongTo, regionDistance²}
-use Rattle.grid.proofs.Distances.{gap-less}
+use Rattle.base.proofs.Machine.{arrive}
+use Rattle.rules.specs.Places.{lifted}
+use Rattle.rules.specs.Worth.{apart, nearestIn, acrossTo, alongTo, regionDistance²}
 use Rattle.grid.proofs.Inside.{cell-some, cell-small, east-inside, north-inside}
+use Rattle.grid.proofs.Distances.{gap-less}
 use Rattle.grid.proofs.worth.region_distance.Statement.{statement}
 use Rattle.grid.proofs.worth.region_distance.Tie as tie
 
 -- the two legs, of the coordinates and not of their bits
 across-is : (c : tie.After-gap) → c .gap .result ≡ acrossTo (c .before .before .before .args .grid) (c .before .before .before .args .region) (c .before .before .before .args .place)
 across-is c =
-    let s = c .before .before .before in
-    let f : SFits w32 (s .args .grid .west) = search needs in
-    let g : SFits w32 (s .args .place .east) = search needs in
-    c .gap .ensures ∙ rw (toZ-ofZ f, toZ-ofZ g)
+    let a = c .before .before .before .args in
+    c .gap .ensures ∙ arrive (λ o x. apart (nearestIn o (a .grid .cell) (a .region % 8) x) (lifted x)) (a .grid .west) (a .place .east) (search needs) (search needs)
 
 along-is : (c : tie.After-gap2) → c .gap2 .result ≡ alongTo (c .before .before .before .before .before .before .args .grid) (c .before .before .before .before .before .before .args .region) (c .before .before .before .before .before .before .args .place)
 along-is c =
-    let s = c .before .before .before .before .before .before in
-    let f : SFits w32 (s .args .grid .south) = search needs in
-    let g : SFits w32 (s .args .place .north) = search needs in
-    c .gap2 .ensures ∙ rw (toZ-ofZ f, toZ-ofZ g)
+    let a = c .before .before .before .before .before .before .args in
+    c .gap2 .ensures ∙ arrive (λ o x. apart (nearestIn o (a .grid .cell) (a .region / 8) x) (lifted x)) (a .grid .south) (a .place .north) (search needs) (search needs)
 
 gap-requires : tie.Need-gap-requires
 gap-requires c κs =
@@ -43,8 +38,9 @@ squares-requires c κs =
     let s = c .before .before .before .before .before .before in
     let small = cell-small _ (s .pre .0) in
     let some = cell-some _ (s .pre .0) in
-    rw (across-is (c .before .before .before), along-is c)
-    (omega (arith, gap-less _ _ (s .args .region % 8) _ some (omega arith) (east-inside _ _ (s .pre .1))), omega (arith, gap-less _ _ (s .args .region / 8) _ some (omega (arith, s .pre .2)) (north-inside _ _ (s .pre .1))))
+    let across = gap-less _ _ (s .args .region % 8) _ some (omega arith) (east-inside _ _ (s .pre .1)) in
+    let along = gap-less _ _ (s .args .region / 8) _ some (omega (arith, s .pre .2)) (north-inside _ _ (s .pre .1)) in
+    rw (across-is (c .before .before .before), along-is c) (omega arith, omega arith)
 
 returns : tie.Need-returns
 unfolding regionDistance²

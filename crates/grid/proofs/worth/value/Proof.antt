@@ -3,7 +3,7 @@
 use native.Mathlib.Nat.{le-of-lt}
 use borrow.Author.Needs.{needs}
 use Rattle.rules.specs.Worth.{valueOf}
-use Rattle.grid.proofs.Distances.{near-enough}
+use Rattle.grid.proofs.Distances.{distance-below-diagonal}
 use Rattle.grid.proofs.worth.value.Statement.{statement}
 use Rattle.grid.proofs.worth.value.Tie as tie
 
@@ -13,7 +13,7 @@ distance-requires c κs = search needs
 value-at-requires : tie.Need-value-at-requires
 value-at-requires c κs =
     let s = c .before in
-    (s .pre .0, rw (c .distance .ensures) (le-of-lt (near-enough _ _ _ (s .pre .1) (s .pre .2))))
+    (s .pre .0, rw (c .distance .ensures) (le-of-lt (distance-below-diagonal _ _ _ (s .pre .1) (s .pre .2))))
 
 returns : tie.Need-returns
 unfolding valueOf

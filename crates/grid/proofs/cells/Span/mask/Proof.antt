@@ -1,6 +1,6 @@
 -- `grid::cells::Span::mask` meets its contract. 2 ^ past - 2 ^ first is the word of the columns between; with none, 2 ^ past is the less.
 -- Assumes nothing.
-use mathlib.Core.Path.{_≡_, sym, _∙_}
+use mathlib.Core.Path.{sym, _∙_}
 use native.Mathlib.Omega.{arith}
 use lib.Pow.{pow-mono}
 use borrow.Author.Needs.{needs}
