@@ -1,7 +1,6 @@
 -- Laws of signed metres, places, distances, values and sets of regions; and what the rectangle's regions and the bounds are good for.
 pub mod Signed
 pub mod Floors
-pub mod Inside
 pub mod Squares
 pub mod Distances
 pub mod Values
