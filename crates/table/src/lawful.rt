@@ -3,9 +3,12 @@
 use crate::names::in_order;
 use crate::names::name_allowed;
 use crate::names::name_of;
+use rules::Grid;
+use rules::Place;
 use rules::Stand;
 ghost use mathlib.Core.Path.{_≡_};
-ghost use Rattle.rules.specs.Tables.{tableOf, rising, shapeLawful, namesAllowed, namesInOrder};
+ghost use lib.ListN.{length};
+ghost use Rattle.rules.specs.Tables.{tableOf, rising, shapeLawful, namesAllowed, namesInOrder, standsLawful};
 
 // Whether no start is below the one before it.
 fn rising(starts: &[u32]) -> bool
@@ -70,6 +73,27 @@ pub fn names_in_order(text: &[u8], starts: &[u32], stands: u32) -> bool
         let a = name_of(text, starts, Stand(i));
         let b = name_of(text, starts, Stand(i + 1));
         if !in_order(a, b) {
+            return false;
+        }
+        i += 1;
+    }
+    true
+}
+
+pub fn stands_lawful(east: &[i32], north: &[i32], score: &[u32], grid: Grid) -> bool
+    requires { ⌜ (length (now east) ≡ length (now score)) × (length (now north) ≡ length (now score)) ⌝ }
+    ensures { λ r. ⌜ r ≡ standsLawful (now (east .entry)) (now (north .entry)) (now (score .entry)) grid ⌝ }
+{
+    let mut i = 0;
+    while i < score.len() {
+        let place = Place {
+            east: east[i],
+            north: north[i],
+        };
+        if !grid::holds(grid, place) {
+            return false;
+        }
+        if Stand::SCORE_MOST < score[i] {
             return false;
         }
         i += 1;

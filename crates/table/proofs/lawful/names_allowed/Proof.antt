@@ -1,7 +1,7 @@
 -- `lawful::names_allowed` tests name after name: the invariant is Scanning.
 -- Assumes nothing.
 use Prim.Native.Nat.{_-_}
-use mathlib.Core.Path.{sym, ap, _∙_}
+use mathlib.Core.Path.{_≡_, sym, ap, _∙_}
 use borrow.Author.Needs.{needs}
 use Rattle.base.proofs.Tests.{breaks, holds}
 use Rattle.base.proofs.Scans.{Scanning, begin, pass, fail, finish}
@@ -25,9 +25,14 @@ name-of-requires c κs = search needs
 name-allowed-requires : tie.Need-name-allowed-requires Inv-loop μ-loop
 name-allowed-requires c κs = search needs
 
+told : (c : tie.After-name-allowed Inv-loop μ-loop) →
+    let a = c .before .before .before .before .before .before .args in
+    c .name-allowed .result ≡ nameAllowed (name (a .text .now) (a .starts .now) (c .before .before .before .loop .i))
+told c = c .name-allowed .ensures ∙ ap nameAllowed (c .before .name-of .ensures)
+
 returns : tie.Need-returns Inv-loop μ-loop
 unfolding namesAllowed
-returns c = sym (fail _ _ _ (c .before .before .before .loop-test .taken) (breaks _ _ (c .before .name-allowed .ensures ∙ ap nameAllowed (c .before .before .name-of .ensures)) (c .if1 .taken)) (c .before .before .before .before .loop .inv))
+returns c = sym (fail _ _ _ (c .before .before .before .loop-test .taken) (breaks _ _ (told (c .before)) (c .if1 .taken)) (c .before .before .before .before .loop .inv))
 
 add-i : tie.Need-add-i Inv-loop μ-loop
 add-i c = search needs
@@ -36,7 +41,7 @@ loop-less : tie.Need-loop-less Inv-loop μ-loop
 loop-less c = search needs
 
 loop-again : tie.Need-loop-again Inv-loop μ-loop
-loop-again c = pass _ _ _ (search needs) (holds _ _ (c .before .name-allowed .ensures ∙ ap nameAllowed (c .before .before .name-of .ensures)) (c .if1 .left)) (search needs)
+loop-again c = pass _ _ _ (search needs) (holds _ _ (told (c .before)) (c .if1 .left)) (search needs)
 
 returns-2 : tie.Need-returns-2 Inv-loop μ-loop
 unfolding namesAllowed

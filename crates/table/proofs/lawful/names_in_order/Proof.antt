@@ -1,7 +1,7 @@
 -- `lawful::names_in_order` tests each name and the next: the invariant is Scanning.
 -- Assumes nothing.
 use Prim.Native.Nat.{_+_, _-_, _<_}
-use mathlib.Core.Path.{sym, _∙_}
+use mathlib.Core.Path.{_≡_, sym, _∙_}
 use borrow.Author.Needs.{needs}
 use Rattle.base.proofs.Tests.{ap2, breaks, holds}
 use Rattle.base.proofs.Scans.{Scanning, begin, pass, fail, finish}
@@ -34,13 +34,18 @@ name-of-requires-2 c κs = search needs
 in-order-requires : tie.Need-in-order-requires Inv-loop μ-loop
 in-order-requires c κs = search needs
 
+told : (c : tie.After-in-order Inv-loop μ-loop) →
+    let a = c .before .before .before .before .before .before .before .args in
+    let i = c .before .before .before .before .loop .i in
+    c .in-order .result ≡ inOrder (name (a .text .now) (a .starts .now) i) (name (a .text .now) (a .starts .now) (i + 1))
+told c = c .in-order .ensures ∙ ap2 inOrder (c .before .before .name-of .ensures) (c .before .name-of2 .ensures)
+
 returns : tie.Need-returns Inv-loop μ-loop
 unfolding namesInOrder
 returns c =
     let at = c .before .before .before .before .before .loop in
     let more : at .i < c .before .before .before .before .before .before .before .before .args .stands - 1 = search needs in
-    let told = c .before .in-order .ensures ∙ ap2 inOrder (c .before .before .before .name-of .ensures) (c .before .before .name-of2 .ensures) in
-    sym (fail _ _ _ more (breaks _ _ told (c .if1 .taken)) (at .inv))
+    sym (fail _ _ _ more (breaks _ _ (told (c .before)) (c .if1 .taken)) (at .inv))
 
 add-i : tie.Need-add-i Inv-loop μ-loop
 add-i c = search needs
@@ -49,9 +54,7 @@ loop-less : tie.Need-loop-less Inv-loop μ-loop
 loop-less c = search needs
 
 loop-again : tie.Need-loop-again Inv-loop μ-loop
-loop-again c =
-    let told = c .before .in-order .ensures ∙ ap2 inOrder (c .before .before .before .name-of .ensures) (c .before .before .name-of2 .ensures) in
-    pass _ _ _ (search needs) (holds _ _ told (c .if1 .left)) (search needs)
+loop-again c = pass _ _ _ (search needs) (holds _ _ (told (c .before)) (c .if1 .left)) (search needs)
 
 returns-2 : tie.Need-returns-2 Inv-loop μ-loop
 unfolding namesInOrder
