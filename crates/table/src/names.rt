@@ -80,12 +80,12 @@ pub fn in_order(a: &[u8], b: &[u8]) -> bool
 {
     let at = shared(a, b);
     if at == a.len() {
-        return true;
+        true
+    } else if at == b.len() {
+        false
+    } else {
+        a[at] < b[at]
     }
-    if at == b.len() {
-        return false;
-    }
-    a[at] < b[at]
 }
 
 // Where a stand's name lies.

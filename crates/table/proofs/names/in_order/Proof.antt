@@ -11,6 +11,16 @@ use Rattle.table.proofs.names.in_order.Tie as tie
 shared-requires : tie.Need-shared-requires
 shared-requires c κs = search needs
 
+shared-slice-read-result : tie.Need-shared-slice-read-result
+shared-slice-read-result c =
+    let n = c .before .before .before .before .before .before .args in
+    omega (arith, shared-le (n .a .now) (n .b .now))
+
+shared-slice-read-result-2 : tie.Need-shared-slice-read-result-2
+shared-slice-read-result-2 c =
+    let n = c .before .before .before .before .before .before .before .args in
+    omega (arith, shared-le-other (n .a .now) (n .b .now))
+
 returns : tie.Need-returns
 returns c =
     let n = c .before .before .before .before .args in
@@ -21,16 +31,6 @@ returns-2 c =
     let n = c .before .before .before .before .before .args in
     let e = c .before .before .shared .ensures in
     sym (order-longer (n .a .now) (n .b .now) (λ z. c .before .if1 .left (e ∙ z)) (sym e ∙ c .if2 .taken))
-
-shared-slice-read-result : tie.Need-shared-slice-read-result
-shared-slice-read-result c =
-    let n = c .before .before .before .before .before .before .args in
-    omega (arith, shared-le (n .a .now) (n .b .now))
-
-shared-slice-read-result-2 : tie.Need-shared-slice-read-result-2
-shared-slice-read-result-2 c =
-    let n = c .before .before .before .before .before .before .before .args in
-    omega (arith, shared-le-other (n .a .now) (n .b .now))
 
 returns-3 : tie.Need-returns-3
 returns-3 c =
@@ -43,8 +43,8 @@ in-order-spec =
     tie.close
     (tie.spec
     shared-requires
-    returns
-    returns-2
     shared-slice-read-result
     shared-slice-read-result-2
+    returns
+    returns-2
     returns-3)
