@@ -25,7 +25,7 @@ use Rattle.trie.proofs.Words.{nodes-length, node-word}
 use Rattle.trie.proofs.Children.{past-bounds, child-past}
 use Rattle.trie.proofs.Walking.{look-start, look-next, look-found, look-none}
 use Rattle.walk.specs.declared.Child.{Child}
-use Rattle.walk.specs.declared.Child.the-variants.{At, Nowhere}
+use Rattle.walk.specs.declared.Child.the-variants.{At, Nowhere, Broken}
 use Rattle.walk.specs.Walks.{node, nodeWord, siblings, childIn, onFrom, nodeFrom, nodeIn}
 use Rattle.walk.specs.Nodes.{nodeOf, numberOr0}
 use Rattle.walk.proofs.Steps.{siblings-past, siblings-here, siblings-next, child-siblings}
@@ -40,6 +40,24 @@ module _ (t : Table) (p : List ℕ) where
   node-of-out h =
       let e = number-out p (beginnings t) h in
       rw (le-ltb (numberIn p (beginnings t)) (length (beginnings t)) (omega arith))
+
+  -- what each outcome says of the text
+  pub at-means : (n : ℕ) → nodeOf t p ≡ At (node n) → In p (beginnings t) × (n ≡ numberIn p (beginnings t))
+  at-means n e = step (in-or-out p (beginnings t))
+    where
+      step : In p (beginnings t) ⊎ (In p (beginnings t) → ⊥) → In p (beginnings t) × (n ≡ numberIn p (beginnings t))
+      step (inl h) = (h, ap numberOr0 (sym e ∙ node-of-in h))
+      step (inr h) = let z : _≡_ {A = ℕ} 0 1 = cc (e, node-of-out h) in absurd (omega arith)
+
+  pub nowhere-means : nodeOf t p ≡ Nowhere → In p (beginnings t) → ⊥
+  nowhere-means e h = let z : _≡_ {A = ℕ} 0 1 = cc (e, node-of-in h) in absurd (omega arith)
+
+  pub never-broken : nodeOf t p ≡ Broken → ⊥
+  never-broken e = step (in-or-out p (beginnings t))
+    where
+      step : In p (beginnings t) ⊎ (In p (beginnings t) → ⊥) → ⊥
+      step (inl h) = let z : _≡_ {A = ℕ} 0 1 = cc (e, node-of-in h) in omega arith
+      step (inr h) = let z : _≡_ {A = ℕ} 0 1 = cc (e, node-of-out h) in omega arith
 
   -- its number is the one that a session's path has
   pub number-is : numberOr0 (nodeOf t p) ≡ nodeOr0 t p
@@ -103,9 +121,9 @@ module _ (t : Table) (g : Grid) (words : List ℕ) (written : begins (nodeWords 
               ∙ sym (node-of-out t (textOf t j ++ (b ∷ [])) (look-none (beginnings t) tree j inside b (subst (Looking (beginnings t) j b) ended l)))
           among (inr h) = byte h (which (eqb (lastByte (textOf t c)) b))
 
-      search : (fuel c : ℕ) → Looking (beginnings t) j b c → pastOf (beginnings t) j < c + fuel → Finds t words j b fuel c
-      search zero c l enough = absurd (omega (arith, l .within))
-      search (suc fuel) c l enough = turn fuel c l enough (search fuel)
+      turns : (fuel c : ℕ) → Looking (beginnings t) j b c → pastOf (beginnings t) j < c + fuel → Finds t words j b fuel c
+      turns zero c l enough = absurd (omega (arith, l .within))
+      turns (suc fuel) c l enough = turn fuel c l enough (turns fuel)
 
       child-at : childIn words j b ≡ nodeOf t (textOf t j ++ (b ∷ []))
       child-at =
@@ -113,7 +131,7 @@ module _ (t : Table) (g : Grid) (words : List ℕ) (written : begins (nodeWords 
           let bounds = past-bounds (beginnings t) (tree .sorted) j inside in
           child-siblings words j b (omega (arith, nodes-within)) (omega (arith, nodes-within))
           ∙ ap (λ (n : ℕ). siblings words n b (suc n) (j + 1)) w
-          ∙ search (suc (pastOf (beginnings t) j)) (j + 1) (rw add-one (look-start (beginnings t) tree j inside b)) (omega arith)
+          ∙ turns (suc (pastOf (beginnings t) j)) (j + 1) (rw add-one (look-start (beginnings t) tree j inside b)) (omega arith)
 
     pub child-found : (p : List ℕ) (b : ℕ) → In p (beginnings t) → childIn words (numberIn p (beginnings t)) b ≡ nodeOf t (p ++ (b ∷ []))
     child-found p b h =
@@ -145,5 +163,8 @@ module _ (t : Table) (g : Grid) (words : List ℕ) (written : begins (nodeWords 
     node-found text = walk-found [] text (inl refl)
 
     -- the number found, or 0, is the one of a session's path
+    pub child-number : (p : List ℕ) (b : ℕ) → In p (beginnings t) → numberOr0 (childIn words (numberIn p (beginnings t)) b) ≡ nodeOr0 t (p ++ (b ∷ []))
+    child-number p b h = ap numberOr0 (child-found p b h) ∙ number-is t (p ++ (b ∷ []))
+
     pub number-found : (text : List ℕ) → numberOr0 (nodeIn words text) ≡ nodeOr0 t text
     number-found text = ap numberOr0 (node-found text) ∙ number-is t text
