@@ -4,6 +4,8 @@ ghost use mathlib.Core.Path.{_≡_};
 ghost use Rattle.rules.specs.Numbers.{refusalNumber, verdictNumber};
 ghost use Rattle.rules.specs.Sessions.{freshSession};
 
+pub mod layout;
+
 // The number of a stand: its position in the table.
 pub struct Stand(pub u32);
 
