@@ -145,8 +145,8 @@ fn sample(count: i64) -> (Vec<Stand>, Grid) {
             }
             Stand {
                 name,
-                east: grid.west + (i * 37 + count) % 56,
-                north: grid.south + (i * 23 + 5) % 56,
+                east: (i * 37 + count) % 36,
+                north: (i * 23 + 5) % 36,
                 score: i * 397 % 1001,
             }
         })
