@@ -9,4 +9,5 @@ pub mod Shuffles
 pub mod Sorts
 pub mod Machine
 pub mod Pairs
+pub mod Counts
 pub mod Rows

@@ -165,10 +165,9 @@ pub some-in : {A : Type 0} (l : List A) → not (isEmpty l) ≡ true → (x : A)
 some-in [] h = absurd (false≢true h)
 some-in (x ∷ l) h = (x, inl refl)
 
-pub eachList-in : {A B : Type 0} (f : A → List B) (l : List A) (x : A) (y : B) → In x l → In y (f x) → In y (eachList f l)
-eachList-in f [] x y h k = absurd h
-eachList-in f (z ∷ l) x y (inl e) k = in-left y (f z) (eachList f l) (rw e at k)
-eachList-in f (z ∷ l) x y (inr h) k = in-right y (f z) (eachList f l) (eachList-in f l x y h k)
+pub some-length : {A : Type 0} (l : List A) → not (isEmpty l) ≡ true → 1 ≤ length l
+some-length [] h = absurd (false≢true h)
+some-length (x ∷ l) h = omega arith
 
 pub in-take : {A : Type 0} (k : ℕ) (l : List A) (x : A) → In x (take k l) → In x l
 in-take zero l x h = absurd h

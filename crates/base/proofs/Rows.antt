@@ -1,6 +1,6 @@
 -- Lists put together from parts, by place: parts of any lengths by the sum of the lengths before, rows of one width by their number.
 -- Assumes nothing.
-use mathlib.Core.Path.{_≡_, refl, sym, ap, _∙_}
+use mathlib.Core.Path.{_≡_, refl, ap, _∙_}
 use mathlib.Core.List.{List, [], _∷_, _++_}
 use Prim.Native.Nat.{ℕ, zero, suc, _+_, _*_, _<_}
 use native.Mathlib.Omega.{arith}
@@ -8,12 +8,6 @@ use native.Mathlib.Nat.{suc-mul}
 use lib.ListN.{length, take, getD, length-append, List·getD-append}
 use lib.Seq.{length-take-le, getD-append-add}
 use Rattle.base.specs.Lists.{each, eachList, total}
-
--- a sum with one term more
-pub total-suc : {A : Type 0} (f : A → ℕ) (d : A) (l : List A) (j : ℕ) → j < length l → total (each f (take (suc j) l)) ≡ total (each f (take j l)) + f (getD l j d)
-total-suc f d [] j h = absurd (omega arith)
-total-suc f d (x ∷ l) zero h = omega arith
-total-suc f d (x ∷ l) (suc j) h = let r = total-suc f d l j (omega arith) in omega arith
 
 module _ {A B : Type 0} (f : A → List B) where
   pub length-parts : (l : List A) → length (eachList f l) ≡ total (each (λ x. length (f x)) l)

@@ -13,13 +13,14 @@ use borrow.Author.Tests.{eqb-true}
 use Rattle.base.specs.Lists.{fromOn, upTo, keep, eachList, firstOf, isEmpty, positionIn, In}
 use Rattle.base.proofs.Members.{in-either, keep-in, keep-append, position-seam, in-eachList, keep-comm, eachList-keep, eachList-same, eachList-append, empty-of}
 use Rattle.base.proofs.Runs.{in-from, from-split, upTo-split}
-use Rattle.base.proofs.Shuffles.{part}
+use Rattle.base.proofs.Shuffles.{Shuffle, part, parts-shuffle}
 use Rattle.rules.specs.declared.Grid.{Grid}
 use Rattle.rules.specs.declared.Rect.{Rect}
 use Rattle.rules.specs.Places.{inRect, regions}
-use Rattle.rules.specs.Tables.{Table, stands, placeOf, Ordered}
-use Rattle.rules.specs.Questions.{under, regionOfStand, inRegion, rangeList}
+use Rattle.rules.specs.Tables.{Table, stands, placeOf, Ordered, LawfulTable}
+use Rattle.rules.specs.Questions.{under, regionOfStand, inRegion, byRegion, rangeList}
 use Rattle.rules.specs.Indexes.{orderWords, occupied, regionsUnder, entryOf}
+use Rattle.rules.proofs.Places.{region-less}
 use Rattle.trie.proofs.Tables.{under-run, under-fits}
 
 -- ---- n stands put by region ρ, of which there are m; a run of c stands from f on, and those of it in region r
@@ -129,3 +130,14 @@ module _ (t : Table) (g : Grid) (o : Ordered t) (p : List ℕ) where
     where
       inside : ℕ → Bool
       inside i = inRect b (placeOf t i)
+
+-- ---- at a lawful table, whose stands are all in one of the regions
+
+module _ (t : Table) (g : Grid) (l : LawfulTable t g) where
+  pub region-small : (i : ℕ) → i < stands t → regionOfStand g t i < regions
+  unfolding regionOfStand
+  region-small i h = region-less g (placeOf t i) (l .gridded) (l .placed i h)
+
+  -- so that putting them by region loses none and adds none
+  pub by-region-shuffle : (s : List ℕ) → ((i : ℕ) → In i s → i < stands t) → Shuffle (byRegion g t s) s
+  by-region-shuffle s small = parts-shuffle (regionOfStand g t) regions s (λ i h. region-small i (small i h))

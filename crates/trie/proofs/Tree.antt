@@ -2,13 +2,13 @@
 -- And the number of a text in a list that is strictly in order. Assumes nothing.
 use mathlib.Core.Path.{_≡_, refl, sym}
 use mathlib.Core.Logic.{_⊎_, inl, inr}
-use mathlib.Core.Bool.{Bool, true, false, not, false≢true}
-use mathlib.Core.List.{List, [], _∷_, _++_}
+use mathlib.Core.Bool.{true, false, not, false≢true}
+use mathlib.Core.List.{List, [], _∷_}
 use Prim.Native.Nat.{ℕ, zero, suc, _+_, _≤_, _<_}
 use native.Mathlib.Omega.{arith}
 use lib.ListN.{length, take, getD, length-take}
 use lib.Seq.{take-take}
-use Rattle.base.specs.Lists.{fromOn, each, begins, sameList, In, Pairwise}
+use Rattle.base.specs.Lists.{fromOn, each, begins, sameList, In}
 use Rattle.base.proofs.Tests.{which, never}
 use Rattle.base.proofs.Members.{in-left, in-right, in-either, getD-in, in-each}
 use Rattle.base.proofs.Runs.{in-from}

@@ -14,6 +14,9 @@ use Rattle.rules.specs.declared.Grid.{Grid}
 use Rattle.rules.specs.Tables.{Table}
 use Rattle.rules.specs.Indexes.{beginnings, nodeCount, nodeRow, nodeWords, regionsUnder, Entry, entryOf, ahead, entriesOf, entryRow, entryWords, entryCount}
 
+pub length-entries : (l : List Entry) → length (eachList entryRow l) ≡ length l * 4
+length-entries = length-rows entryRow 4 (λ e. refl)
+
 module _ (t : Table) (g : Grid) where
   -- ---- nodes
 
@@ -36,16 +39,16 @@ module _ (t : Table) (g : Grid) where
   entries-counted [] = refl
   entries-counted (q ∷ l) = omega (arith, entries-counted l, entries-length q)
 
-  words-total : (l : List (List ℕ)) → total (each (λ q. length (eachList entryRow (entriesOf t g q))) l) ≡ total (each (λ q. length (regionsUnder t g q)) l) * 4
-  words-total [] = refl
-  words-total (q ∷ l) = omega (arith, words-total l, length-rows entryRow 4 (λ e. refl) (entriesOf t g q), entries-length q)
+  pub entries-total : (l : List (List ℕ)) → total (each (λ q. length (eachList entryRow (entriesOf t g q))) l) ≡ total (each (λ q. length (regionsUnder t g q)) l) * 4
+  entries-total [] = refl
+  entries-total (q ∷ l) = omega (arith, entries-total l, length-entries (entriesOf t g q), entries-length q)
 
   pub entry-words-length : length (entryWords t g) ≡ entryCount t g * 4
   entry-words-length =
       omega (
         arith,
         length-parts (λ q. eachList entryRow (entriesOf t g q)) (beginnings t),
-        words-total (beginnings t),
+        entries-total (beginnings t),
         entries-counted (beginnings t),
       )
 
@@ -56,8 +59,8 @@ module _ (t : Table) (g : Grid) where
       let p = getD (beginnings t) j [] in
       let s = total (each (λ q. length (regionsUnder t g q)) (take j (beginnings t))) in
       let w = total (each (λ q. length (eachList entryRow (entriesOf t g q))) (take j (beginnings t))) in
-      let z : (s + e) * 4 + k ≡ w + (e * 4 + k) = omega (arith, words-total (take j (beginnings t))) in
-      let here : e * 4 + k < length (eachList entryRow (entriesOf t g p)) = omega (arith, length-rows entryRow 4 (λ e. refl) (entriesOf t g p), entries-length p) in
+      let z : (s + e) * 4 + k ≡ w + (e * 4 + k) = omega (arith, entries-total (take j (beginnings t))) in
+      let here : e * 4 + k < length (eachList entryRow (entriesOf t g p)) = omega (arith, length-entries (entriesOf t g p), entries-length p) in
       ap (λ (m : ℕ). getD (entryWords t g) m 0) z
       ∙ getD-parts (λ q. eachList entryRow (entriesOf t g q)) [] 0 (beginnings t) j (e * 4 + k) h here
       ∙ getD-rows entryRow 4 (λ e. refl) d 0 (entriesOf t g p) e k (omega (arith, entries-length p)) v

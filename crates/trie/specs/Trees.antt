@@ -1,7 +1,7 @@
 -- Trees of texts: strictly in order, and with each text its beginnings. A node is a text's place in the list.
 -- A node's children, the way along them, and the tree that a list of names makes.
 use mathlib.Core.Path.{_≡_}
-use mathlib.Core.Bool.{Bool, true, false, not}
+use mathlib.Core.Bool.{true, false, not}
 use mathlib.Core.List.{List, [], _∷_, _++_}
 use Prim.Native.Nat.{ℕ, suc, _≤_, _<_}
 use lib.ListN.{length, getD}
