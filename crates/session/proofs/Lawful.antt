@@ -4,7 +4,7 @@ use mathlib.Core.Path.{_≡_, refl, sym, ap, _∙_}
 use mathlib.Core.Logic.{_⊎_, inl, inr, ⊎-elim}
 use mathlib.Core.Bool.{Bool, true, false, cond}
 use mathlib.Core.List.{List, [], _∷_, _++_}
-use Prim.Native.Nat.{ℕ, zero, suc, _≤_, _<_}
+use Prim.Native.Nat.{ℕ, _≤_, _<_}
 use native.Mathlib.Omega.{arith}
 use lib.Dec.{ltb}
 use lib.ListN.{length}
@@ -17,6 +17,7 @@ use Rattle.rules.specs.Tables.{Table, Ordered}
 use Rattle.rules.specs.Names.{allowed}
 use Rattle.rules.specs.Indexes.{beginnings, numberIn, nodeWords}
 use Rattle.rules.specs.Sessions.{nodeOr0, sessionOf}
+use Rattle.rules.proofs.Lawful.{set-parts}
 use Rattle.trie.proofs.Tables.{beginnings-tree}
 use Rattle.trie.proofs.Walking.{node-in, node-out}
 use Rattle.walk.specs.declared.Child.the-variants.{At, Nowhere}
@@ -24,6 +25,7 @@ use Rattle.walk.specs.Walks.{node, childIn}
 use Rattle.walk.specs.Nodes.{nodeOf}
 use Rattle.walk.proofs.Lawful.{node-of-out, child-found}
 use Rattle.session.specs.Strokes.{passed, nextOn, lengthened, arrived, typedOn}
+use Rattle.session.specs.Promises.{TableOf}
 use Rattle.session.proofs.Steps.{next-nowhere, next-first, next-child, typed-arrived}
 use Rattle.session.proofs.Texts.{node-some, path-last, len-of, session-longer}
 
@@ -55,13 +57,19 @@ module _ (t : Table) (g : Grid) (nodes : List ℕ) (written : begins (nodeWords 
       next-nowhere nodes (length p) (nodeOr0 t p) b (λ z. h (root-in t p z)) (node-out t p h)
       ∙ sym (node-of-out t (p ++ (b ∷ [])) (λ m. h (beginnings-tree t o .closed p (p ++ (b ∷ [])) m (begins-append p (b ∷ [])))))
 
-  pub next-lawful : nextOn nodes (length p) (nodeOr0 t p) b ≡ nodeOf t (p ++ (b ∷ []))
+  next-lawful : nextOn nodes (length p) (nodeOr0 t p) b ≡ nodeOf t (p ++ (b ∷ []))
   next-lawful = ⊎-elim next-in next-out (in-or-out p (beginnings t))
 
-  pub typed-lawful : length p < 24 → allowed b ≡ true → typedOn nodes (sessionOf t p) b ≡ passed (sessionOf t (p ++ (b ∷ [])))
+  typed-lawful : length p < 24 → allowed b ≡ true → typedOn nodes (sessionOf t p) b ≡ passed (sessionOf t (p ++ (b ∷ [])))
   typed-lawful room h =
       typed-arrived nodes (sessionOf t p) b (omega (arith, len-of t p)) h
       ∙ ap2 (λ (k n : ℕ). arrived (sessionOf t p) b (nextOn nodes k n b)) (len-of t p) (path-last t p (omega arith))
       ∙ ap (arrived (sessionOf t p) b) next-lawful
       ∙ arrives-at t (p ++ (b ∷ [])) (sessionOf t p) b
       ∙ ap passed (session-longer t p b room)
+
+-- so on any nodes of a lawful set
+pub typed-served : (nodes : List ℕ) (t : Table) → TableOf nodes t → (p : List ℕ) (b : ℕ) → length p < 24 → allowed b ≡ true → typedOn nodes (sessionOf t p) b ≡ passed (sessionOf t (p ++ (b ∷ [])))
+typed-served nodes t of p b room h =
+    let parts = set-parts t (of .0) (of .1) (of .2) in
+    typed-lawful t (of .0) nodes (rw (of .3) at (parts .nodes)) (parts .table .ordered) p b room h

@@ -2,18 +2,23 @@
 -- Assumes nothing.
 use mathlib.Core.Path.{_≡_, refl, sym, ap, _∙_}
 use mathlib.Core.Logic.{_⊎_, inl, inr}
-use mathlib.Core.Bool.{true, false}
+use mathlib.Core.Bool.{Bool, true, false, cond}
 use mathlib.Core.List.{List, [], _∷_, _++_}
-use Prim.Native.Nat.{ℕ, zero, suc, _+_, _-_, _≤_, _<_}
+use Prim.Native.Nat.{ℕ, _-_, _≤_, _<_}
 use native.Mathlib.Omega.{arith}
 use native.Mathlib.Numerals.{add-one}
-use lib.ListN.{length, take, set}
-use lib.Seq.{length-take-le, take-take, take-set-le, take-suc-set}
+use lib.Dec.{leb}
+use lib.ListN.{length, take, drop, length-append, length-take, take-append-drop}
+use lib.Seq.{length-take-le, take-at, take-take, take-set-le, take-suc-set}
 use borrow.Author.Tests.{le-leb, lt-leb}
+use Rattle.base.specs.Lists.{all}
+use Rattle.base.proofs.Tests.{which, le-or-lt}
+use Rattle.base.proofs.Scans.{all-both, all-left}
 use Rattle.rules.specs.declared.Session.{Session}
-use Rattle.rules.specs.Names.{allowed}
+use Rattle.rules.specs.Names.{allowed, textRefusal}
 use Rattle.rules.specs.Indexes.{butLast}
-use Rattle.rules.specs.Sessions.{lettersOf, typeRefusal, rubRefusal}
+use Rattle.rules.specs.Sessions.{lettersOf, typeRefusal, lettersTyped, rubRefusal}
+use Rattle.rules.proofs.Bytes.{text-parts, text-taken}
 use Rattle.session.specs.Strokes.{lengthened, shortened}
 
 module _ (p : List ℕ) (b : ℕ) where
@@ -28,6 +33,40 @@ module _ (p : List ℕ) (b : ℕ) where
   pub type-taken : length p < 24 → allowed b ≡ true → typeRefusal p b ≡ 0
   unfolding typeRefusal
   type-taken h k = rw (lt-leb 24 (length p) h, k)
+
+-- no letters stand but allowed ones, and no more than 24
+pub typed-allowed : (p : List ℕ) (b : ℕ) → textRefusal p ≡ 0 → textRefusal (lettersTyped p b) ≡ 0
+typed-allowed p b e = step (le-or-lt 24 (length p)) (which (allowed b))
+  where
+    step : (24 ≤ length p) ⊎ (length p < 24) → (allowed b ≡ true) ⊎ (allowed b ≡ false) → textRefusal (lettersTyped p b) ≡ 0
+    step (inl h) a = rw (type-full p b h) e
+    step (inr h) (inr a) = rw (type-unallowed p b h a) e
+    step (inr h) (inl a) =
+        rw (type-taken p b h a)
+        (text-taken (p ++ (b ∷ [])) (simp length-append (omega arith)) (all-both allowed p (b ∷ []) (text-parts p e .1) (rw a)))
+
+pub rubbed-allowed : (p : List ℕ) → textRefusal p ≡ 0 → textRefusal (butLast p) ≡ 0
+rubbed-allowed p e =
+    let k = text-parts p e in
+    text-taken (butLast p) (simp length-take (omega arith))
+    (all-left allowed (butLast p) (drop (length p - 1) p) (ap (all allowed) (take-append-drop (length p - 1) p) ∙ k .1))
+
+pub rubbed-typed : (p : List ℕ) (b : ℕ) → butLast (p ++ (b ∷ [])) ≡ p
+rubbed-typed p b = take-at p (b ∷ []) (length (p ++ (b ∷ [])) - 1) (simp length-append (omega arith))
+
+-- the numbers are the rules' own: 7 is none of them
+pub type-not-seven : (p : List ℕ) (b : ℕ) → typeRefusal p b ≡ 7 → ⊥
+unfolding typeRefusal
+type-not-seven p b = step (leb 24 (length p)) (allowed b)
+  where
+    step : (full spelled : Bool) → _≡_ {A = ℕ} (cond full 9 (cond spelled 0 8)) 7 → ⊥
+    step true a e = omega arith
+    step false true e = omega arith
+    step false false e = omega arith
+
+pub rub-not-seven : (p : List ℕ) → rubRefusal p ≡ 7 → ⊥
+rub-not-seven [] e = omega arith
+rub-not-seven (a ∷ p) e = omega arith
 
 pub rub-none : (p : List ℕ) → length p ≡ 0 → (rubRefusal p ≡ 10) × (butLast p ≡ p)
 rub-none [] e = (refl, refl)

@@ -4,4 +4,5 @@ pub mod Letters
 pub mod Texts
 pub mod Lawful
 pub mod Promises
+pub mod Sessions
 pub mod Thin

@@ -9,7 +9,6 @@ use native.Mathlib.Omega.{arith}
 use lib.Dec.{eqb}
 use lib.ListN.{length, getD}
 use borrow.Author.Tests.{eqb-true, eqb-false}
-use Rattle.base.specs.Lists.{begins}
 use Rattle.base.proofs.Tests.{which, le-or-lt}
 use Rattle.rules.specs.declared.Session.{Session}
 use Rattle.rules.specs.Numbers.{verdictNumber}
@@ -17,7 +16,6 @@ use Rattle.rules.specs.Names.{allowed}
 use Rattle.rules.specs.Tables.{Table}
 use Rattle.rules.specs.Sessions.{sessionOf, lettersOf, LawfulSession, typeRefusal, lettersTyped, rubRefusal, lettersRubbed}
 use Rattle.rules.proofs.Bytes.{text-parts}
-use Rattle.rules.proofs.Lawful.{set-parts}
 use Rattle.walk.specs.declared.Child.{Child}
 use Rattle.walk.specs.declared.Child.the-variants.{At, Nowhere, Broken}
 use Rattle.session.specs.declared.Stroke.{Stroke}
@@ -26,7 +24,7 @@ use Rattle.session.specs.Promises.{TableOf, TypePromise, RubPromise}
 use Rattle.session.proofs.Steps.{typed-over, typed-full, typed-unallowed, typed-arrived, rubbed-over, rubbed-none, rubbed-last}
 use Rattle.session.proofs.Letters.{type-full, type-unallowed, type-taken, rub-none, rub-some, letters-count, letters-longer, letters-shorter}
 use Rattle.session.proofs.Texts.{len-of, session-shorter}
-use Rattle.session.proofs.Lawful.{typed-lawful}
+use Rattle.session.proofs.Lawful.{typed-served}
 
 -- what a promise says of a stroke on any words
 abbrev Harmless : (List ℕ → ℕ) → (List ℕ → List ℕ) → Session → Stroke → Type 0
@@ -92,10 +90,7 @@ module _ (nodes : List ℕ) (s : Session) (b : ℕ) where
     type-lawful (unallowed h a) = rw (typed-unallowed nodes s b h a, type-unallowed (lettersOf s) b (omega (arith, lawful-len t s l)) a) (refl, l .same)
     type-lawful (open-to h a) =
         let room : length (lettersOf s) < 24 = omega (arith, lawful-len t s l) in
-        let parts = set-parts t (of .0) (of .1) (of .2) in
-        let e : out ≡ passed (sessionOf t (lettersOf s ++ (b ∷ []))) =
-        ap (λ (u : Session). typedOn nodes u b) (l .same) ∙ typed-lawful t (of .0) nodes (rw (of .3) at (parts .nodes)) (parts .table .ordered) (lettersOf s) b room a
-        in
+        let e : out ≡ passed (sessionOf t (lettersOf s ++ (b ∷ []))) = ap (λ (u : Session). typedOn nodes u b) (l .same) ∙ typed-served nodes t of (lettersOf s) b room a in
         rw (e, type-taken (lettersOf s) b room a) (refl, refl)
 
 pub type-keeps : (nodes : List ℕ) (s : Session) (b : ℕ) → length (s .text) ≡ 24 → TypePromise nodes b s (typedOn nodes s b .session) (typedOn nodes s b .verdict)

@@ -13,11 +13,13 @@ use Rattle.rules.specs.Tables.{Table}
 use Rattle.rules.specs.Indexes.{Index, setLawful}
 use Rattle.rules.specs.Sessions.{sessionOf, lettersOf, LawfulSession, typeRefusal, lettersTyped, rubRefusal, lettersRubbed}
 
--- s and s′ are the session before and after, v is what is answered; `refusal` and `letters` are the rules' for the letters that stood,
--- and Served says for which tables the keystroke has the nodes
+-- s and s′ are the session before and after, v is what is answered. `refusal` and `letters` are the rules' number and new letters for the letters
+-- that stood, and Served t says that the keystroke was lent the nodes of table t
 pub record KeyPromise (refusal : List ℕ → ℕ) (letters : List ℕ → List ℕ) (Served : Table → Type 0) (s s′ : Session) (v : Verdict) : Type 0 where
   pub lawful : (t : Table) → Served t → LawfulSession t s → (verdictNumber v ≡ refusal (lettersOf s)) × (s′ ≡ sessionOf t (letters (lettersOf s)))
+  -- 7, or as the rules say of whatever letters stand there
   pub harmless : (verdictNumber v ≡ 7) ⊎ ((verdictNumber v ≡ refusal (lettersOf s)) × (lettersOf s′ ≡ letters (lettersOf s)))
+  -- a refused one alters nothing
   pub kept : (verdictNumber v ≡ 0 → ⊥) → s′ ≡ s
 
 -- t is the table of a lawful set that has these nodes

@@ -1,6 +1,6 @@
 -- A keystroke as the code makes it, on any words and any session.
 use mathlib.Core.Bool.{cond, not, _&&_}
-use mathlib.Core.List.{List}
+use mathlib.Core.List.{List, [], _∷_}
 use Prim.Native.Nat.{ℕ, _+_, _-_}
 use lib.Dec.{eqb, ltb}
 use lib.ListN.{set, getD}
@@ -49,3 +49,8 @@ rubbedOut s =
     cond (ltb 24 (s .len)) (refused NotLawful s)
     (cond (eqb (s .len) 0) (refused NothingToRubOut s)
     (passed (shortened s)))
+
+-- a whole text typed, letter by letter
+abbrev pub typedAll : List ℕ → Session → List ℕ → Session
+typedAll nodes s [] = s
+typedAll nodes s (b ∷ p) = typedAll nodes (typedOn nodes s b .session) p

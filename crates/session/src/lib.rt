@@ -54,6 +54,7 @@ fn lengthened(session: Session, byte: u8, node: u32) -> Session
     longer
 }
 
+// A letter typed, by value: one look among the children of the last letter's node, however long the text. The letter is kept where nothing matches.
 pub fn typed(nodes: &[u32], session: Session, byte: u8) -> Stroke
     ensures { λ r. ⌜ r ≡ typedOn (now (nodes .entry)) session byte ⌝ }
 {
@@ -79,6 +80,7 @@ pub fn typed(nodes: &[u32], session: Session, byte: u8) -> Stroke
     }
 }
 
+// The last letter rubbed out, by value. Its places are 0 again, as behind any text.
 pub fn rubbed_out(session: Session) -> Stroke
     ensures { λ r. ⌜ r ≡ rubbedOut session ⌝ }
 {
@@ -99,7 +101,7 @@ pub fn rubbed_out(session: Session) -> Stroke
     }
 }
 
-// A letter typed into the session that is lent.
+// A letter typed into the session that is lent. The record is rewritten whole, so that the step by value has all the branches.
 pub fn type_byte(nodes: &[u32], session: &mut Session, byte: u8) -> Verdict
     ensures { λ r. ⌜ TypePromise (now (nodes .entry)) byte (now (session .entry)) (now (session .exit)) r ⌝ }
 {
