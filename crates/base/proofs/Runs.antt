@@ -8,11 +8,12 @@ use Prim.Native.Nat.{ℕ, zero, suc, _+_, _-_, _≤_, _<_}
 use native.Mathlib.Omega.{arith}
 use native.Mathlib.Nat.{add-suc, add-zero, zero-add, suc-add}
 use lib.Dec.{eqb}
-use lib.ListN.{length, getD}
+use lib.ListN.{length, getD, set, replicate, length-set}
+use lib.Seq.{getD-set-same, getD-set-other, ext-getD}
 use borrow.Author.Tests.{eqb-true, eqb-false}
 use Rattle.base.specs.Lists.{fromOn, upTo, keep, each, firstOf, In}
 use Rattle.base.proofs.Tests.{which, never}
-use Rattle.base.proofs.Members.{keep-none}
+use Rattle.base.proofs.Members.{keep-none, length-each}
 
 pub length-from : (a n : ℕ) → length (fromOn a n) ≡ n
 length-from a zero = refl
@@ -62,6 +63,30 @@ pub getD-each-from : {B : Type 0} (g : ℕ → B) (a n k : ℕ) (d : B) → k < 
 getD-each-from g a zero k d h = absurd (omega arith)
 getD-each-from g a (suc n) zero d h = ap g (omega arith)
 getD-each-from g a (suc n) (suc k) d h = let e : suc a + k ≡ a + suc k = omega arith in getD-each-from g (suc a) n k d (omega arith) ∙ ap g e
+
+-- what lists the same everywhere
+pub each-constant : {B : Type 0} (g : ℕ → B) (v : B) → ((i : ℕ) → g i ≡ v) → (a n : ℕ) → each g (fromOn a n) ≡ replicate n v
+each-constant g v h a zero = refl
+each-constant g v h a (suc n) = rw (h a, each-constant g v h (suc a) n)
+
+-- one place of a listing set anew: what is listed then agrees with what was listed, but for that place
+pub set-each : {B : Type 0} (f g : ℕ → B) (n k : ℕ) (v : B) → v ≡ g k → ((i : ℕ) → (i ≡ k → ⊥) → f i ≡ g i) → set (each f (upTo n)) k v ≡ each g (upTo n)
+set-each {B} f g n k v here other = ext-getD v (set (each f (upTo n)) k v) (each g (upTo n)) sized (λ i h. place i (omega (arith, length-set (each f (upTo n)) k v, counted f)) (which (eqb i k)))
+  where
+    counted : (h : ℕ → B) → length (each h (upTo n)) ≡ n
+    counted h = length-each h (upTo n) ∙ length-from 0 n
+
+    sized : length (set (each f (upTo n)) k v) ≡ length (each g (upTo n))
+    sized = length-set (each f (upTo n)) k v ∙ counted f ∙ sym (counted g)
+
+    listed : (h : ℕ → B) (i : ℕ) → i < n → getD (each h (upTo n)) i v ≡ h i
+    listed h i l = let z : 0 + i ≡ i = omega arith in getD-each-from h 0 n i v l ∙ ap h z
+
+    place : (i : ℕ) → i < n → (eqb i k ≡ true) ⊎ (eqb i k ≡ false) → getD (set (each f (upTo n)) k v) i v ≡ getD (each g (upTo n)) i v
+    place i l (inl q) =
+        let e = eqb-true i k q in
+        ap (λ (m : ℕ). getD (set (each f (upTo n)) k v) m v) e ∙ getD-set-same (each f (upTo n)) k v v (omega (arith, counted f)) ∙ here ∙ ap g (sym e) ∙ sym (listed g i l)
+    place i l (inr q) = getD-set-other (each f (upTo n)) k i v v (eqb-false i k q) ∙ listed f i l ∙ other i (eqb-false i k q) ∙ sym (listed g i l)
 
 module _ (f : ℕ → Bool) (e : ℕ) where
   keep-down : (a n : ℕ) → a + n ≡ e → ((i k : ℕ) → a ≤ i → i ≤ k → k < e → f k ≡ true → f i ≡ true) → keep f (fromOn a n) ≡ fromOn a (length (keep f (fromOn a n)))

@@ -3,7 +3,7 @@
 use Prim.Native.Nat.{ℕ, zero, suc, _+_, _-_, _≤_, _<_}
 use mathlib.Core.Path.{_≡_, refl, _∙_}
 use mathlib.Core.Bool.{Bool, true, false, _&&_}
-use mathlib.Core.List.{List, [], _∷_}
+use mathlib.Core.List.{List, [], _∷_, _++_}
 use mathlib.Core.Logic.{⊎-elim}
 use native.Mathlib.Numerals.{add-one}
 use native.Mathlib.Omega.{arith}
@@ -12,7 +12,7 @@ use lib.Dec.{ltb}
 use lib.ListN.{length, getD, drop, drop-of-length-le}
 use lib.Seq.{drop-cons}
 use Rattle.base.specs.Lists.{all, fromOn, upTo}
-use Rattle.base.proofs.Tests.{which, and-left, and-right}
+use Rattle.base.proofs.Tests.{which, and-left, and-right, and-parts}
 
 module _ (p : ℕ → Bool) where
   all-from : (a n k : ℕ) → all p (fromOn a n) ≡ true → a ≤ k → k < a + n → p k ≡ true
@@ -34,6 +34,16 @@ module _ (p : ℕ → Bool) where
   -- what holds of each number below n holds of every one
   pub all-of : (n : ℕ) → ((k : ℕ) → k < n → p k ≡ true) → all p (upTo n) ≡ true
   all-of n h = of-each 0 n (λ k l u. h k (omega arith))
+
+-- of two lists, one after the other
+module _ {A : Type 0} (p : A → Bool) where
+  pub all-both : (s t : List A) → all p s ≡ true → all p t ≡ true → all p (s ++ t) ≡ true
+  all-both [] t h k = k
+  all-both (x ∷ s) t h k = let r = and-parts (p x) (all p s) h in rw (r .0) (all-both s t (r .1) k)
+
+  pub all-left : (s t : List A) → all p (s ++ t) ≡ true → all p s ≡ true
+  all-left [] t h = refl
+  all-left (x ∷ s) t h = let r = and-parts (p x) (all p (s ++ t)) h in rw (r .0) (all-left s t (r .1))
 
 pub record Scanning (p : ℕ → Bool) (n i : ℕ) : Type 0 where
   pub within : i ≤ n

@@ -1,19 +1,36 @@
--- The byte rule, range by range, and names whose length is allowed.
+-- The byte rule, range by range; names whose length is allowed, and typed texts that are not refused.
 -- Assumes nothing.
 use mathlib.Core.Path.{_≡_}
+use mathlib.Core.Logic.{_⊎_, inl, inr}
 use mathlib.Core.Bool.{true, false}
 use mathlib.Core.List.{List}
 use Prim.Native.Nat.{ℕ, _≤_, _<_}
 use native.Mathlib.Omega.{arith}
+use lib.Dec.{ltb}
 use lib.ListN.{length}
-use borrow.Author.Tests.{lt-leb, le-leb, ne-eqb}
+use borrow.Author.Tests.{ltb-false, le-ltb, lt-leb, le-leb, ne-eqb}
 use Rattle.base.specs.Lists.{all, every}
-use Rattle.base.proofs.Tests.{and-true}
-use Rattle.rules.specs.Names.{allowed, nameAllowed}
+use Rattle.base.proofs.Tests.{which, and-true}
+use Rattle.rules.specs.Names.{allowed, nameAllowed, textRefusal}
 
 pub name-bytes : (n : List ℕ) → 1 ≤ length n → length n ≤ 24 → nameAllowed n ≡ all allowed n
 unfolding nameAllowed every
 name-bytes n h k = rw (le-leb _ _ h, le-leb _ _ k) (and-true (all allowed n))
+
+-- a typed text that is not refused
+module _ (p : List ℕ) where
+  pub text-parts : textRefusal p ≡ 0 → (length p ≤ 24) × (all allowed p ≡ true)
+  unfolding textRefusal
+  text-parts e = step (which (ltb 24 (length p))) (which (all allowed p))
+    where
+      step : (ltb 24 (length p) ≡ true) ⊎ (ltb 24 (length p) ≡ false) → (all allowed p ≡ true) ⊎ (all allowed p ≡ false) → (length p ≤ 24) × (all allowed p ≡ true)
+      step (inl h) k = let z : _≡_ {A = ℕ} 9 0 = rw h at e in absurd (omega arith)
+      step (inr h) (inl k) = (ltb-false 24 (length p) h, k)
+      step (inr h) (inr k) = let z : _≡_ {A = ℕ} 8 0 = rw (h, k) at e in absurd (omega arith)
+
+  pub text-taken : length p ≤ 24 → all allowed p ≡ true → textRefusal p ≡ 0
+  unfolding textRefusal
+  text-taken h k = rw (le-ltb 24 (length p) h, k)
 
 -- the byte rule, range by range
 module _ (b : ℕ) where

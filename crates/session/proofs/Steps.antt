@@ -1,0 +1,67 @@
+-- A keystroke's outcomes, each by the tests that lead to it, on any words and any session.
+-- Assumes nothing.
+use mathlib.Core.Path.{_≡_}
+use mathlib.Core.Bool.{true, false, not}
+use mathlib.Core.List.{List}
+use Prim.Native.Nat.{ℕ, _<_, _≤_}
+use native.Mathlib.Omega.{arith}
+use lib.Dec.{eqb}
+use lib.ListN.{getD}
+use borrow.Author.Tests.{lt-ltb, le-ltb, eq-eqb, ne-eqb}
+use Rattle.base.proofs.Tests.{and-false}
+use Rattle.rules.specs.declared.Session.{Session}
+use Rattle.rules.specs.declared.Refusal.the-variants.{NotLawful, TextByteNotAllowed, TextTooLong, NothingToRubOut}
+use Rattle.rules.specs.Names.{allowed}
+use Rattle.walk.specs.declared.Child.the-variants.{Nowhere}
+use Rattle.walk.specs.Walks.{childIn}
+use Rattle.session.specs.Strokes.{passed, refused, nextOn, shortened, arrived, typedOn, rubbedOut}
+
+-- ---- where one more letter leads
+
+module _ (nodes : List ℕ) (letters last b : ℕ) where
+  pub next-nowhere : (letters ≡ 0 → ⊥) → last ≡ 0 → nextOn nodes letters last b ≡ Nowhere
+  unfolding nextOn
+  next-nowhere some gone = rw (ne-eqb letters 0 some, eq-eqb last 0 gone)
+
+  pub next-first : letters ≡ 0 → nextOn nodes letters last b ≡ childIn nodes last b
+  unfolding nextOn
+  next-first none = rw (eq-eqb letters 0 none)
+
+  pub next-child : (last ≡ 0 → ⊥) → nextOn nodes letters last b ≡ childIn nodes last b
+  unfolding nextOn
+  next-child on = rw (ne-eqb last 0 on, and-false (not (eqb letters 0)))
+
+-- ---- typing
+
+module _ (nodes : List ℕ) (s : Session) (b : ℕ) where
+  pub typed-over : 24 < s .len → typedOn nodes s b ≡ refused NotLawful s
+  unfolding typedOn
+  typed-over h = rw (lt-ltb 24 (s .len) h)
+
+  pub typed-full : s .len ≡ 24 → typedOn nodes s b ≡ refused TextTooLong s
+  unfolding typedOn
+  typed-full h = rw (le-ltb 24 (s .len) (omega arith), eq-eqb (s .len) 24 h)
+
+  module _ (room : s .len < 24) where
+    pub typed-unallowed : allowed b ≡ false → typedOn nodes s b ≡ refused TextByteNotAllowed s
+    unfolding typedOn
+    typed-unallowed h = rw (le-ltb 24 (s .len) (omega arith), ne-eqb (s .len) 24 (λ e. omega arith), h)
+
+    pub typed-arrived : allowed b ≡ true → typedOn nodes s b ≡ arrived s b (nextOn nodes (s .len) (getD (s .path) (s .len) 0) b)
+    unfolding typedOn
+    typed-arrived h = rw (le-ltb 24 (s .len) (omega arith), ne-eqb (s .len) 24 (λ e. omega arith), h)
+
+-- ---- rubbing out
+
+module _ (s : Session) where
+  pub rubbed-over : 24 < s .len → rubbedOut s ≡ refused NotLawful s
+  unfolding rubbedOut
+  rubbed-over h = rw (lt-ltb 24 (s .len) h)
+
+  pub rubbed-none : s .len ≡ 0 → rubbedOut s ≡ refused NothingToRubOut s
+  unfolding rubbedOut
+  rubbed-none h = rw (le-ltb 24 (s .len) (omega arith), eq-eqb (s .len) 0 h)
+
+  pub rubbed-last : s .len ≤ 24 → (s .len ≡ 0 → ⊥) → rubbedOut s ≡ passed (shortened s)
+  unfolding rubbedOut
+  rubbed-last h k = rw (le-ltb 24 (s .len) h, ne-eqb (s .len) 0 k)

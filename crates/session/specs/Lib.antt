@@ -1,0 +1,3 @@
+-- What a keystroke computes, on any words; and what it promises.
+pub mod Strokes
+pub mod Promises

@@ -1,0 +1,56 @@
+-- A keystroke as the code makes it, on any words and any session.
+use mathlib.Core.Bool.{cond, not, _&&_}
+use mathlib.Core.List.{List, [], _∷_}
+use Prim.Native.Nat.{ℕ, _+_, _-_}
+use lib.Dec.{eqb, ltb}
+use lib.ListN.{set, getD}
+use Rattle.rules.specs.declared.Session.{Session}
+use Rattle.rules.specs.declared.Refusal.{Refusal}
+use Rattle.rules.specs.declared.Refusal.the-variants.{NotLawful, TextByteNotAllowed, TextTooLong, NothingToRubOut}
+use Rattle.rules.specs.declared.Verdict.the-variants.{Passed, Refused}
+use Rattle.rules.specs.Names.{allowed}
+use Rattle.walk.specs.declared.Child.{Child}
+use Rattle.walk.specs.declared.Child.the-variants.{At, Nowhere, Broken}
+use Rattle.walk.specs.Walks.{childIn}
+use Rattle.session.specs.declared.Stroke.{Stroke}
+
+abbrev pub passed : Session → Stroke
+passed s = record { verdict = Passed; session = s }
+
+abbrev pub refused : Refusal → Session → Stroke
+refused why s = record { verdict = Refused why; session = s }
+
+-- where one more letter leads from the node of the letters so far; a 0 past some letters says that they led nowhere, and none leads on from there
+unfoldable pub nextOn : List ℕ → ℕ → ℕ → ℕ → Child
+nextOn nodes letters last b = cond (not (eqb letters 0) && eqb last 0) Nowhere (childIn nodes last b)
+
+-- a letter more and a letter less, with its place of the path
+unfoldable pub lengthened : Session → ℕ → ℕ → Session
+lengthened s b n = record { text = set (s .text) (s .len) b; len = s .len + 1; path = set (s .path) (s .len + 1) n }
+
+unfoldable pub shortened : Session → Session
+shortened s = record { text = set (s .text) (s .len - 1) 0; len = s .len - 1; path = set (s .path) (s .len) 0 }
+
+-- the letter is kept where it leads nowhere too; broken words are refused
+abbrev pub arrived : Session → ℕ → Child → Stroke
+arrived s b (At n) = passed (lengthened s b (n .0))
+arrived s b Nowhere = passed (lengthened s b 0)
+arrived s b Broken = refused NotLawful s
+
+unfoldable pub typedOn : List ℕ → Session → ℕ → Stroke
+typedOn nodes s b =
+    cond (ltb 24 (s .len)) (refused NotLawful s)
+    (cond (eqb (s .len) 24) (refused TextTooLong s)
+    (cond (not (allowed b)) (refused TextByteNotAllowed s)
+    (arrived s b (nextOn nodes (s .len) (getD (s .path) (s .len) 0) b))))
+
+unfoldable pub rubbedOut : Session → Stroke
+rubbedOut s =
+    cond (ltb 24 (s .len)) (refused NotLawful s)
+    (cond (eqb (s .len) 0) (refused NothingToRubOut s)
+    (passed (shortened s)))
+
+-- a whole text typed, letter by letter
+abbrev pub typedAll : List ℕ → Session → List ℕ → Session
+typedAll nodes s [] = s
+typedAll nodes s (b ∷ p) = typedAll nodes (typedOn nodes s b .session) p

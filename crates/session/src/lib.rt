@@ -1,0 +1,120 @@
+// Keystrokes: a letter typed or rubbed out, by value and on the one session record that a caller lends.
+// Nothing is asked of session and nodes: on any words a keystroke ends, reads nothing outside them, and a refused one alters nothing.
+use rules::Node;
+use rules::Refusal;
+use rules::Session;
+use rules::Stand;
+use rules::Verdict;
+use table::names::allowed;
+use walk::Child;
+use walk::child_of;
+ghost use mathlib.Core.Path.{_≡_};
+ghost use Prim.Native.Nat.{_<_};
+ghost use Rattle.session.specs.Promises.{TypePromise, RubPromise};
+ghost use Rattle.session.specs.Strokes.{refused, nextOn, lengthened, typedOn, rubbedOut};
+
+// What a keystroke comes to: whether it is taken, and the session after it, which is the old one where it is not.
+pub struct Stroke {
+    pub verdict: Verdict,
+    pub session: Session,
+}
+
+impl Stroke {
+    fn refused(why: Refusal, session: Session) -> Stroke
+        ensures { λ r. ⌜ r ≡ refused why session ⌝ }
+    {
+        Stroke {
+            verdict: Verdict::Refused(why),
+            session,
+        }
+    }
+}
+
+// Where one more letter leads from the node of the letters so far. The root is node 0 too, so a 0 after some letters says that they led nowhere,
+// and from there no letter leads on.
+fn next(nodes: &[u32], letters: usize, last: Node, byte: u8) -> Child
+    ensures { λ r. ⌜ r ≡ nextOn (now (nodes .entry)) letters (last .0) byte ⌝ }
+{
+    if letters != 0 && last.0 == 0 {
+        return Child::Nowhere;
+    }
+    child_of(nodes, last, byte)
+}
+
+// The session with one letter more, which leads to this node.
+fn lengthened(session: Session, byte: u8, node: u32) -> Session
+    requires { ⌜ session .len < 24 ⌝ }
+    ensures { λ r. ⌜ r ≡ lengthened session byte node ⌝ }
+{
+    let len = session.len as usize;
+    let mut longer = session;
+    longer.text[len] = byte;
+    longer.path[len + 1] = node;
+    longer.len = session.len + 1;
+    longer
+}
+
+// A letter typed, by value: one look among the children of the last letter's node, however long the text. The letter is kept where nothing matches.
+pub fn typed(nodes: &[u32], session: Session, byte: u8) -> Stroke
+    ensures { λ r. ⌜ r ≡ typedOn (now (nodes .entry)) session byte ⌝ }
+{
+    let len = session.len as usize;
+    if Stand::NAME_MOST < len {
+        return Stroke::refused(Refusal::NotLawful, session);
+    }
+    if len == Stand::NAME_MOST {
+        return Stroke::refused(Refusal::TextTooLong, session);
+    }
+    if !allowed(byte) {
+        return Stroke::refused(Refusal::TextByteNotAllowed, session);
+    }
+    let last = session.path[len];
+    let node = match next(nodes, len, Node(last), byte) {
+        Child::At(node) => node.0,
+        Child::Nowhere => 0,
+        Child::Broken => return Stroke::refused(Refusal::NotLawful, session),
+    };
+    Stroke {
+        verdict: Verdict::Passed,
+        session: lengthened(session, byte, node),
+    }
+}
+
+// The last letter rubbed out, by value. Its places are 0 again, as behind any text.
+pub fn rubbed_out(session: Session) -> Stroke
+    ensures { λ r. ⌜ r ≡ rubbedOut session ⌝ }
+{
+    let len = session.len as usize;
+    if Stand::NAME_MOST < len {
+        return Stroke::refused(Refusal::NotLawful, session);
+    }
+    if len == 0 {
+        return Stroke::refused(Refusal::NothingToRubOut, session);
+    }
+    let mut shorter = session;
+    shorter.text[len - 1] = 0;
+    shorter.path[len] = 0;
+    shorter.len = session.len - 1;
+    Stroke {
+        verdict: Verdict::Passed,
+        session: shorter,
+    }
+}
+
+// A letter typed into the session that is lent. The record is rewritten whole, so that the step by value has all the branches.
+pub fn type_byte(nodes: &[u32], session: &mut Session, byte: u8) -> Verdict
+    ensures { λ r. ⌜ TypePromise (now (nodes .entry)) byte (now (session .entry)) (now (session .exit)) r ⌝ }
+{
+    let out = typed(nodes, *session, byte);
+    *session = out.session;
+    out.verdict
+}
+
+// The last letter of the session that is lent, rubbed out.
+pub fn rub_out(session: &mut Session) -> Verdict
+    ensures { λ r. ⌜ RubPromise (now (session .entry)) (now (session .exit)) r ⌝ }
+{
+    let out = rubbed_out(*session);
+    *session = out.session;
+    out.verdict
+}
