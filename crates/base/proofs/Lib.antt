@@ -8,3 +8,5 @@ pub mod Words
 pub mod Shuffles
 pub mod Sorts
 pub mod Machine
+pub mod Sums
+pub mod Settling
