@@ -1,0 +1,3 @@
+-- Laws of the models, and the loops over plain lists: begin, step, end.
+pub mod Ends
+pub mod Held

@@ -1,0 +1,3 @@
+// The words of an index, reckoned from a table's columns.
+pub mod cursor;
+pub mod tally;
