@@ -4,8 +4,8 @@ use mathlib.Core.Bool.{Bool, true, not, cond}
 use mathlib.Core.List.{List, [], _∷_}
 use Prim.Native.Nat.{ℕ, suc, _+_, _-_, _≤_, _<_}
 use lib.Dec.{eqb, ltb}
-use lib.ListN.{length, drop, getD}
-use Rattle.base.specs.Lists.{fromOn, upTo, keep, each, total, largest, isEmpty, sortBy}
+use lib.ListN.{length, take, drop, getD}
+use Rattle.base.specs.Lists.{fromOn, upTo, keep, each, total, largest, isEmpty, sortBy, leads}
 use Rattle.base.specs.Bits.{wordOf}
 use Rattle.rules.specs.Places.{regions}
 use Rattle.rules.specs.Indexes.{Entry, ahead}
@@ -106,3 +106,15 @@ pub record Tallied (region score next s places best : List ℕ) (bits : ℕ) : T
   pub most : (r : ℕ) → r < 64 → heldIn region s r ≡ true → at best r ≡ largest (each (at score) (standsIn region r s))
   pub places-size : Slots places
   pub best-size : Slots best
+
+-- regions in the order of their entries: a larger score first, of equal ones the smaller region
+abbrev pub byBest : List ℕ → ℕ → ℕ → Bool
+byBest best = leads (at best) (λ r. r)
+
+-- the first so many of the ranked regions are the regions l in that order
+pub record Ranks (best l ranked : List ℕ) (held : ℕ) : Type 0 where
+  pub order : take held ranked ≡ sortBy (byBest best) l
+  pub count : held ≡ length l
+  pub few : held ≤ 64
+  pub small : (k : ℕ) → k < held → at ranked k < 64
+  pub size : Slots ranked
