@@ -4,3 +4,4 @@ pub mod Held
 pub mod Ranking
 pub mod Placing
 pub mod Steps
+pub mod Overs

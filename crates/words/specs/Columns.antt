@@ -107,6 +107,14 @@ pub record Tallied (region score next s places best : List ℕ) (bits : ℕ) : T
   pub places-size : Slots places
   pub best-size : Slots best
 
+-- region r's entry, read from the slots
+abbrev pub entryFrom : List ℕ → List ℕ → List ℕ → ℕ → Entry
+entryFrom best next places r = record { region = r; score = at best r; first = at next r; past = at places r }
+
+-- the entries of the first so many ranked regions
+unfoldable pub entriesFrom : List ℕ → List ℕ → List ℕ → List ℕ → ℕ → List Entry
+entriesFrom best next places ranked held = each (entryFrom best next places) (take held ranked)
+
 -- regions in the order of their entries: a larger score first, of equal ones the smaller region
 abbrev pub byBest : List ℕ → ℕ → ℕ → Bool
 byBest best = leads (at best) (λ r. r)
