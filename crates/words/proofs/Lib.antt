@@ -5,3 +5,4 @@ pub mod Ranking
 pub mod Placing
 pub mod Steps
 pub mod Overs
+pub mod Orders

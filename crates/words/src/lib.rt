@@ -1,5 +1,6 @@
 // The words of an index, reckoned from a table's columns.
 pub mod cursor;
+pub mod order;
 pub mod ranks;
 pub mod rooms;
 pub mod tally;
