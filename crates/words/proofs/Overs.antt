@@ -14,7 +14,7 @@ use Rattle.base.specs.Lists.{each, eachList, begins}
 use Rattle.rules.specs.Indexes.{Entry, entryRow}
 use Rattle.base.proofs.Members.{length-each, each-take, getD-each, eachList-append}
 use Rattle.base.proofs.Begins.{begins-parts}
-use Rattle.words.specs.Columns.{at, Slots, entryFrom, entriesFrom}
+use Rattle.node.specs.Columns.{at, Slots, entryFrom, entriesFrom}
 use Rattle.words.specs.Over.{over}
 use Rattle.words.specs.Words.{entryRows}
 

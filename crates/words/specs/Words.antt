@@ -8,8 +8,8 @@ use lib.ListN.{length}
 use Rattle.base.specs.Lists.{each, eachList, total}
 use Rattle.base.specs.Bits.{wordOf}
 use Rattle.rules.specs.Indexes.{Entry, entryRow}
-use Rattle.words.specs.Columns.{Columns, at, endOf, span, grownOf, heldIn, regionsIn, entriesIn}
-use Rattle.words.specs.Visits.{Visit, visitsFrom, numberAt, placesAt}
+use Rattle.node.specs.Columns.{Columns, at, endOf, span, grownOf, heldIn, regionsIn, entriesIn}
+use Rattle.node.specs.Visits.{Visit, visitsFrom, numberAt, placesAt}
 
 -- a node's last byte, its parent's number, and the number past its subtree; of the root 0, 0 and the number of nodes
 abbrev pub lastOf : List ℕ → List ℕ → ℕ → ℕ → ℕ

@@ -1,6 +1,3 @@
 // The words of an index, reckoned from a table's columns.
-pub mod cursor;
 pub mod order;
-pub mod ranks;
 pub mod rooms;
-pub mod tally;

@@ -4,7 +4,7 @@ ghost use Prim.Native.Nat.{ℕ, _+_, _*_, _≤_, _<_};
 ghost use lib.ListN.{length, drop, getD};
 ghost use Rattle.base.specs.Lists.{begins};
 ghost use Rattle.rules.specs.Indexes.{entryRow};
-ghost use Rattle.words.specs.Columns.{Slots, entryFrom, entriesFrom};
+ghost use Rattle.node.specs.Columns.{Slots, entryFrom, entriesFrom};
 ghost use Rattle.words.specs.Over.{over};
 ghost use Rattle.words.specs.Words.{entryRows};
 

@@ -5,7 +5,7 @@ use mathlib.Core.Path.{sym, ap, _∙_}
 use Prim.Native.Nat.{_-_}
 use lib.ListN.{length}
 use borrow.Author.Tests.{not-true, not-false}
-use Rattle.words.specs.Columns.{entriesFrom}
+use Rattle.node.specs.Columns.{entriesFrom}
 use Rattle.words.proofs.Overs.{Comparing, comparing, slots-not, slots-same, slots-all}
 use Rattle.words.proofs.rooms.has_entries.Statement.{statement}
 use Rattle.words.proofs.rooms.has_entries.Tie as tie

@@ -4,7 +4,7 @@ use native.Mathlib.Omega.{arith}
 use mathlib.Core.Path.{ap}
 use Prim.Native.Nat.{_-_}
 use lib.ListN.{length}
-use Rattle.words.specs.Columns.{entriesFrom}
+use Rattle.node.specs.Columns.{entriesFrom}
 use Rattle.words.proofs.Overs.{Entering, entering, slots-more, slots-end}
 use Rattle.words.proofs.rooms.put_entries.Statement.{statement}
 use Rattle.words.proofs.rooms.put_entries.Tie as tie
