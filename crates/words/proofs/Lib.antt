@@ -1,3 +1,4 @@
 -- Laws of the models, and the loops over plain lists: begin, step, end.
 pub mod Overs
 pub mod Orders
+pub mod Turns

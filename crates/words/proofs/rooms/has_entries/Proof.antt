@@ -1,10 +1,10 @@
 -- `words::rooms::has_entries` meets its contract: the loop's invariant is `Comparing`, whose laws are of proofs/Overs.antt. Assumes nothing.
 use borrow.Author.Needs.{needs}
 use native.Mathlib.Omega.{arith}
-use mathlib.Core.Path.{sym, ap, _∙_}
+use mathlib.Core.Path.{ap}
 use Prim.Native.Nat.{_-_}
 use lib.ListN.{length}
-use borrow.Author.Tests.{not-true, not-false}
+use Rattle.base.proofs.Tests.{breaks, holds}
 use Rattle.node.specs.Columns.{entriesFrom}
 use Rattle.words.proofs.Overs.{Comparing, comparing, slots-not, slots-same, slots-all}
 use Rattle.words.proofs.rooms.has_entries.Statement.{statement}
@@ -41,7 +41,7 @@ has-words-requires : tie.Need-has-words-requires Inv-loop μ-loop
 has-words-requires c κs = (omega arith, omega (arith, ap length (c .before .entry-row .ensures)))
 
 returns : tie.Need-returns Inv-loop μ-loop
-returns c = slots-not _ _ _ _ _ (c .before .before .before .before .before .before .before .before .pre .0) (c .before .before .before .before .before .before .before .before .pre .1) _ _ _ (c .before .before .before .before .before .before .loop .inv) _ (c .before .before .before .before .before .loop-test .taken) (c .before .before .before .entry-row .ensures) (sym (c .before .has-words .ensures) ∙ not-true _ (c .if1 .taken))
+returns c = slots-not _ _ _ _ _ (c .before .before .before .before .before .before .before .before .pre .0) (c .before .before .before .before .before .before .before .before .pre .1) _ _ _ (c .before .before .before .before .before .before .loop .inv) _ (c .before .before .before .before .before .loop-test .taken) (c .before .before .before .entry-row .ensures) (breaks _ _ (c .before .has-words .ensures) (c .if1 .taken))
 
 add-k : tie.Need-add-k Inv-loop μ-loop
 add-k c = search needs
@@ -50,7 +50,7 @@ loop-less : tie.Need-loop-less Inv-loop μ-loop
 loop-less c = search needs
 
 loop-again : tie.Need-loop-again Inv-loop μ-loop
-loop-again c = slots-same _ _ _ _ _ (c .before .before .before .before .before .before .before .before .pre .0) (c .before .before .before .before .before .before .before .before .pre .1) _ _ _ (c .before .before .before .before .before .before .loop .inv) _ (c .before .before .before .before .before .loop-test .taken) (c .before .before .before .entry-row .ensures) (sym (c .before .has-words .ensures) ∙ not-false _ (c .if1 .left))
+loop-again c = slots-same _ _ _ _ _ (c .before .before .before .before .before .before .before .before .pre .0) (c .before .before .before .before .before .before .before .before .pre .1) _ _ _ (c .before .before .before .before .before .before .loop .inv) _ (c .before .before .before .before .before .loop-test .taken) (c .before .before .before .entry-row .ensures) (holds _ _ (c .before .has-words .ensures) (c .if1 .left))
 
 returns-2 : tie.Need-returns-2 Inv-loop μ-loop
 returns-2 c = slots-all _ _ _ _ _ (c .before .before .before .pre .0) (c .before .before .before .pre .1) _ _ _ (c .before .loop .inv) (c .loop-test .left)
