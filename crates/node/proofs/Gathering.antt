@@ -30,7 +30,7 @@ use Rattle.node.proofs.Placing.{regions-are}
 
 -- ---- its entries
 
-entries-held : (region score next s : List ℕ) → length (entriesIn region score next s) ≡ length (regionsIn region s)
+pub entries-held : (region score next s : List ℕ) → length (entriesIn region score next s) ≡ length (regionsIn region s)
 unfolding entriesIn
 entries-held region score next s = length-sort ahead (each (entryIn region score next s) (regionsIn region s)) ∙ length-each (entryIn region score next s) (regionsIn region s)
 

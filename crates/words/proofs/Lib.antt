@@ -2,3 +2,6 @@
 pub mod Overs
 pub mod Orders
 pub mod Turns
+pub mod Walks
+pub mod Writes
+pub mod Checks
