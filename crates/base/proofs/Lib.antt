@@ -11,3 +11,5 @@ pub mod Machine
 pub mod Pairs
 pub mod Counts
 pub mod Rows
+pub mod Sums
+pub mod Settling

@@ -4,7 +4,7 @@ use mathlib.Core.Path.{_≡_, refl, sym, ap, _∙_}
 use mathlib.Core.Logic.{_⊎_, inl, inr}
 use mathlib.Core.Bool.{Bool, true, false, not, true≢false, false≢true}
 use mathlib.Core.List.{List, [], _∷_, _++_, append-assoc}
-use Prim.Native.Nat.{ℕ, zero, suc, _≤_, _<_}
+use Prim.Native.Nat.{ℕ, zero, suc, _≤_, _<_, _+_}
 use native.Mathlib.Omega.{arith}
 use lib.Dec.{ltb}
 use lib.ListN.{length, take, getD}
@@ -184,3 +184,44 @@ largest-in (y ∷ l) h = step (largest-in l) (which (ltb y (largest l)))
     step : (not (isEmpty l) ≡ true → In (largest l) l) → (ltb y (largest l) ≡ true) ⊎ (ltb y (largest l) ≡ false) → In (largest (y ∷ l)) (y ∷ l)
     step below (inl q) = rw q (inr (below (some l (ltb-true y (largest l) q))))
     step below (inr q) = rw q (inl refl)
+
+pub length-keep : {A : Type 0} (f : A → Bool) (l : List A) → length (keep f l) ≤ length l
+length-keep f [] = omega arith
+length-keep f (y ∷ l) = step (which (f y)) (length-keep f l)
+  where
+    step : (f y ≡ true) ⊎ (f y ≡ false) → length (keep f l) ≤ length l → length (keep f (y ∷ l)) ≤ length (y ∷ l)
+    step (inl q) r = rw q (omega arith)
+    step (inr q) r = rw q (omega arith)
+
+-- two tests of which no member passes both
+pub keep-apart : {A : Type 0} (f g : A → Bool) (l : List A) → ((x : A) → f x ≡ true → g x ≡ false) → length (keep f l) + length (keep g l) ≤ length l
+keep-apart f g [] h = omega arith
+keep-apart f g (y ∷ l) h = step (which (f y)) (which (g y)) (keep-apart f g l h)
+  where
+    step : (f y ≡ true) ⊎ (f y ≡ false) → (g y ≡ true) ⊎ (g y ≡ false) → length (keep f l) + length (keep g l) ≤ length l → length (keep f (y ∷ l)) + length (keep g (y ∷ l)) ≤ length (y ∷ l)
+    step (inl a) b r = rw (a, h y a) (omega arith)
+    step (inr a) (inl b) r = rw (a, b) (omega arith)
+    step (inr a) (inr b) r = rw (a, b) (omega arith)
+
+-- tests and maps that agree on a list's members
+pub keep-same : {A : Type 0} (f g : A → Bool) (l : List A) → ((x : A) → In x l → f x ≡ g x) → keep f l ≡ keep g l
+keep-same f g [] h = refl
+keep-same f g (y ∷ l) h = rw (h y (inl refl), keep-same f g l (λ x k. h x (inr k)))
+
+pub each-same : {A B : Type 0} (f g : A → B) (l : List A) → ((x : A) → In x l → f x ≡ g x) → each f l ≡ each g l
+each-same f g [] h = refl
+each-same f g (y ∷ l) h = rw (h y (inl refl), each-same f g l (λ x k. h x (inr k)))
+
+pub each-append : {A B : Type 0} (f : A → B) (s t : List A) → each f (s ++ t) ≡ each f s ++ each f t
+each-append f [] t = refl
+each-append f (x ∷ s) t = rw (each-append f s t)
+
+pub each-take : {A B : Type 0} (f : A → B) (n : ℕ) (l : List A) → each f (take n l) ≡ take n (each f l)
+each-take f zero l = refl
+each-take f (suc n) [] = refl
+each-take f (suc n) (x ∷ l) = rw (each-take f n l)
+
+pub getD-each : {A B : Type 0} (f : A → B) (l : List A) (i : ℕ) (d : A) (z : B) → i < length l → getD (each f l) i z ≡ f (getD l i d)
+getD-each f [] i d z h = absurd (omega arith)
+getD-each f (x ∷ l) zero d z h = refl
+getD-each f (x ∷ l) (suc i) d z h = getD-each f l i d z (omega arith)

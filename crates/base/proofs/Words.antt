@@ -1,18 +1,24 @@
 -- A word of bits: its size, what one more bit adds, what each bit says, the words of tests put together, of parts and of an interval.
 -- Assumes nothing.
-use mathlib.Core.Path.{_≡_, refl, ap, _∙_}
+use mathlib.Core.Path.{_≡_, refl, sym, ap, _∙_}
 use mathlib.Core.Bool.{Bool, true, false, _&&_, _||_}
-use mathlib.Core.Logic.{⊎-elim}
+use mathlib.Core.Logic.{_⊎_, inl, inr, ⊎-elim}
+use mathlib.Core.List.{List, [], _∷_, _++_}
 use Prim.Native.Nat.{ℕ, zero, suc, _+_, _-_, _*_, _/_, _%_, _^_, _<_, _≤_}
 use native.Mathlib.Nat.{pow-suc, mod-eq-of-lt, one-mul, add-comm, add-assoc, add-mul, mul-assoc, add-mul-div-right, zero-add, add-zero, add-suc}
 use native.Mathlib.Numerals.{add-one}
 use native.Mathlib.Omega.{arith}
 use lib.Dec.{eqb, leb, ltb}
 use lib.Bits.{bitAnd, bitOr, and-block, or-block}
-use lib.Pow.{pow-lt, pow-mono, pow-pos, pow-add, high}
+use lib.Pow.{pow-lt, pow-mono, pow-pos, pow-add, high, mod-pow-add}
 use borrow.Author.Tests.{eq-eqb, ne-eqb, lt-ltb, le-ltb, le-leb, lt-leb}
 use Rattle.base.specs.Bits.{bit, wordOf, bitAt}
-use Rattle.base.proofs.Tests.{le-or-lt, and-true, and-false}
+use Rattle.base.proofs.Tests.{le-or-lt, and-true, and-false, which}
+use lib.Count.{ones, ones-cat}
+use lib.ListN.{length, length-append}
+use Rattle.base.specs.Lists.{fromOn, keep}
+use Rattle.base.proofs.Members.{keep-append}
+use Rattle.base.proofs.Runs.{from-split}
 
 pub bit-most : (b : Bool) (n : ℕ) → bit b * n ≤ n
 bit-most true n = omega arith
@@ -156,8 +162,8 @@ word-split test base m (suc n) =
     (omega arith)
 
 -- one bit more, of the numbers from first on: it is set unless first lies above
-top-bit : (first n : ℕ) → 2 ^ n - 2 ^ first + bit (leb first n) * 2 ^ n ≡ 2 ^ suc n - 2 ^ first
-top-bit first n =
+interval-bit : (first n : ℕ) → 2 ^ n - 2 ^ first + bit (leb first n) * 2 ^ n ≡ 2 ^ suc n - 2 ^ first
+interval-bit first n =
     ⊎-elim
     (λ (h : first ≤ n). rw (le-leb first n h, pow-suc 2 n) (omega (arith, pow-mono {i = first} {j = n} h)))
     (λ (h : n < first). rw (lt-leb first n h) (omega (arith, pow-mono {i = n} {j = suc n} (omega arith), pow-mono {i = suc n} {j = first} h)))
@@ -173,5 +179,98 @@ word-between first past (suc n) h =
     (λ (k : n < past).
     let e : past ≡ suc n = omega arith in
     let same = word-same (λ k. leb first k && ltb k (suc n)) (λ k. leb first k && ltb k n) 0 0 n (λ k l. rw (zero-add k, lt-ltb k n l, lt-ltb k (suc n) (omega arith))) in
-    rw (e, same, word-between first n n (omega arith), zero-add n, lt-ltb n (suc n) (omega arith), and-true (leb first n)) (top-bit first n))
+    rw (e, same, word-between first n n (omega arith), zero-add n, lt-ltb n (suc n) (omega arith), and-true (leb first n)) (interval-bit first n))
     (le-or-lt past n)
+
+-- 1 << i at any width
+pub one-shifted : (w i : ℕ) → i < w → 1 * 2 ^ i % 2 ^ w ≡ 2 ^ i
+one-shifted w i h = rw (one-mul (2 ^ i)) (mod-eq-of-lt (pow-lt {i = i} {j = w} h))
+
+-- a number is the word of its own bits
+half-bit : (x : ℕ) → bit (eqb (x % 2) 1) ≡ x % 2
+half-bit x =
+    ⊎-elim
+    (λ (h : x % 2 ≤ 0). let z : x % 2 ≡ 0 = omega arith in rw z)
+    (λ (h : 0 < x % 2). let z : x % 2 ≡ 1 = omega arith in rw z)
+    (le-or-lt (x % 2) 0)
+
+bits-below : (w n : ℕ) → wordOf (bitAt w) 0 n ≡ w % 2 ^ n
+unfolding wordOf
+bits-below w zero = omega arith
+bits-below w (suc n) =
+    let m : w % 2 ^ (1 + n) ≡ w / 2 ^ n % 2 ^ 1 * 2 ^ n + w % 2 ^ n = mod-pow-add w 1 n in
+    let e : 1 + n ≡ suc n = omega arith in
+    rw (zero-add n, bits-below w n, half-bit (w / 2 ^ n)) (omega (arith, rw e at m))
+
+pub word-bits : (w n : ℕ) → w < 2 ^ n → wordOf (bitAt w) 0 n ≡ w
+word-bits w n h = bits-below w n ∙ mod-eq-of-lt h
+
+-- as many bits are 1 as numbers pass the test
+pub ones-word : (test : ℕ → Bool) (base n : ℕ) → ones (wordOf test base n) ≡ length (keep test (fromOn base n))
+unfolding wordOf ones
+ones-word test base zero = refl
+ones-word test base (suc n) =
+    let e : suc n ≡ n + 1 = omega arith in
+    let k : keep test (fromOn base (suc n)) ≡ keep test (fromOn base n) ++ keep test ((base + n) ∷ []) =
+    ap (λ (m : ℕ). keep test (fromOn base m)) e ∙ ap (keep test) (from-split base n 1) ∙ keep-append test (fromOn base n) ((base + n) ∷ []) in
+    ap ones (add-comm (wordOf test base n) (bit (test (base + n)) * 2 ^ n))
+    ∙ ones-cat n (bit (test (base + n))) (wordOf test base n) (word-less test base n)
+    ∙ omega (arith, ones-word test base n, one (which (test (base + n))), ap length k ∙ length-append (keep test (fromOn base n)) (keep test ((base + n) ∷ [])))
+  where
+    one : (test (base + n) ≡ true) ⊎ (test (base + n) ≡ false) → ones (bit (test (base + n))) ≡ length (keep test ((base + n) ∷ []))
+    one (inl q) = rw q
+    one (inr q) = rw q
+
+-- the highest bit of a word that is 1: the test holds there, and of none above it
+pub record TopBit (test : ℕ → Bool) (n i : ℕ) : Type 0 where
+  pub inside : i < n
+  pub set : test i ≡ true
+  pub rest : wordOf test 0 n - 2 ^ i ≡ wordOf test 0 i
+  pub above : (k : ℕ) → i < k → k < n → test k ≡ false
+
+word-next : (test : ℕ → Bool) (n : ℕ) → wordOf test 0 (suc n) ≡ wordOf test 0 n + bit (test n) * 2 ^ n
+unfolding wordOf
+word-next test n = ap (λ (k : ℕ). wordOf test 0 n + bit (test k) * 2 ^ n) (zero-add n)
+
+top-set : (test : ℕ → Bool) (n i : ℕ) → 2 ^ i ≤ wordOf test 0 (suc n) → wordOf test 0 (suc n) < 2 ^ suc i → test n ≡ true → TopBit test (suc n) i
+top-set test n i h k q =
+    let w : wordOf test 0 (suc n) ≡ wordOf test 0 n + 2 ^ n = word-next test n ∙ rw q (omega arith) in
+    let same : i ≡ n =
+    ⊎-elim
+    (λ (l : n ≤ i).
+    ⊎-elim
+    (λ (u : i ≤ n). omega arith)
+    (λ (u : n < i). absurd (omega (arith, word-less test 0 (suc n), pow-mono {i = suc n} {j = i} u)))
+    (le-or-lt i n))
+    (λ (l : i < n). absurd (omega (arith, pow-mono {i = suc i} {j = n} l)))
+    (le-or-lt n i) in
+    record {
+      inside = omega arith;
+      set = ap test same ∙ q;
+      rest = rw (same, w) (omega arith);
+      above = λ k l u. absurd (omega arith);
+    }
+
+pub top-bit : (test : ℕ → Bool) (n i : ℕ) → 2 ^ i ≤ wordOf test 0 n → wordOf test 0 n < 2 ^ suc i → TopBit test n i
+top-bit test zero i h k = absurd (omega (arith, word-less test 0 0, pow-pos i))
+top-bit test (suc n) i h k = step (which (test n)) (top-bit test n i)
+  where
+    lower : test n ≡ false → TopBit test n i → TopBit test (suc n) i
+    lower q t =
+        let w : wordOf test 0 (suc n) ≡ wordOf test 0 n = word-next test n ∙ rw q (omega arith) in
+        record {
+          inside = omega (arith, t .inside);
+          set = t .set;
+          rest = rw w (t .rest);
+          above = λ m l u.
+              ⊎-elim
+              (λ (v : n ≤ m). let e : m ≡ n = omega arith in ap test e ∙ q)
+              (λ (v : m < n). t .above m l v)
+              (le-or-lt n m);
+        }
+
+    step : (test n ≡ true) ⊎ (test n ≡ false) → (2 ^ i ≤ wordOf test 0 n → wordOf test 0 n < 2 ^ suc i → TopBit test n i) → TopBit test (suc n) i
+    step (inl q) below = top-set test n i h k q
+    step (inr q) below =
+        let w : wordOf test 0 (suc n) ≡ wordOf test 0 n = word-next test n ∙ rw q (omega arith) in
+        lower q (below (omega (arith, w)) (omega (arith, w)))
