@@ -1,0 +1,112 @@
+-- A table's columns by place, and that a lawful table's columns are what the code of `words` asks for.
+-- Assumes nothing.
+use mathlib.Core.Path.{_≡_, sym, ap, _∙_}
+use mathlib.Core.List.{List}
+use mathlib.Core.Logic.{⊎-elim}
+use Prim.Native.Nat.{ℕ, zero, suc, _+_, _-_, _≤_, _<_}
+use native.Mathlib.Omega.{arith}
+use lib.ListN.{length, take, drop, getD, length-drop, List·getD-eq-default}
+use lib.Seq.{length-take-le, getD-take, getD-drop}
+use Rattle.base.specs.Lists.{upTo, each}
+use Rattle.base.proofs.Tests.{le-or-lt}
+use Rattle.base.proofs.Members.{length-each}
+use Rattle.base.proofs.Runs.{length-from, getD-each-from}
+use Rattle.base.proofs.Begins.{shared-le, shared-le-other}
+use Rattle.rules.specs.declared.Grid.{Grid}
+use Rattle.rules.specs.Tables.{Table, stands, startOf, nameOf, placeOf, LawfulTable}
+use Rattle.rules.specs.Questions.{regionOfStand}
+use Rattle.rules.proofs.Lawful.{start-inside, name-part}
+use Rattle.rules.proofs.Places.{region-less}
+use Rattle.trie.specs.Adding.{nameBefore, sharedAt}
+use Rattle.words.specs.Columns.{at, Grows, Placed, LawfulColumns}
+use Rattle.indexed.specs.Tables.{lengthsOf, sharedOf, regionsOf, columns}
+
+-- a column has a row for each stand
+column-length : (f : ℕ → ℕ) (n : ℕ) → length (each f (upTo n)) ≡ n
+column-length f n = length-each f (upTo n) ∙ length-from 0 n
+
+column-at : (f : ℕ → ℕ) (n i : ℕ) → i < n → at (each f (upTo n)) i ≡ f i
+column-at f n i h = let z : 0 + i ≡ i = omega arith in getD-each-from f 0 n i 0 h ∙ ap f z
+
+module _ (t : Table) where
+  pub lengths-length : length (lengthsOf t) ≡ stands t
+  unfolding lengthsOf
+  lengths-length = column-length (λ i. length (nameOf t i)) (stands t)
+
+  pub shared-length : length (sharedOf t) ≡ stands t
+  unfolding sharedOf
+  shared-length = column-length (sharedAt t) (stands t)
+
+  pub lengths-at : (i : ℕ) → i < stands t → at (lengthsOf t) i ≡ length (nameOf t i)
+  unfolding lengthsOf
+  lengths-at = column-at (λ i. length (nameOf t i)) (stands t)
+
+  pub shared-at : (i : ℕ) → i < stands t → at (sharedOf t) i ≡ sharedAt t i
+  unfolding sharedOf
+  shared-at = column-at (sharedAt t) (stands t)
+
+module _ (g : Grid) (t : Table) where
+  pub regions-length : length (regionsOf g t) ≡ stands t
+  unfolding regionsOf
+  regions-length = column-length (regionOfStand g t) (stands t)
+
+  pub regions-at : (i : ℕ) → i < stands t → at (regionsOf g t) i ≡ regionOfStand g t i
+  unfolding regionsOf
+  regions-at = column-at (regionOfStand g t) (stands t)
+
+module _ (t : Table) (g : Grid) (l : LawfulTable t g) where
+  -- where a name lies in the text
+  pub name-length : (i : ℕ) → i < stands t → length (nameOf t i) ≡ startOf t (i + 1) - startOf t i
+  name-length i h =
+      let whole : startOf t (i + 1) ≤ length (t .text) = start-inside t g l (i + 1) (omega arith) in
+      ap length (name-part t g l i h)
+      ∙ length-take-le (startOf t (i + 1) - startOf t i) (drop (startOf t i) (t .text)) (rw (length-drop (startOf t i) (t .text)) (omega arith))
+
+  pub name-byte : (i k : ℕ) → i < stands t → k < length (nameOf t i) → getD (nameOf t i) k 0 ≡ at (t .text) (startOf t i + k)
+  name-byte i k h u =
+      ap (λ (n : List ℕ). getD n k 0) (name-part t g l i h)
+      ∙ getD-take (startOf t (i + 1) - startOf t i) (drop (startOf t i) (t .text)) k 0 (omega (arith, name-length i h))
+      ∙ getD-drop (startOf t i) (t .text) k 0
+
+  -- ---- what the code asks of the columns
+
+  grows : Grows (lengthsOf t) (sharedOf t)
+  grows =
+      let n : length (lengthsOf t) ≡ stands t = lengths-length t in
+      record {
+        few = omega (arith, n, l .shaped .few);
+        same = shared-length t ∙ sym n;
+        part = λ k h. let i : k < stands t = omega arith in omega (arith, lengths-at t k i, shared-at t k i, shared-le-other (nameBefore t k) (nameOf t k));
+        short = λ k h. let i : k < stands t = omega arith in omega (arith, lengths-at t k i, l .short k i);
+        before = λ k h.
+            let i : suc k < stands t = omega arith in
+            omega (arith, lengths-at t k (omega arith), shared-at t (suc k) i, shared-le (nameOf t k) (nameOf t (suc k)));
+        first =
+            ⊎-elim
+            (λ (h : stands t ≤ 0). List·getD-eq-default (sharedOf t) 0 (omega (arith, shared-length t)))
+            (λ (h : 0 < stands t). shared-at t 0 h)
+            (le-or-lt (stands t) 0);
+      }
+
+  placed : Placed (regionsOf g t)
+  unfolding regionOfStand
+  placed =
+      record {
+        few = omega (arith, regions-length g t, l .shaped .few);
+        inside = λ k h.
+            let i : k < stands t = omega (arith, regions-length g t) in
+            omega (arith, regions-at g t k i, region-less g (placeOf t k) (l .gridded) (l .placed k i));
+      }
+
+  pub columns-lawful : LawfulColumns (columns t g)
+  columns-lawful =
+      record {
+        grows = grows;
+        placed = placed;
+        same = regions-length g t ∙ sym (lengths-length t);
+        scored = sym (lengths-length t);
+        begun = omega (arith, lengths-length t, l .shaped .bounds);
+        spelt = λ k h.
+            let i : k < stands t = omega (arith, lengths-length t) in
+            omega (arith, lengths-at t k i, name-length k i, l .shaped .forward k i, start-inside t g l (k + 1) (omega arith));
+      }
