@@ -8,7 +8,7 @@ use Prim.Native.Nat.{ℕ, zero, suc, _+_, _-_, _≤_, _<_}
 use native.Mathlib.Omega.{arith}
 use native.Mathlib.Nat.{add-suc, add-zero, zero-add, suc-add}
 use lib.Dec.{eqb}
-use lib.ListN.{length, getD}
+use lib.ListN.{length, set, getD}
 use borrow.Author.Tests.{eqb-true, eqb-false}
 use Rattle.base.specs.Lists.{fromOn, upTo, keep, each, firstOf, In}
 use Rattle.base.proofs.Tests.{which, never}
@@ -62,6 +62,27 @@ pub getD-each-from : {B : Type 0} (g : ℕ → B) (a n k : ℕ) (d : B) → k < 
 getD-each-from g a zero k d h = absurd (omega arith)
 getD-each-from g a (suc n) zero d h = ap g (omega arith)
 getD-each-from g a (suc n) (suc k) d h = let e : suc a + k ≡ a + suc k = omega arith in getD-each-from g (suc a) n k d (omega arith) ∙ ap g e
+
+each-from : {B : Type 0} (f g : ℕ → B) (a n : ℕ) → ((x : ℕ) → a ≤ x → x < a + n → f x ≡ g x) → each f (fromOn a n) ≡ each g (fromOn a n)
+each-from f g a zero h = refl
+each-from f g a (suc n) h = rw (h a (omega arith) (omega arith), each-from f g (suc a) n (λ x u v. h x (omega arith) (omega arith)))
+
+set-from : {B : Type 0} (f g : ℕ → B) (a n j : ℕ) (y : B) → j < n → g (a + j) ≡ y → ((x : ℕ) → a ≤ x → x < a + n → (x ≡ a + j → ⊥) → f x ≡ g x) → set (each f (fromOn a n)) j y ≡ each g (fromOn a n)
+set-from f g a zero j y lt e h = absurd (omega arith)
+set-from f g a (suc n) zero y lt e h =
+    let z : a + 0 ≡ a = omega arith in
+    let here : y ≡ g a = sym e ∙ ap g z in
+    rw (here, each-from f g (suc a) n (λ x u v. h x (omega arith) (omega arith) (λ w. omega arith)))
+set-from f g a (suc n) (suc j) y lt e h =
+    let z : a + suc j ≡ suc a + j = omega arith in
+    let later : g (suc a + j) ≡ y = ap g (sym z) ∙ e in
+    rw (h a (omega arith) (omega arith) (λ w. omega arith), set-from f g (suc a) n j y (omega arith) later (λ x u v w. h x (omega arith) (omega arith) (λ q. w (omega arith))))
+
+-- a list made of the numbers below n, with one place stored
+pub set-each : {B : Type 0} (f g : ℕ → B) (n j : ℕ) (y : B) → j < n → g j ≡ y → ((x : ℕ) → x < n → (x ≡ j → ⊥) → f x ≡ g x) → set (each f (upTo n)) j y ≡ each g (upTo n)
+set-each f g n j y lt e h =
+    let z : 0 + j ≡ j = omega arith in
+    set-from f g 0 n j y lt (ap g z ∙ e) (λ x u v w. h x (omega arith) (λ q. w (omega arith)))
 
 module _ (f : ℕ → Bool) (e : ℕ) where
   keep-down : (a n : ℕ) → a + n ≡ e → ((i k : ℕ) → a ≤ i → i ≤ k → k < e → f k ≡ true → f i ≡ true) → keep f (fromOn a n) ≡ fromOn a (length (keep f (fromOn a n)))

@@ -2,3 +2,5 @@
 pub mod Ends
 pub mod Held
 pub mod Ranking
+pub mod Placing
+pub mod Steps

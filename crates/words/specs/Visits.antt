@@ -69,3 +69,10 @@ pub record Stepped (lengths shared : List ℕ) (c : Cursor) (held : ℕ) (r : Cu
   pub some : 0 < r .length
   pub on : r .stand < length lengths → On lengths shared r
   pub ways : (path : List ℕ) → Ways lengths shared path (c .stand) (suc (c .length)) → r .stand < length lengths → Ways lengths shared path (r .stand) (r .length)
+
+-- the same with what is lent beside the cursor
+pub record Advanced (lengths shared region : List ℕ) (c : Cursor) (held : ℕ) (next path : List ℕ) (r : Cursor) : Type 0 where
+  pub stepped : Stepped lengths shared c held r
+  pub places : next ≡ placesAt region (r .stand)
+  pub ways : r .stand < length lengths → Ways lengths shared path (r .stand) (r .length)
+  pub size : length path ≡ 25
