@@ -19,7 +19,7 @@ use Rattle.rules.proofs.Lawful.{start-inside, name-part}
 use Rattle.rules.proofs.Places.{region-less}
 use Rattle.trie.specs.Adding.{nameBefore, sharedAt}
 use Rattle.words.specs.Columns.{at, Grows, Placed, LawfulColumns}
-use Rattle.indexed.specs.Tables.{lengthsOf, sharedOf, regionsOf, columns}
+use Rattle.index.specs.Columns.{lengthsOf, sharedOf, regionsOf, columns}
 
 -- a column has a row for each stand
 column-length : (f : ℕ → ℕ) (n : ℕ) → length (each f (upTo n)) ≡ n

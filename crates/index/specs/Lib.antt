@@ -1,2 +1,2 @@
 -- The columns of a table, by the definitions.
-pub mod Tables
+pub mod Columns

@@ -28,9 +28,9 @@ use Rattle.words.specs.Columns.{at, endOf, span, growth, grownOf}
 use Rattle.words.specs.Visits.{nodesBefore, numberAt}
 use Rattle.words.specs.Words.{lastOf, parentOf, pastNumber}
 use Rattle.words.proofs.Ends.{upTo-part, grown-last}
-use Rattle.indexed.specs.Tables.{lengthsOf, sharedOf}
-use Rattle.indexed.proofs.Columns.{lengths-length, shared-length, lengths-at, shared-at, name-byte, columns-lawful}
-use Rattle.indexed.proofs.Blocks.{Block, block, end-all}
+use Rattle.index.specs.Columns.{lengthsOf, sharedOf}
+use Rattle.index.proofs.Columns.{lengths-length, shared-length, lengths-at, shared-at, name-byte, columns-lawful}
+use Rattle.index.proofs.Blocks.{Block, block, end-all}
 
 -- ---- how many nodes stands make
 
@@ -153,20 +153,20 @@ module _ (t : Table) (g : Grid) (l : LawfulTable t g) where
     unfolding e
     end-in = (b .after, omega (arith, b .within, shared-length t))
 
--- ---- one node: what is reckoned at stand i's first k bytes is what its text p says; its number is j
+-- ---- one node: what is reckoned at stand i's first k bytes is what the definitions say of its text p
 
-pub record Meant (t : Table) (i k j : ℕ) (p : List ℕ) : Type 0 where
+pub record Meant (t : Table) (i k : ℕ) (p : List ℕ) : Type 0 where
   pub parent : parentOf (lengthsOf t) (sharedOf t) i k ≡ numberIn (butLast p) (beginnings t)
   pub last : lastOf (t .text) (t .starts) i k ≡ lastByte p
   pub first : i ≡ firstOf (under t p)
   pub past : endOf (sharedOf t) i k ≡ firstOf (under t p) + length (under t p)
-  pub end : pastNumber (lengthsOf t) (sharedOf t) i k (endOf (sharedOf t) i k) j ≡ pastOf (beginnings t) j
+  pub end : pastNumber (lengthsOf t) (sharedOf t) i k (endOf (sharedOf t) i k) (numberIn p (beginnings t)) ≡ pastOf (beginnings t) (numberIn p (beginnings t))
   pub run : under t p ≡ span i (endOf (sharedOf t) i k)
   pub after : i ≤ endOf (sharedOf t) i k
   pub within : endOf (sharedOf t) i k ≤ stands t
 
 module _ (t : Table) (g : Grid) (l : LawfulTable t g) where
-  pub meant-root : Meant t 0 0 0 []
+  pub meant-root : Meant t 0 0 []
   meant-root =
       let e : endOf (sharedOf t) 0 0 ≡ stands t = end-all (sharedOf t) ∙ shared-length t in
       let n : length (under t []) ≡ stands t = ap length (under-all t) ∙ length-from 0 (stands t) in
@@ -184,6 +184,8 @@ module _ (t : Table) (g : Grid) (l : LawfulTable t g) where
               nodes-same t g l (stands t) (omega arith),
               nodes-all t,
               past-root t,
+              number-root t,
+              ap (pastOf (beginnings t)) (number-root t),
             );
         run = under-all t ∙ sym (ap (span 0) e ∙ span-all (stands t));
         after = omega arith;
@@ -194,10 +196,9 @@ module _ (t : Table) (g : Grid) (l : LawfulTable t g) where
       first-of zero = refl
       first-of (suc n) = refl
 
-  pub meant-new : (i k j : ℕ) → i < stands t → sharedAt t i < k → k ≤ length (nameOf t i) → j ≡ numberIn (take k (nameOf t i)) (beginnings t)
-      → Meant t i k j (take k (nameOf t i))
-  meant-new i zero j h c u q = absurd (omega arith)
-  meant-new i (suc k) j h c u q =
+  pub meant-new : (i k : ℕ) → i < stands t → sharedAt t i < k → k ≤ length (nameOf t i) → Meant t i k (take k (nameOf t i))
+  meant-new i zero h c u = absurd (omega arith)
+  meant-new i (suc k) h c u =
       let p : List ℕ = take (suc k) (nameOf t i) in
       let f : firstOf (under t p) ≡ i = first-stand t (l .ordered) i (suc k) h c u in
       let e : firstOf (under t p) + length (under t p) ≡ endOf (sharedOf t) i (suc k) = past-is t g l i (suc k) h u in
@@ -219,7 +220,6 @@ module _ (t : Table) (g : Grid) (l : LawfulTable t g) where
               shared-at t i h,
               nodes-add t g l i (endOf (sharedOf t) i (suc k)) (omega arith) (a .1),
               past-number-is t g l i (suc k) h u,
-              ap (pastOf (beginnings t)) q,
             );
         run = under-run t (l .ordered) p ∙ ap (λ (m : ℕ). fromOn m (length (under t p))) f ∙ ap (fromOn i) n;
         after = omega arith;
