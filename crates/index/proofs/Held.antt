@@ -26,7 +26,7 @@ use Rattle.words.specs.Visits.{belowOf, placeAt, placesAt}
 use Rattle.words.specs.Over.{regionOrder, orderOf}
 use Rattle.words.proofs.Placing.{regions-are, place-at}
 use Rattle.index.specs.Columns.{regionsOf}
-use Rattle.index.proofs.Columns.{regions-length, regions-at}
+use Rattle.index.proofs.ByStand.{regions-length, regions-at}
 
 -- ---- how many stand in the order before a region's own: those of the regions below
 

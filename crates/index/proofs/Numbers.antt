@@ -29,7 +29,7 @@ use Rattle.words.specs.Visits.{nodesBefore, numberAt}
 use Rattle.words.specs.Words.{lastOf, parentOf, pastNumber}
 use Rattle.words.proofs.Ends.{upTo-part, grown-last}
 use Rattle.index.specs.Columns.{lengthsOf, sharedOf}
-use Rattle.index.proofs.Columns.{lengths-length, shared-length, lengths-at, shared-at, name-byte, columns-lawful}
+use Rattle.index.proofs.ByStand.{lengths-length, shared-length, lengths-at, shared-at, name-byte, columns-lawful}
 use Rattle.index.proofs.Blocks.{Block, block, end-all}
 
 -- ---- how many nodes stands make

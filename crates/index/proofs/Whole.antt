@@ -24,7 +24,7 @@ use Rattle.words.specs.Visits.{Visit, visitsAt, newVisits, visitsFrom}
 use Rattle.words.specs.Words.{standsAt, entriesAt, rowAt, rowOf, rowsFrom, entryWordsFrom, countFrom, visitsOf, nodeCountOf, entryCountOf, nodeWordsOf, entryWordsOf}
 use Rattle.words.proofs.Steps.{visits-first, visits-done}
 use Rattle.index.specs.Columns.{lengthsOf, sharedOf, regionsOf, columns}
-use Rattle.index.proofs.Columns.{lengths-length, lengths-at, shared-at, columns-lawful}
+use Rattle.index.proofs.ByStand.{lengths-length, lengths-at, shared-at, columns-lawful}
 use Rattle.index.proofs.Numbers.{Meant, meant-root, meant-new}
 use Rattle.index.proofs.Held.{bits-here, regions-here, entries-here}
 

@@ -1,2 +1,2 @@
-// The words that are reckoned from a table's columns are the words of the rules. No code: specs/ says what the columns of a table
-// are, proofs/ that the models of the crate `words` come to the definitions at them.
+// The index of a table: building it into three lent buffers, and checking three buffers against it.
+pub mod columns;

@@ -1,25 +1,42 @@
 -- A table's columns by place, and that a lawful table's columns are what the code of `words` asks for.
 -- Assumes nothing.
-use mathlib.Core.Path.{_≡_, sym, ap, _∙_}
+use mathlib.Core.Path.{_≡_, refl, sym, ap, _∙_}
 use mathlib.Core.List.{List}
 use mathlib.Core.Logic.{⊎-elim}
 use Prim.Native.Nat.{ℕ, zero, suc, _+_, _-_, _≤_, _<_}
 use native.Mathlib.Omega.{arith}
 use lib.ListN.{length, take, drop, getD, length-drop, List·getD-eq-default}
 use lib.Seq.{length-take-le, getD-take, getD-drop}
-use Rattle.base.specs.Lists.{upTo, each}
+use Rattle.base.specs.Lists.{upTo, each, sharedLength}
 use Rattle.base.proofs.Tests.{le-or-lt}
 use Rattle.base.proofs.Members.{length-each}
 use Rattle.base.proofs.Runs.{length-from, getD-each-from}
 use Rattle.base.proofs.Begins.{shared-le, shared-le-other}
 use Rattle.rules.specs.declared.Grid.{Grid}
+use Rattle.rules.specs.Names.{name}
 use Rattle.rules.specs.Tables.{Table, stands, startOf, nameOf, placeOf, LawfulTable}
 use Rattle.rules.specs.Questions.{regionOfStand}
 use Rattle.rules.proofs.Lawful.{start-inside, name-part}
 use Rattle.rules.proofs.Places.{region-less}
 use Rattle.trie.specs.Adding.{nameBefore, sharedAt}
 use Rattle.words.specs.Columns.{at, Grows, Placed, LawfulColumns}
-use Rattle.index.specs.Columns.{lengthsOf, sharedOf, regionsOf, columns}
+use Rattle.index.specs.Columns.{lengthIn, sharedIn, regionIn, lengthsOf, sharedOf, regionsOf, columns, Spelled}
+
+-- ---- what two names share
+
+module _ (text starts : List ℕ) where
+  pub shared-first : (i : ℕ) → i ≡ 0 → 0 ≡ sharedIn text starts i
+  shared-first i e = rw e
+
+  pub shared-later : (i : ℕ) → (i ≡ 0 → ⊥) → sharedLength (name text starts (i - 1)) (name text starts i) ≡ sharedIn text starts i
+  shared-later zero h = absurd (h refl)
+  shared-later (suc i) h = let e : suc i - 1 ≡ i = omega arith in rw e
+
+  pub shared-short : (n i : ℕ) → Spelled text starts n → i < n → sharedIn text starts i ≤ 24
+  shared-short n zero s h = omega arith
+  shared-short n (suc i) s h = omega (arith, shared-le-other (name text starts i) (name text starts (suc i)), s .short (suc i) h)
+
+-- ---- the columns by place
 
 -- a column has a row for each stand
 column-length : (f : ℕ → ℕ) (n : ℕ) → length (each f (upTo n)) ≡ n
@@ -31,28 +48,32 @@ column-at f n i h = let z : 0 + i ≡ i = omega arith in getD-each-from f 0 n i 
 module _ (t : Table) where
   pub lengths-length : length (lengthsOf t) ≡ stands t
   unfolding lengthsOf
-  lengths-length = column-length (λ i. length (nameOf t i)) (stands t)
+  lengths-length = column-length (lengthIn (t .text) (t .starts)) (stands t)
 
   pub shared-length : length (sharedOf t) ≡ stands t
   unfolding sharedOf
-  shared-length = column-length (sharedAt t) (stands t)
+  shared-length = column-length (sharedIn (t .text) (t .starts)) (stands t)
 
   pub lengths-at : (i : ℕ) → i < stands t → at (lengthsOf t) i ≡ length (nameOf t i)
   unfolding lengthsOf
-  lengths-at = column-at (λ i. length (nameOf t i)) (stands t)
+  lengths-at = column-at (lengthIn (t .text) (t .starts)) (stands t)
 
   pub shared-at : (i : ℕ) → i < stands t → at (sharedOf t) i ≡ sharedAt t i
   unfolding sharedOf
-  shared-at = column-at (sharedAt t) (stands t)
+  shared-at i h = column-at (sharedIn (t .text) (t .starts)) (stands t) i h ∙ is i
+    where
+      is : (i : ℕ) → sharedIn (t .text) (t .starts) i ≡ sharedAt t i
+      is zero = refl
+      is (suc i) = refl
 
 module _ (g : Grid) (t : Table) where
   pub regions-length : length (regionsOf g t) ≡ stands t
   unfolding regionsOf
-  regions-length = column-length (regionOfStand g t) (stands t)
+  regions-length = column-length (regionIn (t .east) (t .north) g) (stands t)
 
   pub regions-at : (i : ℕ) → i < stands t → at (regionsOf g t) i ≡ regionOfStand g t i
-  unfolding regionsOf
-  regions-at = column-at (regionOfStand g t) (stands t)
+  unfolding regionsOf regionOfStand
+  regions-at = column-at (regionIn (t .east) (t .north) g) (stands t)
 
 module _ (t : Table) (g : Grid) (l : LawfulTable t g) where
   -- where a name lies in the text
