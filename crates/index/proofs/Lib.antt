@@ -5,3 +5,5 @@ pub mod Blocks
 pub mod Numbers
 pub mod Held
 pub mod Whole
+pub mod Answers
+pub mod Outcomes
