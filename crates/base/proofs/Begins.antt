@@ -165,3 +165,25 @@ sharedLength-sym (a ∷ m) (b ∷ n) = step (which (eqb a b)) (sharedLength-sym 
     step : (eqb a b ≡ true) ⊎ (eqb a b ≡ false) → sharedLength m n ≡ sharedLength n m → sharedLength (a ∷ m) (b ∷ n) ≡ sharedLength (b ∷ n) (a ∷ m)
     step (inl q) r = rw (q, eq-eqb b a (sym (eqb-true a b q)), r)
     step (inr q) r = rw (q, ne-eqb b a (λ e. eqb-false a b q (sym e)))
+
+-- a list that begins with two lists, one after the other
+pub begins-parts : (p q n : List ℕ) → begins (p ++ q) n ≡ begins p n && begins q (drop (length p) n)
+begins-parts [] q n = refl
+begins-parts (a ∷ p) q [] = refl
+begins-parts (a ∷ p) q (b ∷ n) = step (which (eqb a b)) (begins-parts p q n)
+  where
+    step : (eqb a b ≡ true) ⊎ (eqb a b ≡ false) → begins (p ++ q) n ≡ begins p n && begins q (drop (length p) n) → begins ((a ∷ p) ++ q) (b ∷ n) ≡ begins (a ∷ p) (b ∷ n) && begins q (drop (length (a ∷ p)) (b ∷ n))
+    step (inl e) r = rw e r
+    step (inr e) r = rw e
+
+-- and place by place
+pub begins-at : (p n : List ℕ) → begins p n ≡ true → (i : ℕ) → i < length p → getD p i 0 ≡ getD n i 0
+begins-at [] n h i l = absurd (omega arith)
+begins-at (a ∷ p) [] h i l = absurd (false≢true h)
+begins-at (a ∷ p) (b ∷ n) h zero l = begins-cases a b p n h .0
+begins-at (a ∷ p) (b ∷ n) h (suc i) l = begins-at p n (begins-cases a b p n h .1) i (omega arith)
+
+pub begins-of : (p n : List ℕ) → length p ≤ length n → ((i : ℕ) → i < length p → getD p i 0 ≡ getD n i 0) → begins p n ≡ true
+begins-of [] n h e = refl
+begins-of (a ∷ p) [] h e = absurd (omega arith)
+begins-of (a ∷ p) (b ∷ n) h e = begins-same a b p n (e 0 (omega arith)) (begins-of p n (omega arith) (λ i l. e (suc i) (omega arith)))

@@ -8,11 +8,12 @@ use Prim.Native.Nat.{ℕ, zero, suc, _+_, _-_, _≤_, _<_}
 use native.Mathlib.Omega.{arith}
 use native.Mathlib.Nat.{add-suc, add-zero, zero-add, suc-add}
 use lib.Dec.{eqb}
-use lib.ListN.{length, set, getD}
+use lib.ListN.{length, set, getD, length-append, List·getD-append}
+use lib.Seq.{getD-append-seam}
 use borrow.Author.Tests.{eqb-true, eqb-false}
 use Rattle.base.specs.Lists.{fromOn, upTo, keep, each, firstOf, In}
-use Rattle.base.proofs.Tests.{which, never}
-use Rattle.base.proofs.Members.{keep-none}
+use Rattle.base.proofs.Tests.{which, never, le-or-lt}
+use Rattle.base.proofs.Members.{keep-none, keep-append}
 
 pub length-from : (a n : ℕ) → length (fromOn a n) ≡ n
 length-from a zero = refl
@@ -108,3 +109,26 @@ module _ (f : ℕ → Bool) (e : ℕ) where
       step : (f a ≡ true) ⊎ (f a ≡ false) → keep f (fromOn (suc a) n) ≡ fromOn (firstOf (keep f (fromOn (suc a) n))) (length (keep f (fromOn (suc a) n))) → keep f (fromOn a (suc n)) ≡ fromOn (firstOf (keep f (fromOn a (suc n)))) (length (keep f (fromOn a (suc n))))
       step (inl r) t = rw r (ap (λ (l : List ℕ). a ∷ l) (keep-down (suc a) n (omega arith) (λ i k u v w s. convex a i k (omega arith) v w r s)))
       step (inr r) t = rw r t
+
+-- what a test keeps of the numbers below n, by its place: as many smaller ones pass
+pub keep-at : (f : ℕ → Bool) (n k : ℕ) → k < length (keep f (upTo n)) → (x : ℕ) × (getD (keep f (upTo n)) k 0 ≡ x) × (x < n) × (f x ≡ true) × (length (keep f (upTo x)) ≡ k)
+keep-at f zero k h = absurd (omega arith)
+keep-at f (suc n) k h = step (keep-at f n k) (which (f n)) (le-or-lt (length (keep f (upTo n))) k)
+  where
+    whole : keep f (upTo (suc n)) ≡ keep f (upTo n) ++ keep f (n ∷ [])
+    whole = ap (keep f) (upTo-suc n) ∙ keep-append f (upTo n) (n ∷ [])
+
+    size : length (keep f (upTo (suc n))) ≡ length (keep f (upTo n)) + length (keep f (n ∷ []))
+    size = ap length whole ∙ length-append (keep f (upTo n)) (keep f (n ∷ []))
+
+    step : (k < length (keep f (upTo n)) → (x : ℕ) × (getD (keep f (upTo n)) k 0 ≡ x) × (x < n) × (f x ≡ true) × (length (keep f (upTo x)) ≡ k)) → (f n ≡ true) ⊎ (f n ≡ false)
+        → (length (keep f (upTo n)) ≤ k) ⊎ (k < length (keep f (upTo n)))
+        → (x : ℕ) × (getD (keep f (upTo (suc n))) k 0 ≡ x) × (x < suc n) × (f x ≡ true) × (length (keep f (upTo x)) ≡ k)
+    step below q (inr l) =
+        let r = below l in
+        (r .0, ap (λ (m : List ℕ). getD m k 0) whole ∙ List·getD-append (keep f (upTo n)) (keep f (n ∷ [])) 0 k l ∙ r .1, omega (arith, r .2), r .3, r .4)
+    step below (inl q) (inl l) =
+        let one : keep f (n ∷ []) ≡ n ∷ [] = rw q in
+        let e : k ≡ length (keep f (upTo n)) = omega (arith, size, ap length one) in
+        (n, ap (λ (m : List ℕ). getD m k 0) (whole ∙ ap (λ (m : List ℕ). keep f (upTo n) ++ m) one) ∙ rw e (getD-append-seam (keep f (upTo n)) n [] 0), omega arith, q, sym e)
+    step below (inr q) (inl l) = let none : keep f (n ∷ []) ≡ [] = rw q in absurd (omega (arith, size, ap length none))

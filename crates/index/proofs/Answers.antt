@@ -26,7 +26,7 @@ use Rattle.rules.specs.Tables.{Table, stands, LawfulTable, tableRefusal}
 use Rattle.rules.specs.Indexes.{Index, orderWords, nodeWords, entryWords, nodeCount, entryCount, tooSmall, buildRefusal, buildTold, indexAfter, setLawful, checkTold}
 use Rattle.rules.proofs.Lawful.{taken}
 use Rattle.rules.proofs.Outcomes.{one-verdict}
-use Rattle.words.specs.Columns.{Columns}
+use Rattle.node.specs.Columns.{Columns}
 use Rattle.words.specs.Over.{over, orderOf}
 use Rattle.words.specs.Words.{nodeCountOf, entryCountOf, nodeWordsOf, entryWordsOf}
 use Rattle.index.specs.Columns.{columns}

@@ -11,7 +11,7 @@ use lib.ListN.{length, drop, getD, length-drop}
 use lib.Seq.{drop-cons, getD-drop}
 use borrow.Author.Tests.{ltb-true, ltb-false}
 use Rattle.base.proofs.Tests.{which, le-or-lt}
-use Rattle.words.specs.Columns.{at, runOf, blockOf, endOf}
+use Rattle.node.specs.Columns.{at, runOf, blockOf, endOf}
 
 -- the run at the front of a column that is l or more
 pub record Run (l : ℕ) (column : List ℕ) (n : ℕ) : Type 0 where

@@ -19,7 +19,7 @@ use Rattle.rules.specs.Questions.{regionOfStand}
 use Rattle.rules.proofs.Lawful.{start-inside, name-part}
 use Rattle.rules.proofs.Places.{region-less}
 use Rattle.trie.specs.Adding.{nameBefore, sharedAt}
-use Rattle.words.specs.Columns.{at, Grows, Placed, LawfulColumns}
+use Rattle.node.specs.Columns.{at, Grows, Placed, LawfulColumns}
 use Rattle.index.specs.Columns.{lengthIn, sharedIn, regionIn, lengthsOf, sharedOf, regionsOf, columns, Spelled}
 
 -- ---- what two names share
@@ -126,8 +126,10 @@ module _ (t : Table) (g : Grid) (l : LawfulTable t g) where
         placed = placed;
         same = regions-length g t ∙ sym (lengths-length t);
         scored = sym (lengths-length t);
-        begun = omega (arith, lengths-length t, l .shaped .bounds);
-        spelt = λ k h.
-            let i : k < stands t = omega (arith, lengths-length t) in
-            omega (arith, lengths-at t k i, name-length k i, l .shaped .forward k i, start-inside t g l (k + 1) (omega arith));
+        spelt = record {
+          begun = omega (arith, lengths-length t, l .shaped .bounds);
+          inside = λ k h.
+              let i : k < stands t = omega (arith, lengths-length t) in
+              omega (arith, lengths-at t k i, name-length k i, l .shaped .forward k i, start-inside t g l (k + 1) (omega arith));
+        };
       }

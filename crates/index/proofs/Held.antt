@@ -21,42 +21,13 @@ use Rattle.rules.specs.Tables.{Table, stands, scoreOf}
 use Rattle.rules.specs.Questions.{under, regionOfStand, inRegion, byRegion}
 use Rattle.rules.specs.Indexes.{orderWords, occupied, regionsUnder, Entry, entryOf, ahead, entriesOf}
 use Rattle.trie.proofs.Regions.{before, region-place}
-use Rattle.words.specs.Columns.{at, span, standsIn, heldIn, regionsIn, entryIn, entriesIn}
-use Rattle.words.specs.Visits.{belowOf, placeAt, placesAt}
+use Rattle.node.specs.Columns.{at, span, standsIn, heldIn, regionsIn, entryIn, entriesIn}
+use Rattle.node.specs.Visits.{belowOf, placeAt, placesAt}
 use Rattle.words.specs.Over.{regionOrder, orderOf}
-use Rattle.words.proofs.Placing.{regions-are, place-at}
+use Rattle.words.proofs.Orders.{firsts, firsts-below}
+use Rattle.node.proofs.Placing.{regions-are, place-at}
 use Rattle.index.specs.Columns.{regionsOf}
 use Rattle.index.proofs.ByStand.{regions-length, regions-at}
-
--- ---- how many stand in the order before a region's own: those of the regions below
-
-below-none : (ρ : ℕ → ℕ) (l : List ℕ) → length (keep (λ k. ltb (ρ k) 0) l) ≡ 0
-below-none ρ [] = refl
-below-none ρ (x ∷ l) = rw (le-ltb (ρ x) 0 (omega arith)) (below-none ρ l)
-
-below-more : (ρ : ℕ → ℕ) (r : ℕ) (l : List ℕ) → length (keep (λ k. ltb (ρ k) (suc r)) l) ≡ length (keep (λ k. ltb (ρ k) r) l) + length (keep (λ k. eqb (ρ k) r) l)
-below-more ρ r [] = refl
-below-more ρ r (x ∷ l) = step (le-or-lt r (ρ x)) (le-or-lt (ρ x) r) (below-more ρ r l)
-  where
-    step : (r ≤ ρ x) ⊎ (ρ x < r) → (ρ x ≤ r) ⊎ (r < ρ x)
-        → length (keep (λ k. ltb (ρ k) (suc r)) l) ≡ length (keep (λ k. ltb (ρ k) r) l) + length (keep (λ k. eqb (ρ k) r) l)
-        → length (keep (λ k. ltb (ρ k) (suc r)) (x ∷ l)) ≡ length (keep (λ k. ltb (ρ k) r) (x ∷ l)) + length (keep (λ k. eqb (ρ k) r) (x ∷ l))
-    step (inr a) b s = rw (lt-ltb (ρ x) (suc r) (omega arith), lt-ltb (ρ x) r a, ne-eqb (ρ x) r (λ e. omega arith)) (omega arith)
-    step (inl a) (inl b) s = rw (lt-ltb (ρ x) (suc r) (omega arith), le-ltb (ρ x) r a, eq-eqb (ρ x) r (omega arith)) (omega arith)
-    step (inl a) (inr b) s = rw (le-ltb (ρ x) (suc r) (omega arith), le-ltb (ρ x) r a, ne-eqb (ρ x) r (λ e. omega arith)) s
-
-below-parts : (region : List ℕ) (r : ℕ) → belowOf region r ≡ length (eachList (regionOrder region) (upTo r))
-unfolding belowOf regionOrder standsIn
-below-parts region zero = below-none (at region) (upTo (length region))
-below-parts region (suc r) =
-    let f = regionOrder region in
-    omega (
-      arith,
-      below-more (at region) r (upTo (length region)),
-      below-parts region r,
-      ap (λ (l : List ℕ). length (eachList f l)) (upTo-suc r) ∙ ap length (eachList-append f (upTo r) (r ∷ []) ∙ ap (λ (l : List ℕ). eachList f (upTo r) ++ l) (append-nil (f r)))
-          ∙ length-append (eachList f (upTo r)) (f r),
-    )
 
 module _ (g : Grid) (t : Table) where
   abbrev region : List ℕ
@@ -100,13 +71,13 @@ module _ (g : Grid) (t : Table) where
 
     -- where a region's stands begin in the order
     first-here : (r x : ℕ) (s : List ℕ) → r < regions → keep (inRegion g t r) (under t p) ≡ x ∷ s → placeAt region i r ≡ positionIn x (orderWords t g)
-    unfolding placeAt before
+    unfolding placeAt before firsts
     first-here r x s lt q =
         let size : i + (e - i) ≤ stands t = omega arith in
         let those : List ℕ = eachList (λ r. keep (inRegion g t r) (upTo (stands t))) (upTo r) in
         omega (
           arith,
-          below-parts region r,
+          firsts-below region r,
           ap length (eachList-same (regionOrder region) (λ r. keep (inRegion g t r) (upTo (stands t))) (upTo r) order-region),
           ap length (before-stand r i (omega arith)),
           region-place (regionOfStand g t) (stands t) regions i (e - i) r size lt x s (ap (keep (inRegion g t r)) (sym run) ∙ q),

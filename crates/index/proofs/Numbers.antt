@@ -24,10 +24,10 @@ use Rattle.trie.specs.Adding as added
 use Rattle.trie.specs.Adding.{sharedAt}
 use Rattle.trie.proofs.Tables.{under-all, under-run, past-root}
 use Rattle.trie.proofs.Adding.{nodes-step, nodes-all, node-number, first-stand, past-stand, past-node, last-take, but-last-take}
-use Rattle.words.specs.Columns.{at, endOf, span, growth, grownOf}
-use Rattle.words.specs.Visits.{nodesBefore, numberAt}
-use Rattle.words.specs.Words.{lastOf, parentOf, pastNumber}
-use Rattle.words.proofs.Ends.{upTo-part, grown-last}
+use Rattle.node.specs.Columns.{at, endOf, span, growth, grownOf}
+use Rattle.node.specs.Visits.{nodesBefore, numberAt}
+use Rattle.node.specs.Rows.{lastOf, parentOf, pastNumber}
+use Rattle.node.proofs.Ends.{upTo-part, grown-last}
 use Rattle.index.specs.Columns.{lengthsOf, sharedOf}
 use Rattle.index.proofs.ByStand.{lengths-length, shared-length, lengths-at, shared-at, name-byte, columns-lawful}
 use Rattle.index.proofs.Blocks.{Block, block, end-all}

@@ -19,10 +19,11 @@ use Rattle.trie.proofs.Tree.{number-at}
 use Rattle.trie.proofs.Tables.{beginnings-tree}
 use Rattle.trie.proofs.Adding.{new-takes}
 use Rattle.trie.proofs.Words.{entries-length, entries-counted}
-use Rattle.words.specs.Columns.{Columns, at, endOf, regionsIn}
-use Rattle.words.specs.Visits.{Visit, visitsAt, newVisits, visitsFrom}
-use Rattle.words.specs.Words.{standsAt, entriesAt, rowAt, rowOf, rowsFrom, entryWordsFrom, countFrom, visitsOf, nodeCountOf, entryCountOf, nodeWordsOf, entryWordsOf}
-use Rattle.words.proofs.Steps.{visits-first, visits-done}
+use Rattle.node.specs.Columns.{Columns, at, endOf, regionsIn}
+use Rattle.node.specs.Visits.{Visit, visitsAt, newVisits, visitsFrom}
+use Rattle.node.specs.Rows.{standsAt, entriesAt, rowAt, rowOf}
+use Rattle.words.specs.Words.{rowsFrom, entryWordsFrom, countFrom, visitsOf, nodeCountOf, entryCountOf, nodeWordsOf, entryWordsOf}
+use Rattle.node.proofs.Steps.{visits-first, visits-done}
 use Rattle.index.specs.Columns.{lengthsOf, sharedOf, regionsOf, columns}
 use Rattle.index.proofs.ByStand.{lengths-length, lengths-at, shared-at, columns-lawful}
 use Rattle.index.proofs.Numbers.{Meant, meant-root, meant-new}

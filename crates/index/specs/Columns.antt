@@ -10,7 +10,7 @@ use Rattle.rules.specs.declared.Grid.{Grid}
 use Rattle.rules.specs.Places.{gridLawful, inGrid, regionOf}
 use Rattle.rules.specs.Names.{name}
 use Rattle.rules.specs.Tables.{Table, stands, placeIn}
-use Rattle.words.specs.Columns.{Columns, columnsOf}
+use Rattle.node.specs.Columns.{Columns, columnsOf}
 
 -- ---- one stand's row
 

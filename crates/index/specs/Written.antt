@@ -10,7 +10,7 @@ use Rattle.rules.specs.declared.Built.{Built}
 use Rattle.rules.specs.declared.Checked.{Checked}
 use Rattle.rules.specs.Numbers.{BuildTold, CheckTold, builtNumbers, checkedNumbers}
 use Rattle.rules.specs.Indexes.{Index}
-use Rattle.words.specs.Columns.{Columns}
+use Rattle.node.specs.Columns.{Columns}
 use Rattle.words.specs.Over.{over, orderOf}
 use Rattle.words.specs.Words.{nodeCountOf, entryCountOf, nodeWordsOf, entryWordsOf}
 

@@ -1,0 +1,136 @@
+-- Where a node's stands end, and how many nodes a run of stands makes: the two loops, and the bounds of what they give.
+-- Assumes nothing.
+use mathlib.Core.Path.{_≡_, refl, ap, _∙_}
+use mathlib.Core.Logic.{⊎-elim}
+use mathlib.Core.List.{List, [], _∷_, _++_}
+use Prim.Native.Nat.{ℕ, suc, _+_, _-_, _*_, _≤_, _<_}
+use native.Mathlib.Omega.{arith}
+use native.Mathlib.Numerals.{add-one}
+use lib.ListN.{length, drop, drop-of-length-le, List·getD-eq-default}
+use lib.Seq.{drop-cons}
+use borrow.Author.Tests.{lt-ltb, le-ltb}
+use Rattle.base.specs.Lists.{fromOn, upTo, each, total}
+use Rattle.base.proofs.Tests.{le-or-lt}
+use Rattle.base.proofs.Members.{each-append}
+use Rattle.base.proofs.Runs.{from-split, length-from}
+use Rattle.base.proofs.Sums.{total-append, total-most}
+use Rattle.node.specs.Columns.{at, Grows, runOf, blockOf, endOf, span, growth, grownOf}
+
+-- ---- runs of stands
+
+pub span-none : (i : ℕ) → span i i ≡ []
+span-none i = let e : i - i ≡ 0 = omega arith in ap (fromOn i) e
+
+pub span-last : (i k : ℕ) → i ≤ k → span i (k + 1) ≡ span i k ++ (k ∷ [])
+span-last i k h =
+    let e : k + 1 - i ≡ (k - i) + 1 = omega arith in
+    let f : i + (k - i) ≡ k = omega arith in
+    ap (fromOn i) e ∙ from-split i (k - i) 1 ∙ ap (λ (x : ℕ). span i k ++ (x ∷ [])) f
+
+pub upTo-part : (i e : ℕ) → i ≤ e → upTo e ≡ upTo i ++ span i e
+upTo-part i e h =
+    let q : e ≡ i + (e - i) = omega arith in
+    let z : 0 + i ≡ i = omega arith in
+    ap upTo q ∙ from-split 0 i (e - i) ∙ ap (λ (k : ℕ). upTo i ++ fromOn k (e - i)) z
+
+-- ---- the end of a block
+
+pub record Ending (shared : List ℕ) (i l e : ℕ) : Type 0 where
+  pub after : i < e
+  pub within : e ≤ length shared
+  pub rest : endOf shared i l ≡ e + runOf l (drop e shared)
+
+module _ (shared : List ℕ) (i l : ℕ) where
+  abbrev pub Ends : ℕ → Type 0
+  Ends e = (e ≡ endOf shared i l) × (i ≤ e) × (e ≤ length shared)
+
+  pub ending : i < length shared → Ending shared i l (i + 1)
+  unfolding endOf
+  ending h = record { after = omega arith; within = omega arith; rest = rw (drop-cons shared i 0 h, add-one) (omega arith) }
+
+  pub ended : length shared ≤ i → i ≤ length shared → Ends i
+  unfolding endOf
+  ended h k =
+      let q : blockOf l (drop i shared) ≡ 0 = rw (drop-of-length-le shared h) in
+      (omega (arith, q), omega arith, k)
+
+  pub ending-more : (e : ℕ) → Ending shared i l e → e < length shared → l ≤ at shared e → Ending shared i l (e + 1)
+  ending-more e s h k =
+      let q : runOf l (drop e shared) ≡ suc (runOf l (drop (suc e) shared)) = rw (drop-cons shared e 0 h, le-ltb (at shared e) l k) in
+      record { after = omega (arith, s .after); within = omega arith; rest = s .rest ∙ rw (q, add-one) (omega arith) }
+
+  pub ending-here : (e : ℕ) → Ending shared i l e → e < length shared → at shared e < l → Ends e
+  ending-here e s h k =
+      let q : runOf l (drop e shared) ≡ 0 = rw (drop-cons shared e 0 h, lt-ltb (at shared e) l k) in
+      (omega (arith, s .rest), omega (arith, s .after), s .within)
+
+  pub ending-last : (e : ℕ) → Ending shared i l e → length shared ≤ e → Ends e
+  ending-last e s h =
+      let q : runOf l (drop e shared) ≡ 0 = rw (drop-of-length-le shared h) in
+      (omega (arith, s .rest), omega (arith, s .after), s .within)
+
+  pub end-from : i ≤ endOf shared i l
+  unfolding endOf
+  end-from = omega arith
+
+  -- a node has a stand
+  pub end-after : i < length shared → i < endOf shared i l
+  unfolding endOf
+  end-after h = rw (drop-cons shared i 0 h) (omega arith)
+
+-- ---- growth
+
+pub length-short : (lengths shared : List ℕ) → Grows lengths shared → (k : ℕ) → at lengths k ≤ 24
+length-short lengths shared g k =
+    ⊎-elim
+    (λ (h : length lengths ≤ k). let z : at lengths k ≡ 0 = List·getD-eq-default lengths 0 h in omega arith)
+    (λ (h : k < length lengths). g .short k h)
+    (le-or-lt (length lengths) k)
+
+pub shared-short : (lengths shared : List ℕ) → Grows lengths shared → (k : ℕ) → at shared k ≤ 24
+shared-short lengths shared g k =
+    ⊎-elim
+    (λ (h : length lengths ≤ k). let z : at shared k ≡ 0 = List·getD-eq-default shared 0 (omega (arith, g .same)) in omega arith)
+    (λ (h : k < length lengths). omega (arith, g .part k h, g .short k h))
+    (le-or-lt (length lengths) k)
+
+module _ (lengths shared : List ℕ) where
+  pub grown-last : (i k : ℕ) → i ≤ k → grownOf lengths shared i (k + 1) ≡ grownOf lengths shared i k + growth lengths shared k
+  unfolding grownOf
+  grown-last i k h =
+      let g = growth lengths shared in
+      ap (λ (l : List ℕ). total (each g l)) (span-last i k h)
+      ∙ ap total (each-append g (span i k) (k ∷ []))
+      ∙ total-append (each g (span i k)) (g k ∷ [])
+      ∙ omega arith
+
+  pub grown-small : Grows lengths shared → (i e : ℕ) → e ≤ length lengths → grownOf lengths shared i e ≤ 24576
+  unfolding grownOf
+  grown-small g i e h =
+      omega (
+        arith,
+        total-most (growth lengths shared) 24 (span i e) (λ k. omega (arith, length-short lengths shared g k)),
+        length-from i (e - i),
+        g .few,
+      )
+
+pub record Growing (lengths shared : List ℕ) (i e sum k : ℕ) : Type 0 where
+  pub after : i ≤ k
+  pub within : k ≤ e
+  pub now : sum ≡ grownOf lengths shared i k
+
+module _ (lengths shared : List ℕ) (i e : ℕ) where
+  pub growing : i ≤ e → Growing lengths shared i e 0 i
+  unfolding grownOf
+  growing h = record { after = omega arith; within = h; now = rw (span-none i) }
+
+  pub growing-more : (sum k w : ℕ) → Growing lengths shared i e sum k → k < e → w ≡ growth lengths shared k → Growing lengths shared i e (sum + w) (k + 1)
+  growing-more sum k w s h q =
+      record { after = omega (arith, s .after); within = omega arith; now = omega (arith, grown-last lengths shared i k (s .after), s .now) }
+
+  -- one stand's nodes more fit
+  pub growing-fits : (sum k w : ℕ) → Grows lengths shared → e ≤ length lengths → Growing lengths shared i e sum k → k < e → w ≡ growth lengths shared k → sum + w ≤ 24576
+  growing-fits sum k w g u s h q = omega (arith, growing-more sum k w s h q .now, grown-small lengths shared g i (k + 1) (omega arith))
+
+  pub growing-end : (sum k : ℕ) → Growing lengths shared i e sum k → e ≤ k → sum ≡ grownOf lengths shared i e
+  growing-end sum k s h = let q : k ≡ e = omega (arith, s .within) in s .now ∙ ap (grownOf lengths shared i) q

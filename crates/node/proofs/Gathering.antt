@@ -1,0 +1,136 @@
+-- One node: the entries read from its slots are those of its stands, and its row is the model's.
+-- Assumes nothing.
+use mathlib.Core.Path.{_≡_, refl, sym, ap, _∙_}
+use mathlib.Core.Logic.{_⊎_, inl, inr, ⊎-elim}
+use mathlib.Core.Bool.{Bool, true, false, cond}
+use mathlib.Core.List.{List, [], _∷_}
+use Prim.Native.Nat.{ℕ, zero, suc, _+_, _-_, _*_, _/_, _%_, _^_, _≤_, _<_}
+use native.Mathlib.Omega.{arith}
+use native.Mathlib.Nat.{zero-add, add-comm}
+use lib.Dec.{eqb}
+use lib.ListN.{length, take, List·getD-eq-default}
+use lib.Pow.{low, high}
+use borrow.Author.Tests.{eqb-true, eqb-false}
+use Rattle.base.specs.Lists.{upTo, keep, each, sortBy, In}
+use Rattle.base.specs.Bits.{wordOf, bitAt}
+use Rattle.rules.specs.Places.{regions}
+use Rattle.rules.specs.Indexes.{Entry, ahead}
+use Rattle.base.proofs.Tests.{which, le-or-lt}
+use Rattle.base.proofs.Members.{keep-same, keep-in, each-same, length-each}
+use Rattle.base.proofs.Runs.{in-from}
+use Rattle.base.proofs.Words.{bit-asks, word-split, word-less}
+use Rattle.base.proofs.Sorts.{each-sort, length-sort}
+use Rattle.node.specs.declared.cursor.Cursor.{Cursor}
+use Rattle.node.specs.declared.Gathered.{Gathered}
+use Rattle.node.specs.Columns.{at, Grows, Spelt, endOf, span, grownOf, growth, heldIn, regionsIn, bitsIn, entryIn, entriesIn, entryFrom, entriesFrom, byBest, Tallied, Ranks}
+use Rattle.node.specs.Visits.{numberAt, On, Ways}
+use Rattle.node.specs.Rows.{lastOf, parentOf, pastNumber, rowWith, Gathers}
+use Rattle.node.proofs.Ends.{length-short, end-from, end-after}
+use Rattle.node.proofs.Placing.{regions-are}
+
+-- ---- its entries
+
+pub entries-held : (region score next s : List ℕ) → length (entriesIn region score next s) ≡ length (regionsIn region s)
+unfolding entriesIn
+entries-held region score next s = length-sort ahead (each (entryIn region score next s) (regionsIn region s)) ∙ length-each (entryIn region score next s) (regionsIn region s)
+
+module _ (region score next s places best : List ℕ) (bits : ℕ) (t : Tallied region score next s places best bits) where
+  -- the set bits are the regions that hold a stand
+  ranked-are : keep (bitAt bits) (upTo regions) ≡ regionsIn region s
+  ranked-are = keep-same (bitAt bits) (heldIn region s) (upTo regions) asks
+    where
+      asks : (r : ℕ) → In r (upTo regions) → bitAt bits r ≡ heldIn region s r
+      asks r k =
+          ap (λ (w : ℕ). bitAt w r) (t .word)
+          ∙ bit-asks (heldIn region s) 0 64 r (omega (arith, in-from 0 regions r k .1, regions-are))
+          ∙ ap (heldIn region s) (zero-add r)
+
+  entry-is : (r : ℕ) → In r (regionsIn region s) → entryFrom best next places r ≡ entryIn region score next s r
+  unfolding entryIn
+  entry-is r k =
+      let i = keep-in (heldIn region s) (upTo regions) r k in
+      let lt : r < 64 = omega (arith, in-from 0 regions r (i .0) .1, regions-are) in
+      rw (t .most r lt (i .1), t .past r lt (i .1))
+
+  module _ (ranked : List ℕ) (held : ℕ) (k : Ranks best (keep (bitAt bits) (upTo regions)) ranked held) where
+    entries-are : entriesFrom best next places ranked held ≡ entriesIn region score next s
+    unfolding entriesFrom entriesIn
+    entries-are =
+        ap (each (entryFrom best next places)) (k .order)
+        ∙ each-sort (entryFrom best next places) (byBest best) ahead (λ x y. refl) (keep (bitAt bits) (upTo regions))
+        ∙ ap (λ (l : List ℕ). sortBy ahead (each (entryFrom best next places) l)) ranked-are
+        ∙ ap (sortBy ahead) (each-same (entryFrom best next places) (entryIn region score next s) (regionsIn region s) entry-is)
+
+    count-is : held ≡ length (entriesIn region score next s)
+    count-is = k .count ∙ ap length ranked-are ∙ sym (entries-held region score next s)
+
+pub gathered : (shared region score next : List ℕ) (i l past bits held : ℕ) (places best ranked : List ℕ)
+    → (past ≡ endOf shared i l) × (i ≤ past) × (past ≤ length shared)
+    → Tallied region score next (span i past) places best bits
+    → Ranks best (keep (bitAt bits) (upTo regions)) ranked held
+    → Gathers shared region score next i l places best ranked (record { past = past; bits = bits; held = held })
+gathered shared region score next i l past bits held places best ranked e t k =
+    record {
+      past = e .0;
+      within = e .2;
+      word = t .word ∙ ap (λ (x : ℕ). bitsIn region (span i x)) (e .0);
+      entries = entries-are region score next (span i past) places best bits t ranked held k ∙ ap (λ (x : ℕ). entriesIn region score next (span i x)) (e .0);
+      count = count-is region score next (span i past) places best bits t ranked held k ∙ ap (λ (x : ℕ). length (entriesIn region score next (span i x))) (e .0);
+      few = k .few;
+      small = k .small;
+      places-size = t .places-size;
+      best-size = t .best-size;
+      ranked-size = k .size;
+    }
+
+-- ---- the two words of its bits
+
+module _ (bits : ℕ) (test : ℕ → Bool) (e : bits ≡ wordOf test 0 64) where
+  halves : bits ≡ wordOf test 32 32 * 2 ^ 32 + wordOf test 0 32
+  halves = e ∙ word-split test 0 32 32 ∙ add-comm (wordOf test 0 32) (wordOf test 32 32 * 2 ^ 32)
+
+  pub low-is : bits % 4294967296 ≡ wordOf test 0 32
+  low-is = ap (λ (x : ℕ). x % 4294967296) halves ∙ low (wordOf test 32 32) 32 (word-less test 0 32)
+
+  pub high-is : bits / 4294967296 ≡ wordOf test 32 32
+  high-is = ap (λ (x : ℕ). x / 4294967296) halves ∙ high (wordOf test 32 32) 32 (word-less test 0 32)
+
+-- ---- its row
+
+module _ (lengths shared : List ℕ) (g : Grows lengths shared) where
+  -- the number past a subtree is reckoned without falling below 0
+  pub past-fits : (i e l : ℕ) → l ≤ at lengths i → (i < length lengths → i < e) → l ≤ at shared i + grownOf lengths shared i e
+  unfolding grownOf
+  past-fits i e l h k =
+      ⊎-elim
+      (λ (q : length lengths ≤ i). let z : at lengths i ≡ 0 = List·getD-eq-default lengths 0 q in omega arith)
+      (λ (q : i < length lengths).
+      let more : e - i ≡ suc (e - suc i) = omega (arith, k q) in
+      rw more (omega (arith, g .part i q)))
+      (le-or-lt (length lengths) i)
+
+  module _ (c : Cursor) (o : On lengths shared c) where
+    pub length-fits : c .length ≤ 24
+    length-fits = omega (arith, o .long, length-short lengths shared g (c .stand))
+
+    pub spelt-at : (text starts : List ℕ) → Spelt text starts lengths → 0 < c .length → (c .stand < length starts) × (at starts (c .stand) + c .length ≤ length text)
+    spelt-at text starts w h =
+        ⊎-elim
+        (λ (q : length lengths ≤ c .stand). let z : at lengths (c .stand) ≡ 0 = List·getD-eq-default lengths 0 q in absurd (omega (arith, o .long)))
+        (λ (q : c .stand < length lengths). (omega (arith, w .begun), omega (arith, w .inside (c .stand) q, o .long)))
+        (le-or-lt (length lengths) (c .stand))
+
+    pub parent-is : (path : List ℕ) → Ways lengths shared path (c .stand) (c .length) → cond (eqb (c .length) 0) 0 (at path (c .length - 1)) ≡ parentOf lengths shared (c .stand) (c .length)
+    parent-is path w = step (which (eqb (c .length) 0))
+      where
+        step : (eqb (c .length) 0 ≡ true) ⊎ (eqb (c .length) 0 ≡ false) → cond (eqb (c .length) 0) 0 (at path (c .length - 1)) ≡ parentOf lengths shared (c .stand) (c .length)
+        step (inl q) = rw q
+        step (inr q) = let n = eqb-false (c .length) 0 q in rw q (w (c .length - 1) (omega arith))
+
+  pub past-after : (i l e : ℕ) → e ≡ endOf shared i l → (i ≤ e) × (i < length lengths → i < e)
+  past-after i l e q = (omega (arith, end-from shared i l), λ h. omega (arith, end-after shared i l (omega (arith, g .same))))
+
+pub row-is : (text starts lengths shared : List ℕ) (j n i l e low high above last past low′ high′ : ℕ)
+    → above ≡ parentOf lengths shared i l → last ≡ lastOf text starts i l → past ≡ pastNumber lengths shared i l e j → low′ ≡ low → high′ ≡ high
+    → above ∷ last ∷ i ∷ e ∷ past ∷ low′ ∷ high′ ∷ n ∷ [] ≡ rowWith text starts lengths shared j n i l e low high
+row-is text starts lengths shared j n i l e low high above last past low′ high′ a b c d f = rw (a, b, c, d, f)

@@ -1,0 +1,153 @@
+-- The cursor's step, over plain lists: past a stand's nodes come the next stand's new ones. Assumes nothing.
+use mathlib.Core.Path.{_≡_, refl, sym, ap, _∙_}
+use mathlib.Core.Logic.{_⊎_, inl, inr, ⊎-elim}
+use mathlib.Core.Bool.{Bool, true, false}
+use mathlib.Core.List.{List, [], _∷_, _++_}
+use Prim.Native.Nat.{ℕ, zero, suc, _+_, _-_, _≤_, _<_}
+use native.Mathlib.Omega.{arith}
+use native.Mathlib.Numerals.{add-one}
+use lib.Dec.{eqb, ltb}
+use lib.ListN.{length, set, length-set, List·getD-eq-default}
+use lib.Seq.{getD-set-same, getD-set-other}
+use borrow.Author.Tests.{lt-ltb, le-ltb, eqb-true, eqb-false}
+use Rattle.base.specs.Lists.{fromOn, eachList}
+use Rattle.base.proofs.Tests.{which, le-or-lt}
+use Rattle.node.specs.Columns.{at, Grows, grownOf}
+use Rattle.node.specs.declared.cursor.Cursor.{Cursor}
+use Rattle.node.specs.Visits.{Visit, visitsAt, newVisits, visitsFrom, nodesBefore, numberAt, placesAt, On, Ways, Stepped, Advanced}
+use Rattle.node.proofs.Ends.{length-short, grown-last}
+
+module _ (lengths shared : List ℕ) where
+  -- a node's number, by what a cursor at it has counted
+  pub number-at : (i l n : ℕ) → (0 < i → at shared i < l) → at shared 0 ≡ 0 → n + suc (at shared i) ≡ nodesBefore lengths shared i + l → n ≡ numberAt lengths shared i l
+  unfolding grownOf
+  number-at zero l n new z e = omega (arith, e, z)
+  number-at (suc i) l n new z e = let lt = new (omega arith) in rw (lt-ltb (at shared (suc i)) l lt) (omega (arith, e))
+
+  visits-next : (i l : ℕ) → i < length lengths → l ≡ suc (at lengths i) → visitsFrom lengths shared (suc i) (suc (at shared (suc i))) ≡ visitsFrom lengths shared i l
+  unfolding visitsFrom
+  visits-next i l h e = ⊎-elim last more (le-or-lt (length lengths) (suc i)) ∙ sym (ap (λ (v : List Visit). v ++ eachList (newVisits lengths shared) (fromOn (suc i) (length lengths - suc i))) none)
+    where
+      none : visitsAt lengths i l ≡ []
+      none = let z : suc (at lengths i) - l ≡ 0 = omega arith in rw z
+
+      more : suc i < length lengths → visitsAt lengths (suc i) (suc (at shared (suc i))) ++ eachList (newVisits lengths shared) (fromOn (suc (suc i)) (length lengths - suc (suc i))) ≡ eachList (newVisits lengths shared) (fromOn (suc i) (length lengths - suc i))
+      more q = let w : length lengths - suc i ≡ suc (length lengths - suc (suc i)) = omega arith in rw w
+
+      last : length lengths ≤ suc i → visitsAt lengths (suc i) (suc (at shared (suc i))) ++ eachList (newVisits lengths shared) (fromOn (suc (suc i)) (length lengths - suc (suc i))) ≡ eachList (newVisits lengths shared) (fromOn (suc i) (length lengths - suc i))
+      last q =
+          let w : length lengths - suc i ≡ 0 = omega arith in
+          let v : length lengths - suc (suc i) ≡ 0 = omega arith in
+          let u : at lengths (suc i) ≡ 0 = List·getD-eq-default lengths 0 q in
+          let t : suc (at lengths (suc i)) - suc (at shared (suc i)) ≡ 0 = omega (arith, u) in
+          rw (w, v, t)
+
+  pub visits-done : (i l : ℕ) → length lengths ≤ i → 0 < l → visitsFrom lengths shared i l ≡ []
+  unfolding visitsFrom
+  visits-done i l h k =
+      let w : length lengths - suc i ≡ 0 = omega arith in
+      let u : at lengths i ≡ 0 = List·getD-eq-default lengths 0 h in
+      let t : suc (at lengths i) - l ≡ 0 = omega (arith, u) in
+      rw (w, t)
+
+  pub visits-first : (i l : ℕ) → l ≤ at lengths i → visitsFrom lengths shared i l ≡ record { stand = i; length = l } ∷ visitsFrom lengths shared i (suc l)
+  unfolding visitsFrom
+  visits-first i l h = let t : suc (at lengths i) - l ≡ suc (suc (at lengths i) - suc l) = omega arith in rw t
+
+-- on the way from stand i₀ and length l₀ to the next node: at stand i, of which lengths below l are passed
+pub record Here (lengths shared : List ℕ) (i₀ l₀ number i l : ℕ) : Type 0 where
+  pub short : l ≤ suc (at lengths i)
+  pub new : at shared i < l
+  pub count : number + suc (at shared i) ≡ nodesBefore lengths shared i + l
+  pub above : (k : ℕ) → k < l → (k < l₀) × (numberAt lengths shared i k ≡ numberAt lengths shared i₀ k)
+
+pub record Stepping (lengths shared : List ℕ) (i₀ l₀ number i l : ℕ) : Type 0 where
+  pub after : i₀ ≤ i
+  pub within : i ≤ length lengths
+  pub some : 0 < l
+  pub visits : visitsFrom lengths shared i l ≡ visitsFrom lengths shared i₀ l₀
+  pub here : i < length lengths → Here lengths shared i₀ l₀ number i l
+
+module _ (lengths shared : List ℕ) (g : Grows lengths shared) where
+  pub stepping : (c : Cursor) → On lengths shared c → Stepping lengths shared (c .stand) (c .length + 1) (c .number + 1) (c .stand) (c .length + 1)
+  stepping c o =
+      record {
+        after = omega arith;
+        within = o .within;
+        some = omega arith;
+        visits = refl;
+        here = λ h. record {
+          short = omega (arith, o .long);
+          new = new (c .stand) (o .new);
+          count = omega (arith, o .count);
+          above = λ k lt. (lt, refl);
+        };
+      }
+    where
+      new : (i : ℕ) → (0 < i → at shared i < c .length) → at shared i < c .length + 1
+      new zero f = omega (arith, g .first)
+      new (suc i) f = omega (arith, f (omega arith))
+
+  module _ (i₀ l₀ number : ℕ) where
+    pub stepping-more : (i l w : ℕ) → Stepping lengths shared i₀ l₀ number i l → i < length lengths → at lengths i < l → w ≡ at shared (i + 1) → Stepping lengths shared i₀ l₀ number (i + 1) (w + 1)
+    stepping-more i l w s h lt e =
+        let p = s .here h in
+        let full : l ≡ suc (at lengths i) = omega (arith, p .short) in
+        let e′ : w ≡ at shared (suc i) = e ∙ ap (at shared) (add-one i) in
+        let v : visitsFrom lengths shared (i + 1) (w + 1) ≡ visitsFrom lengths shared (suc i) (suc (at shared (suc i))) =
+        ap (λ (x : ℕ). visitsFrom lengths shared x (w + 1)) (add-one i) ∙ ap (visitsFrom lengths shared (suc i)) (add-one w ∙ ap suc e′) in
+        record {
+          after = omega (arith, s .after);
+          within = omega arith;
+          some = omega arith;
+          visits = v ∙ visits-next lengths shared i l h full ∙ s .visits;
+          here = λ k. record {
+            short = omega (arith, e, g .part (i + 1) k);
+            new = omega (arith, e);
+            count = omega (arith, p .count, grown-last lengths shared 0 i (omega arith), g .part i h, e);
+            above = λ x u.
+                let low : x ≤ at shared (suc i) = omega (arith, e′) in
+                let q = p .above x (omega (arith, g .before i (omega arith))) in
+                (q .0, rw (add-one i) (rw (le-ltb (at shared (suc i)) x low) (q .1)));
+          };
+        }
+
+  pub stepped : (c : Cursor) (held i l : ℕ) → Stepping lengths shared (c .stand) (c .length + 1) (c .number + 1) i l → (i < length lengths → l ≤ at lengths i)
+      → Stepped lengths shared c held (record { stand = i; length = l; number = c .number + 1; entries = c .entries + held })
+  stepped c held i l s f =
+      record {
+        visits = s .visits ∙ ap (visitsFrom lengths shared (c .stand)) (add-one (c .length));
+        number = add-one (c .number);
+        entries = refl;
+        after = s .after;
+        within = s .within;
+        some = s .some;
+        on = λ h. let p = s .here h in record { within = s .within; long = f h; new = λ _. p .new; count = p .count };
+        ways = λ path old h k lt. let q = s .here h .above k lt in old k (omega (arith, q .0)) ∙ sym (q .1);
+      }
+
+  -- the path with the cursor's own number
+  ways-more : (c : Cursor) (path : List ℕ) (above : ℕ) → On lengths shared c → Ways lengths shared path (c .stand) (c .length) → length path ≡ 25 → above ≡ c .length
+      → Ways lengths shared (set path above (c .number)) (c .stand) (suc (c .length))
+  ways-more c path above o old size e k lt = step (which (eqb k (c .length)))
+    where
+      step : (eqb k (c .length) ≡ true) ⊎ (eqb k (c .length) ≡ false) → at (set path above (c .number)) k ≡ numberAt lengths shared (c .stand) k
+      step (inl q) =
+          let w = eqb-true k (c .length) q in
+          ap (at (set path above (c .number))) (w ∙ sym e)
+          ∙ getD-set-same path above (c .number) 0 (omega (arith, o .long, length-short lengths shared g (c .stand)))
+          ∙ number-at lengths shared (c .stand) (c .length) (c .number) (o .new) (g .first) (o .count)
+          ∙ ap (numberAt lengths shared (c .stand)) (sym w)
+      step (inr q) =
+          let w = eqb-false k (c .length) q in
+          getD-set-other path above k (c .number) 0 (λ v. w (v ∙ e)) ∙ old k (omega arith)
+
+  pub advanced : (region next path : List ℕ) (c : Cursor) (held above : ℕ) (r : Cursor) → On lengths shared c → Ways lengths shared path (c .stand) (c .length) → length path ≡ 25 → above ≡ c .length
+      → Stepped lengths shared c held r → next ≡ placesAt region (r .stand) → Advanced lengths shared region c held next (set path above (c .number)) r
+  advanced region next path c held above r o old size e t p =
+      record {
+        stepped = t;
+        places = p;
+        ways = t .ways (set path above (c .number)) (ways-more c path above o old size e);
+        size = length-set path above (c .number) ∙ size;
+      }

@@ -1,0 +1,60 @@
+-- `node::cursor::pass` meets its contract: the loop's invariant is `Passing`, whose laws are of proofs/Placing.antt. Assumes nothing.
+use borrow.Author.Needs.{needs}
+use native.Mathlib.Omega.{arith}
+use Prim.Native.Nat.{_-_}
+use Rattle.node.proofs.Placing.{Passing, passing, passing-more, passing-end, next-small}
+use Rattle.node.proofs.cursor.pass.Statement.{statement}
+use Rattle.node.proofs.cursor.pass.Tie as tie
+
+abbrev Inv-loop : tie.InvT-loop
+Inv-loop region next₀ from to k₀ next k = Passing region from to next k
+
+abbrev μ-loop : tie.MeasureT-loop
+μ-loop region next₀ from to k₀ next k = to - k
+
+loop-holds : tie.Need-loop-holds Inv-loop μ-loop
+loop-holds c = passing _ _ _ _ (search needs) (search needs)
+
+region-at-requires : tie.Need-region-at-requires Inv-loop μ-loop
+region-at-requires c κs = search needs
+
+mul-next : tie.Need-mul-next Inv-loop μ-loop
+mul-next c = search needs
+
+element-copy-out-next : tie.Need-element-copy-out-next Inv-loop μ-loop
+element-copy-out-next c = search needs
+
+add-next : tie.Need-add-next Inv-loop μ-loop
+add-next c = omega (arith, next-small _ _ (c .before .before .before .loop .k) (c .before .region-at .result) (c .before .before .before .before .before .pre .0) (c .before .before .before .loop .inv .places) (search needs) (c .before .region-at .ensures .1))
+
+element-write-next : tie.Need-element-write-next Inv-loop μ-loop
+element-write-next c = search needs
+
+add-k : tie.Need-add-k Inv-loop μ-loop
+add-k c = search needs
+
+loop-less : tie.Need-loop-less Inv-loop μ-loop
+loop-less c = search needs
+
+loop-again : tie.Need-loop-again Inv-loop μ-loop
+loop-again c = passing-more _ _ _ _ _ _ (c .before .before .before .loop .inv) (search needs) (c .before .region-at .ensures .0) (c .before .region-at .ensures .1)
+
+returns : tie.Need-returns Inv-loop μ-loop
+returns c = passing-end _ _ _ _ _ (c .before .loop .inv) (c .loop-test .left)
+
+pub pass-spec : {M : Type 1} → statement M
+pass-spec =
+    tie.close
+    (tie.spec
+    Inv-loop
+    μ-loop
+    loop-holds
+    region-at-requires
+    mul-next
+    element-copy-out-next
+    add-next
+    element-write-next
+    add-k
+    loop-less
+    loop-again
+    returns)

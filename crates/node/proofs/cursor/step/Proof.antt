@@ -1,0 +1,70 @@
+-- `node::cursor::step` meets its contract: the loop's invariant is `Stepping`, whose laws are of proofs/Steps.antt. Assumes nothing.
+use borrow.Author.Needs.{needs}
+use native.Mathlib.Omega.{arith}
+use Prim.Native.Nat.{_+_, _-_}
+use lib.ListN.{length}
+use Rattle.node.proofs.Ends.{length-short, shared-short}
+use Rattle.node.proofs.Steps.{Stepping, stepping, stepping-more, stepped}
+use Rattle.node.proofs.cursor.step.Statement.{statement}
+use Rattle.node.proofs.cursor.step.Tie as tie
+
+abbrev Inv-loop : tie.InvT-loop
+Inv-loop lengths shared held i₀ l₀ number entries i l = Stepping lengths shared i₀ l₀ number i l
+
+abbrev μ-loop : tie.MeasureT-loop
+μ-loop lengths shared held i₀ l₀ number entries i l = length lengths - i
+
+add-l : tie.Need-add-l Inv-loop μ-loop
+add-l c = omega (arith, c .before .before .before .pre .1 .long, length-short _ _ (c .before .before .before .pre .0) (c .before .before .before .args .c .stand))
+
+add-number : tie.Need-add-number Inv-loop μ-loop
+add-number c = search needs
+
+add-entries : tie.Need-add-entries Inv-loop μ-loop
+add-entries c = search needs
+
+loop-holds : tie.Need-loop-holds Inv-loop μ-loop
+loop-holds c = stepping _ _ (c .before .before .before .before .before .pre .0) (c .before .before .before .before .before .args .c) (c .before .before .before .before .before .pre .1)
+
+shared-slice-read-if1 : tie.Need-shared-slice-read-if1 Inv-loop μ-loop
+shared-slice-read-if1 c = search needs
+
+returns : tie.Need-returns Inv-loop μ-loop
+returns c = stepped _ _ (c .before .before .before .before .before .before .before .before .before .pre .0) (c .before .before .before .before .before .before .before .before .before .args .c) _ _ _ (c .before .before .before .loop .inv) (λ h. c .if1 .taken)
+
+add-i : tie.Need-add-i Inv-loop μ-loop
+add-i c = search needs
+
+value-at-requires : tie.Need-value-at-requires Inv-loop μ-loop
+value-at-requires c κs = search needs
+
+add-l-2 : tie.Need-add-l-2 Inv-loop μ-loop
+add-l-2 c = omega (arith, shared-short _ _ (c .before .before .before .before .before .before .before .before .before .before .pre .0) (c .before .before .before .before .loop .i + 1), c .value-at .ensures)
+
+loop-less : tie.Need-loop-less Inv-loop μ-loop
+loop-less c = search needs
+
+loop-again : tie.Need-loop-again Inv-loop μ-loop
+loop-again c = stepping-more _ _ (c .before .before .before .before .before .before .before .before .before .before .pre .0) _ _ _ _ _ _ (c .before .before .before .before .loop .inv) (search needs) (c .before .if1 .left) (c .value-at .ensures)
+
+returns-2 : tie.Need-returns-2 Inv-loop μ-loop
+returns-2 c = stepped _ _ (c .before .before .before .before .before .before .before .pre .0) (c .before .before .before .before .before .before .before .args .c) _ _ _ (c .before .loop .inv) (λ h. absurd (omega arith))
+
+pub step-spec : {M : Type 1} → statement M
+step-spec =
+    tie.close
+    (tie.spec
+    Inv-loop
+    μ-loop
+    add-l
+    add-number
+    add-entries
+    loop-holds
+    shared-slice-read-if1
+    returns
+    add-i
+    value-at-requires
+    add-l-2
+    loop-less
+    loop-again
+    returns-2)

@@ -1,0 +1,14 @@
+-- `node::high_word` meets its contract: a word of 64 bits is its two halves. Assumes nothing.
+use borrow.Author.Needs.{needs}
+use Rattle.node.proofs.Gathering.{high-is}
+use Rattle.node.proofs.high_word.Statement.{statement}
+use Rattle.node.proofs.high_word.Tie as tie
+
+cast-result : tie.Need-cast-result
+cast-result c = search needs
+
+returns : tie.Need-returns
+returns c = λ test e. high-is _ test e
+
+pub high-word-spec : {M : Type 1} → statement M
+high-word-spec = tie.close (tie.spec cast-result returns)

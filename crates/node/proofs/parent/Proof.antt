@@ -1,0 +1,29 @@
+-- `node::parent` meets its contract, by the test that each return comes from. Assumes nothing.
+use borrow.Author.Needs.{needs}
+use native.Mathlib.Omega.{arith}
+use borrow.Author.Tests.{eq-eqb, ne-eqb}
+use Rattle.node.proofs.parent.Statement.{statement}
+use Rattle.node.proofs.parent.Tie as tie
+
+returns : tie.Need-returns
+returns c = simp (eq-eqb _ _ (c .if1 .taken))
+
+sub-wide : tie.Need-sub-wide
+sub-wide c = search needs
+
+wide-requires : tie.Need-wide-requires
+wide-requires c κs = search needs
+
+mul-result : tie.Need-mul-result
+mul-result c = omega (arith, c .wide .ensures)
+
+element-copy-out-result : tie.Need-element-copy-out-result
+element-copy-out-result c = omega (arith, c .wide .ensures)
+
+returns-2 : tie.Need-returns-2
+returns-2 c = simp (c .before .wide .ensures, ne-eqb _ _ (c .before .before .if1 .left))
+
+pub parent-spec : {M : Type 1} → statement M
+parent-spec =
+    tie.close
+    (tie.spec returns sub-wide wide-requires mul-result element-copy-out-result returns-2)

@@ -1,0 +1,58 @@
+-- `node::past_number` meets its contract: what is taken off was counted before. Assumes nothing.
+use borrow.Author.Needs.{needs}
+use native.Mathlib.Omega.{arith}
+use Prim.Native.Nat.{_+_, _≤_}
+use Rattle.node.proofs.Ends.{shared-short, grown-small}
+use Rattle.node.proofs.Gathering.{past-fits}
+use Rattle.node.proofs.past_number.Statement.{statement}
+use Rattle.node.proofs.past_number.Tie as tie
+
+-- the sum fits, and is no less than what is taken off
+sum-fits : (c : tie.After-word2) → (c .before .before .word .result ≤ 24) × (c .before .grown .result ≤ 24576) × (c .word2 .result ≤ c .before .before .word .result + c .before .grown .result)
+sum-fits c =
+    let g = c .before .before .before .before .before .before .pre .0 in
+    let old = shared-short _ _ g (c .before .before .before .before .before .before .args .i) in
+    let grew = grown-small _ _ g (c .before .before .before .before .before .before .args .i) (c .before .before .before .before .before .before .args .e) (c .before .before .before .before .before .before .pre .2) in
+    let fits = past-fits _ _ g (c .before .before .before .before .before .before .args .i) (c .before .before .before .before .before .before .args .e) (c .before .before .before .before .before .before .args .l) (c .before .before .before .before .before .before .pre .4) (c .before .before .before .before .before .before .pre .5) in
+    (omega (arith, c .before .before .word .ensures, c .before .before .before .value-at .ensures), omega (arith, c .before .grown .ensures), omega (arith, c .word2 .ensures, c .before .before .word .ensures, c .before .before .before .value-at .ensures, c .before .grown .ensures))
+
+value-at-requires : tie.Need-value-at-requires
+value-at-requires c κs = search needs
+
+word-requires : tie.Need-word-requires
+word-requires c κs = search needs
+
+grown-requires : tie.Need-grown-requires
+grown-requires c κs = search needs
+
+word-requires-2 : tie.Need-word-requires-2
+word-requires-2 c κs = search needs
+
+add-result : tie.Need-add-result
+add-result c = omega (arith, sum-fits c)
+
+add-result-2 : tie.Need-add-result-2
+add-result-2 c = omega (arith, sum-fits c)
+
+add-result-3 : tie.Need-add-result-3
+add-result-3 c = omega (arith, sum-fits c)
+
+sub-result : tie.Need-sub-result
+sub-result c = omega (arith, sum-fits c)
+
+returns : tie.Need-returns
+returns c = omega (arith, c .word2 .ensures, c .before .grown .ensures, c .before .before .word .ensures, c .before .before .before .value-at .ensures)
+
+pub past-number-spec : {M : Type 1} → statement M
+past-number-spec =
+    tie.close
+    (tie.spec
+    value-at-requires
+    word-requires
+    grown-requires
+    word-requires-2
+    add-result
+    add-result-2
+    add-result-3
+    sub-result
+    returns)

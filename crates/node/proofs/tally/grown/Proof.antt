@@ -1,0 +1,64 @@
+-- `node::tally::grown` meets its contract: the loop's invariant is `Growing`, whose laws are of proofs/Ends.antt. Assumes nothing.
+use borrow.Author.Needs.{needs}
+use native.Mathlib.Omega.{arith}
+use Prim.Native.Nat.{_-_}
+use Rattle.node.proofs.Ends.{Growing, growing, growing-more, growing-fits, growing-end}
+use Rattle.node.proofs.tally.grown.Statement.{statement}
+use Rattle.node.proofs.tally.grown.Tie as tie
+
+abbrev Inv-loop : tie.InvT-loop
+Inv-loop lengths shared i e sum₀ k₀ sum k = Growing lengths shared i e sum k
+
+abbrev μ-loop : tie.MeasureT-loop
+μ-loop lengths shared i e sum₀ k₀ sum k = e - k
+
+loop-holds : tie.Need-loop-holds Inv-loop μ-loop
+loop-holds c = growing _ _ _ _ (search needs)
+
+shared-slice-read-word : tie.Need-shared-slice-read-word Inv-loop μ-loop
+shared-slice-read-word c = search needs
+
+shared-slice-read-word-2 : tie.Need-shared-slice-read-word-2 Inv-loop μ-loop
+shared-slice-read-word-2 c = search needs
+
+sub-word : tie.Need-sub-word Inv-loop μ-loop
+sub-word c = c .before .before .before .before .before .before .pre .0 .part (c .before .before .before .loop .k) (search needs)
+
+word-requires : tie.Need-word-requires Inv-loop μ-loop
+word-requires c κs = search needs
+
+add-sum : tie.Need-add-sum Inv-loop μ-loop
+add-sum c =
+    omega (
+      arith,
+      growing-fits _ _ _ _ _ _ _ (c .before .before .before .before .before .before .before .pre .0) (search needs) (c .before .before .before .before .loop .inv) (search needs) (c .word .ensures),
+    )
+
+add-k : tie.Need-add-k Inv-loop μ-loop
+add-k c = search needs
+
+loop-less : tie.Need-loop-less Inv-loop μ-loop
+loop-less c = search needs
+
+loop-again : tie.Need-loop-again Inv-loop μ-loop
+loop-again c = growing-more _ _ _ _ _ _ _ (c .before .before .before .before .loop .inv) (search needs) (c .word .ensures)
+
+returns : tie.Need-returns Inv-loop μ-loop
+returns c = growing-end _ _ _ _ _ _ (c .before .loop .inv) (c .loop-test .left)
+
+pub grown-spec : {M : Type 1} → statement M
+grown-spec =
+    tie.close
+    (tie.spec
+    Inv-loop
+    μ-loop
+    loop-holds
+    shared-slice-read-word
+    shared-slice-read-word-2
+    sub-word
+    word-requires
+    add-sum
+    add-k
+    loop-less
+    loop-again
+    returns)

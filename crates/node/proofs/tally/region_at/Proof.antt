@@ -1,0 +1,17 @@
+-- `node::tally::region_at` meets its contract, by what is required of the regions. Assumes nothing.
+use borrow.Author.Needs.{needs}
+use native.Mathlib.Omega.{arith}
+use Rattle.node.proofs.tally.region_at.Statement.{statement}
+use Rattle.node.proofs.tally.region_at.Tie as tie
+
+shared-slice-read-wide : tie.Need-shared-slice-read-wide
+shared-slice-read-wide c = search needs
+
+wide-requires : tie.Need-wide-requires
+wide-requires c κs = search needs
+
+returns : tie.Need-returns
+returns c = (c .wide .ensures, omega (arith, c .before .before .before .pre .0 .inside (c .before .before .before .args .k) (search needs), c .wide .ensures))
+
+pub region-at-spec : {M : Type 1} → statement M
+region-at-spec = tie.close (tie.spec shared-slice-read-wide wide-requires returns)

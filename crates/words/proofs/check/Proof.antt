@@ -1,0 +1,69 @@
+-- `words::check` meets its contract: the loop's invariant is `Checking`, whose laws are of proofs/Checks.antt. Assumes nothing.
+use borrow.Author.Needs.{needs}
+use native.Mathlib.Omega.{arith}
+use mathlib.Core.Path.{refl}
+use Prim.Native.Nat.{_-_}
+use Rattle.node.specs.Columns.{columnsOf}
+use Rattle.words.proofs.Walks.{carrying, standing}
+use Rattle.words.proofs.Checks.{Checking, checking, checking-not, checking-more, checking-end}
+use Rattle.words.proofs.check.Statement.{statement}
+use Rattle.words.proofs.check.Tie as tie
+
+abbrev Inv-loop : tie.InvT-loop
+Inv-loop text starts lengths shared region score all nodes entries next₀ path₀ places₀ best₀ ranked₀ c₀ next path places best ranked c = Checking (columnsOf text starts lengths shared region score) all nodes entries next path places best ranked c
+
+abbrev μ-loop : tie.MeasureT-loop
+μ-loop text starts lengths shared region score all nodes entries next₀ path₀ places₀ best₀ ranked₀ c₀ next path places best ranked c = all - c .number
+
+places-of-requires : tie.Need-places-of-requires Inv-loop μ-loop
+places-of-requires c κs = c .before .before .before .before .before .before .before .before .pre .0 .placed
+
+root-requires : tie.Need-root-requires Inv-loop μ-loop
+root-requires c κs = search needs
+
+loop-holds : tie.Need-loop-holds Inv-loop μ-loop
+loop-holds c =
+    let p = c .before .before .before .before .before .before .before .before .before .before .pre in
+    checking _ (p .0) _ _ _ _ _ _ _ _ _ (c .root .ensures) (carrying _ (p .0) _ _ (c .root .ensures) (p .1) _ _ _ _ _ (c .before .places-of .ensures) (record { path-size = refl; places-size = refl; best-size = refl; ranked-size = refl }))
+
+check-node-requires : tie.Need-check-node-requires Inv-loop μ-loop
+check-node-requires c κs =
+    let p = c .before .before .before .before .before .before .before .before .before .before .before .before .before .before .before .before .before .before .pre in
+    (p .0, standing _ (p .0) _ _ _ _ _ _ _ (c .before .before .before .before .before .before .before .loop .inv .carried) (c .before .before .before .before .before .if1 .taken))
+
+enum-known-further : tie.Need-enum-known-further Inv-loop μ-loop
+enum-known-further c = search needs
+
+enum-told : tie.Need-enum-told Inv-loop μ-loop
+enum-told c = search needs
+
+returns : tie.Need-returns Inv-loop μ-loop
+returns c = checking-not _ (c .before .before .before .before .before .before .before .before .before .before .before .before .before .before .before .before .before .before .before .before .before .pre .0) _ _ _ _ _ _ _ _ _ (c .before .before .before .before .before .before .before .before .before .before .loop .inv) (c .before .before .before .before .before .before .before .before .if1 .taken) (c .before .before .check-node .ensures .different (c .enum-told .given .1))
+
+loop-less : tie.Need-loop-less Inv-loop μ-loop
+loop-less c = omega (arith, c .before .before .before .check-node .ensures .same _ (c .before .further .given .1) .2 .stepped .number, c .before .before .before .before .before .before .before .before .before .if1 .taken)
+
+loop-again : tie.Need-loop-again Inv-loop μ-loop
+loop-again c =
+    let same = c .before .before .before .check-node .ensures .same _ (c .before .further .given .1) in
+    checking-more _ (c .before .before .before .before .before .before .before .before .before .before .before .before .before .before .before .before .before .before .before .before .before .before .pre .0) _ _ _ _ _ _ _ _ _ (c .before .before .before .before .before .before .before .before .before .before .before .loop .inv) (c .before .before .before .before .before .before .before .before .before .if1 .taken) _ _ _ _ _ _ (same .0) (same .1) (same .2)
+
+returns-2 : tie.Need-returns-2 Inv-loop μ-loop
+returns-2 c = checking-end _ (c .before .before .before .before .before .before .before .before .before .before .before .before .before .pre .0) _ _ _ _ _ _ _ _ _ (c .before .before .loop .inv) (c .if1 .left)
+
+pub check-spec : {M : Type 1} → statement M
+check-spec =
+    tie.close
+    (tie.spec
+    Inv-loop
+    μ-loop
+    places-of-requires
+    root-requires
+    loop-holds
+    check-node-requires
+    enum-known-further
+    enum-told
+    returns
+    loop-less
+    loop-again
+    returns-2)

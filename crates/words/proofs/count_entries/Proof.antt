@@ -1,0 +1,57 @@
+-- `words::count_entries` meets its contract: the loop's invariant is `Counting`, whose laws are of proofs/Walks.antt. Assumes nothing.
+use borrow.Author.Needs.{needs}
+use native.Mathlib.Omega.{arith}
+use mathlib.Core.Path.{ap}
+use Prim.Native.Nat.{_-_}
+use lib.Count.{ones}
+use Rattle.words.proofs.Walks.{Counting, counting, counting-fits, counting-more, counting-end}
+use Rattle.words.proofs.count_entries.Statement.{statement}
+use Rattle.words.proofs.count_entries.Tie as tie
+
+abbrev Inv-loop : tie.InvT-loop
+Inv-loop lengths shared region all c₀ c = Counting lengths shared region all c
+
+abbrev μ-loop : tie.MeasureT-loop
+μ-loop lengths shared region all c₀ c = all - c .number
+
+root-requires : tie.Need-root-requires Inv-loop μ-loop
+root-requires c κs = search needs
+
+loop-holds : tie.Need-loop-holds Inv-loop μ-loop
+loop-holds c = counting _ _ _ _ _ (c .root .ensures) (c .before .before .before .before .pre .0) (c .before .before .before .before .pre .3)
+
+end-of-requires : tie.Need-end-of-requires Inv-loop μ-loop
+end-of-requires c κs = omega (arith, c .before .before .loop .inv .way .on (c .if1 .taken) .within, c .before .before .before .before .before .before .before .pre .0 .same)
+
+regions-of-requires : tie.Need-regions-of-requires Inv-loop μ-loop
+regions-of-requires c κs = (c .before .before .before .before .before .before .before .before .pre .1, c .end-of .ensures .1, omega (arith, c .end-of .ensures .2, c .before .before .before .before .before .before .before .before .pre .0 .same, c .before .before .before .before .before .before .before .before .pre .2))
+
+step-requires : tie.Need-step-requires Inv-loop μ-loop
+step-requires c κs =
+    let s = c .before .before .before .before .loop .inv in
+    let lt = c .before .before .if1 .taken in
+    (c .before .before .before .before .before .before .before .before .before .pre .0, s .way .on lt, omega (arith, s .way .few), counting-fits _ _ _ _ _ s lt _ _ (c .before .end-of .ensures .0) (ap ones (c .regions-of .ensures)))
+
+loop-less : tie.Need-loop-less Inv-loop μ-loop
+loop-less c = omega (arith, c .step .ensures .number, c .before .before .before .if1 .taken)
+
+loop-again : tie.Need-loop-again Inv-loop μ-loop
+loop-again c = counting-more _ _ _ _ _ (c .before .before .before .before .before .loop .inv) (c .before .before .before .if1 .taken) _ _ (c .before .before .end-of .ensures .0) (ap ones (c .before .regions-of .ensures)) _ (c .step .ensures)
+
+returns : tie.Need-returns Inv-loop μ-loop
+returns c = counting-end _ _ _ _ _ (c .before .before .loop .inv) (c .if1 .left)
+
+pub count-entries-spec : {M : Type 1} → statement M
+count-entries-spec =
+    tie.close
+    (tie.spec
+    Inv-loop
+    μ-loop
+    root-requires
+    loop-holds
+    end-of-requires
+    regions-of-requires
+    step-requires
+    loop-less
+    loop-again
+    returns)

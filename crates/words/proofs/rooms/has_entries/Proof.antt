@@ -1,0 +1,76 @@
+-- `words::rooms::has_entries` meets its contract: the loop's invariant is `Comparing`, whose laws are of proofs/Overs.antt. Assumes nothing.
+use borrow.Author.Needs.{needs}
+use native.Mathlib.Omega.{arith}
+use mathlib.Core.Path.{ap}
+use Prim.Native.Nat.{_-_}
+use lib.ListN.{length}
+use Rattle.base.proofs.Tests.{breaks, holds}
+use Rattle.node.specs.Columns.{entriesFrom}
+use Rattle.words.proofs.Overs.{Comparing, comparing, slots-not, slots-same, slots-all}
+use Rattle.words.proofs.rooms.has_entries.Statement.{statement}
+use Rattle.words.proofs.rooms.has_entries.Tie as tie
+
+abbrev Inv-loop : tie.InvT-loop
+Inv-loop room at ranked held best next places k₀ k = Comparing room at (entriesFrom best next places ranked held) k
+
+abbrev μ-loop : tie.MeasureT-loop
+μ-loop room at ranked held best next places k₀ k = held - k
+
+loop-holds : tie.Need-loop-holds Inv-loop μ-loop
+loop-holds c = comparing _ _ _
+
+mul-entry-row : tie.Need-mul-entry-row Inv-loop μ-loop
+mul-entry-row c = search needs
+
+element-copy-out-entry-row : tie.Need-element-copy-out-entry-row Inv-loop μ-loop
+element-copy-out-entry-row c = search needs
+
+entry-row-requires : tie.Need-entry-row-requires Inv-loop μ-loop
+entry-row-requires c κs = c .before .before .before .before .pre .2 _ (c .before .loop-test .taken)
+
+mul-has-words : tie.Need-mul-has-words Inv-loop μ-loop
+mul-has-words c = search needs
+
+add-has-words : tie.Need-add-has-words Inv-loop μ-loop
+add-has-words c = search needs
+
+slice-aggregate-has-words : tie.Need-slice-aggregate-has-words Inv-loop μ-loop
+slice-aggregate-has-words c = search needs
+
+has-words-requires : tie.Need-has-words-requires Inv-loop μ-loop
+has-words-requires c κs = (omega arith, omega (arith, ap length (c .before .entry-row .ensures)))
+
+returns : tie.Need-returns Inv-loop μ-loop
+returns c = slots-not _ _ _ _ _ (c .before .before .before .before .before .before .before .before .pre .0) (c .before .before .before .before .before .before .before .before .pre .1) _ _ _ (c .before .before .before .before .before .before .loop .inv) _ (c .before .before .before .before .before .loop-test .taken) (c .before .before .before .entry-row .ensures) (breaks _ _ (c .before .has-words .ensures) (c .if1 .taken))
+
+add-k : tie.Need-add-k Inv-loop μ-loop
+add-k c = search needs
+
+loop-less : tie.Need-loop-less Inv-loop μ-loop
+loop-less c = search needs
+
+loop-again : tie.Need-loop-again Inv-loop μ-loop
+loop-again c = slots-same _ _ _ _ _ (c .before .before .before .before .before .before .before .before .pre .0) (c .before .before .before .before .before .before .before .before .pre .1) _ _ _ (c .before .before .before .before .before .before .loop .inv) _ (c .before .before .before .before .before .loop-test .taken) (c .before .before .before .entry-row .ensures) (holds _ _ (c .before .has-words .ensures) (c .if1 .left))
+
+returns-2 : tie.Need-returns-2 Inv-loop μ-loop
+returns-2 c = slots-all _ _ _ _ _ (c .before .before .before .pre .0) (c .before .before .before .pre .1) _ _ _ (c .before .loop .inv) (c .loop-test .left)
+
+pub has-entries-spec : {M : Type 1} → statement M
+has-entries-spec =
+    tie.close
+    (tie.spec
+    Inv-loop
+    μ-loop
+    loop-holds
+    mul-entry-row
+    element-copy-out-entry-row
+    entry-row-requires
+    mul-has-words
+    add-has-words
+    slice-aggregate-has-words
+    has-words-requires
+    returns
+    add-k
+    loop-less
+    loop-again
+    returns-2)

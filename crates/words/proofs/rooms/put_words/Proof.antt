@@ -1,0 +1,64 @@
+-- `words::rooms::put_words` meets its contract: the loop's invariant is `Putting`, whose laws are of proofs/Overs.antt. Assumes nothing.
+use borrow.Author.Needs.{needs}
+use Prim.Native.Nat.{_-_}
+use lib.ListN.{length}
+use Rattle.words.proofs.Overs.{Putting, putting, putting-more, putting-end}
+use Rattle.words.proofs.rooms.put_words.Statement.{statement}
+use Rattle.words.proofs.rooms.put_words.Tie as tie
+
+abbrev Inv-loop : tie.InvT-loop
+Inv-loop room₀ at words k₀ room k = Putting room₀ at words room k
+
+abbrev μ-loop : tie.MeasureT-loop
+μ-loop room₀ at words k₀ room k = length words - k
+
+loop-holds : tie.Need-loop-holds Inv-loop μ-loop
+loop-holds c = putting _ _ _
+
+mul-room : tie.Need-mul-room Inv-loop μ-loop
+mul-room c = search needs
+
+shared-slice-read-room : tie.Need-shared-slice-read-room Inv-loop μ-loop
+shared-slice-read-room c = search needs
+
+add-room : tie.Need-add-room Inv-loop μ-loop
+add-room c = search needs
+
+mul-room-2 : tie.Need-mul-room-2 Inv-loop μ-loop
+mul-room-2 c = search needs
+
+slice-write-room : tie.Need-slice-write-room Inv-loop μ-loop
+slice-write-room c = search needs
+
+add-k : tie.Need-add-k Inv-loop μ-loop
+add-k c = search needs
+
+loop-less : tie.Need-loop-less Inv-loop μ-loop
+loop-less c = search needs
+
+loop-again : tie.Need-loop-again Inv-loop μ-loop
+loop-again c = putting-more _ _ _ _ _ (c .before .before .before .pre) (c .before .before .loop .inv) (c .before .loop-test .taken)
+
+same-length : tie.Need-same-length Inv-loop μ-loop
+same-length c = c .before .loop .inv .size
+
+returns : tie.Need-returns Inv-loop μ-loop
+returns c = putting-end _ _ _ _ _ (c .before .loop .inv) (c .loop-test .left)
+
+pub put-words-spec : {M : Type 1} → statement M
+put-words-spec =
+    tie.close
+    (tie.spec
+    Inv-loop
+    μ-loop
+    loop-holds
+    mul-room
+    shared-slice-read-room
+    add-room
+    mul-room-2
+    slice-write-room
+    add-k
+    loop-less
+    loop-again
+    same-length
+    returns)
