@@ -19,8 +19,8 @@ use Rattle.rules.specs.Questions.{regionOfStand}
 use Rattle.rules.proofs.Lawful.{start-inside, name-part}
 use Rattle.rules.proofs.Places.{region-less}
 use Rattle.trie.specs.Adding.{nameBefore, sharedAt}
-use Rattle.node.specs.Columns.{at, Grows, Placed, LawfulColumns}
-use Rattle.index.specs.Columns.{lengthIn, sharedIn, regionIn, lengthsOf, sharedOf, regionsOf, columns, Spelled}
+use Rattle.node.specs.Columns.{columnsOf, at, Grows, Placed, LawfulColumns}
+use Rattle.index.specs.Columns.{lengthIn, sharedIn, regionIn, lengthsOf, sharedOf, regionsOf, columns, Spelled, Located}
 
 -- ---- what two names share
 
@@ -89,7 +89,23 @@ module _ (t : Table) (g : Grid) (l : LawfulTable t g) where
       ∙ getD-take (startOf t (i + 1) - startOf t i) (drop (startOf t i) (t .text)) k 0 (omega (arith, name-length i h))
       ∙ getD-drop (startOf t i) (t .text) k 0
 
-  -- ---- what the code asks of the columns
+  -- ---- what the code asks
+
+  pub spelled : Spelled (t .text) (t .starts) (stands t)
+  spelled = record { few = l .shaped .few; short = l .short }
+
+  pub located : Located (t .east) (t .north) g
+  located =
+      let e = l .shaped .easts in
+      record { few = omega (arith, l .shaped .few); same = l .shaped .norths ∙ sym e; lawful = l .gridded; inside = λ i h. l .placed i (omega arith) }
+
+  -- columns in the front of longer arrays
+  pub columns-are : (long alike places : List ℕ) → take (stands t) long ≡ each (lengthIn (t .text) (t .starts)) (upTo (stands t))
+      → take (stands t) alike ≡ each (sharedIn (t .text) (t .starts)) (upTo (stands t))
+      → take (length (t .east)) places ≡ each (regionIn (t .east) (t .north) g) (upTo (length (t .east)))
+      → columnsOf (t .text) (t .starts) (take (stands t) long) (take (stands t) alike) (take (stands t) places) (t .score) ≡ columns t g
+  unfolding lengthsOf sharedOf regionsOf
+  columns-are long alike places a b c = rw (a, b, rw (l .shaped .easts) at c)
 
   grows : Grows (lengthsOf t) (sharedOf t)
   grows =

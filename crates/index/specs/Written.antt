@@ -24,7 +24,7 @@ unfoldable pub overAll : Columns → Index → Index
 overAll c x =
     record { order = over (x .order) 0 (orderOf (c .region)); nodes = over (x .nodes) 0 (nodeWordsOf c); entries = over (x .entries) 0 (entryWordsOf c) }
 
-pub record Wrote (c : Columns) (x : Index) (r : Built) (y : Index) : Type 0 where
+pub record BuiltFrom (c : Columns) (x : Index) (r : Built) (y : Index) : Type 0 where
   pub told : builtNumbers r ≡ cond (tooSmallFor c x) (record { refusal = 6; nodes = 0; entries = 0 }) (record { refusal = 0; nodes = nodeCountOf c; entries = entryCountOf c })
   pub buffers : y ≡ cond (tooSmallFor c x) x (overAll c x)
 
@@ -32,5 +32,5 @@ pub record Wrote (c : Columns) (x : Index) (r : Built) (y : Index) : Type 0 wher
 unfoldable pub hasAll : Columns → Index → Bool
 hasAll c x = every (begins (orderOf (c .region)) (x .order) ∷ begins (nodeWordsOf c) (x .nodes) ∷ begins (entryWordsOf c) (x .entries) ∷ [])
 
-pub record Compared (c : Columns) (x : Index) (r : Checked) : Type 0 where
+pub record CheckedFrom (c : Columns) (x : Index) (r : Checked) : Type 0 where
   pub told : checkedNumbers r ≡ cond (hasAll c x) (record { lawful = 1; nodes = nodeCountOf c; entries = entryCountOf c }) (record { lawful = 0; nodes = 0; entries = 0 })
