@@ -7,7 +7,8 @@ use mathlib.Core.List.{List, [], _∷_, _++_, append-assoc}
 use Prim.Native.Nat.{ℕ, zero, suc, _≤_, _<_, _+_}
 use native.Mathlib.Omega.{arith}
 use lib.Dec.{ltb}
-use lib.ListN.{length, take, getD}
+use lib.ListN.{length, take, drop, getD, length-drop}
+use lib.Seq.{drop-cons}
 use borrow.Author.Tests.{ltb-true, ltb-false, eq-eqb, ne-eqb}
 use Rattle.base.specs.Lists.{keep, each, eachList, largest, isEmpty, positionIn, In}
 use Rattle.base.proofs.Tests.{which}
@@ -94,10 +95,6 @@ pub each-take : {A B : Type 0} (g : A → B) (k : ℕ) (l : List A) → each g (
 each-take g zero l = refl
 each-take g (suc k) [] = refl
 each-take {A} {B} g (suc k) (x ∷ l) = ap {B = List B} (λ r. g x ∷ r) (each-take g k l)
-
-pub each-each : {A B C : Type 0} (f : B → C) (g : A → B) (l : List A) → each f (each g l) ≡ each (λ x. f (g x)) l
-each-each f g [] = refl
-each-each {A} {B} {C} f g (x ∷ l) = ap {B = List C} (λ r. f (g x) ∷ r) (each-each f g l)
 
 -- maps that agree on the members of a list
 pub each-same : {A B : Type 0} (f g : A → B) (l : List A) → ((x : A) → In x l → f x ≡ g x) → each f l ≡ each g l
@@ -230,3 +227,27 @@ pub getD-each : {A B : Type 0} (f : A → B) (l : List A) (i : ℕ) (d : A) (z :
 getD-each f [] i d z h = absurd (omega arith)
 getD-each f (x ∷ l) zero d z h = refl
 getD-each f (x ∷ l) (suc i) d z h = getD-each f l i d z (omega arith)
+
+pub eachList-agree : {A B : Type 0} (f g : A → List B) (l : List A) → ((x : A) → In x l → f x ≡ g x) → eachList f l ≡ eachList g l
+eachList-agree f g [] h = refl
+eachList-agree f g (x ∷ l) h = rw (h x (inl refl), eachList-agree f g l (λ y k. h y (inr k)))
+
+-- one map after the other
+pub each-each : {A B C : Type 0} (f : B → C) (g : A → B) (l : List A) → each f (each g l) ≡ each (λ x. f (g x)) l
+each-each f g [] = refl
+each-each f g (x ∷ l) = rw (each-each f g l)
+
+pub eachList-each : {A B C : Type 0} (f : B → List C) (g : A → B) (l : List A) → eachList f (each g l) ≡ eachList (λ x. f (g x)) l
+eachList-each f g [] = refl
+eachList-each f g (x ∷ l) = rw (eachList-each f g l)
+
+pub each-eachList : {A B C : Type 0} (f : B → C) (g : A → List B) (l : List A) → each f (eachList g l) ≡ eachList (λ x. each f (g x)) l
+each-eachList f g [] = refl
+each-eachList f g (x ∷ l) = rw (each-append f (g x) (eachList g l), each-eachList f g l)
+
+-- what is left of a list from place j on begins with what stands there
+pub drop-head : {A : Type 0} (d x : A) (l m : List A) (j : ℕ) → drop j l ≡ x ∷ m → (j < length l) × (getD l j d ≡ x) × (drop (suc j) l ≡ m)
+drop-head d x l m j e =
+    let h : j < length l = omega (arith, length-drop j l, ap length e) in
+    let q = sym (drop-cons l j d h) ∙ e in
+    (h, cc, cc)

@@ -1,0 +1,157 @@
+-- The ways out of building and checking: each answer, with the buffers that it leaves, is that of the rules.
+-- Assumes nothing.
+use mathlib.Core.Path.{_≡_, refl, sym, ap, _∙_, subst}
+use mathlib.Core.Logic.{_⊎_, inl, inr}
+use mathlib.Core.Bool.{Bool, true, false, cond, _&&_, _||_}
+use mathlib.Core.List.{List, [], _∷_, _++_}
+use Prim.Native.Nat.{ℕ, zero, suc, _+_, _*_, _≤_, _<_}
+use native.Mathlib.Omega.{arith}
+use native.Mathlib.Nat.{zero-add}
+use lib.Dec.{eqb, ltb}
+use lib.ListN.{length, take, drop}
+use borrow.Author.Tests.{ltb-false, ne-eqb}
+use Rattle.base.specs.Lists.{every, begins, written}
+use Rattle.base.proofs.Tests.{which, never, and-true, or-neither, every-of, every-not}
+use Rattle.rules.specs.declared.Grid.{Grid}
+use Rattle.rules.specs.declared.Refusal.{Refusal}
+use Rattle.rules.specs.declared.Refusal.the-variants.{BufferTooSmall}
+use Rattle.rules.specs.declared.Verdict.{Verdict}
+use Rattle.rules.specs.declared.Verdict.the-variants as verdict
+use Rattle.rules.specs.declared.Built.{Built}
+use Rattle.rules.specs.declared.Built.the-variants as built
+use Rattle.rules.specs.declared.Checked.{Checked}
+use Rattle.rules.specs.declared.Checked.the-variants as checked
+use Rattle.rules.specs.Numbers.{refusalNumber, verdictNumber, firstGiven, BuildTold, CheckTold, builtNumbers, checkedNumbers}
+use Rattle.rules.specs.Tables.{Table, stands, LawfulTable, tableRefusal}
+use Rattle.rules.specs.Indexes.{Index, indexOf, orderWords, nodeWords, entryWords, nodeCount, entryCount, tooSmall, buildRefusal, buildTold, indexAfter, setLawful, checkTold}
+use Rattle.rules.proofs.Lawful.{taken}
+use Rattle.rules.proofs.Outcomes.{one-verdict}
+use Rattle.node.specs.Columns.{Columns}
+use Rattle.words.specs.Over.{over, orderOf}
+use Rattle.words.specs.Words.{nodeCountOf, entryCountOf, nodeWordsOf, entryWordsOf}
+use Rattle.index.specs.Columns.{columns}
+use Rattle.index.specs.Promises.{BuildPromise}
+use Rattle.index.specs.Written.{tooSmallFor, overAll, BuiltFrom, hasAll, CheckedFrom}
+use Rattle.index.proofs.ByStand.{regions-length}
+use Rattle.index.proofs.Held.{order-words}
+use Rattle.index.proofs.Whole.{node-count, entry-count, node-words, entry-words}
+
+-- ---- a refusal from 1 to 5
+
+module _ (t : Table) (g : Grid) (x : Index) (why : Refusal) (e : refusalNumber why ≡ tableRefusal t g) where
+  -- no refusal has the number 0
+  refused-some : eqb (tableRefusal t g) 0 ≡ false
+  refused-some = ne-eqb (tableRefusal t g) 0 (λ z. let c = one-verdict (verdict.Refused why) verdict.Passed (e ∙ z) in let y : _≡_ {A = ℕ} 0 1 = cc in omega arith)
+
+  first-some : (a b : ℕ) → eqb a 0 ≡ false → firstGiven a b ≡ a
+  first-some zero b h = absurd (never _ refl h)
+  first-some (suc a) b h = refl
+
+  refusal-is : buildRefusal t g x ≡ tableRefusal t g
+  unfolding buildRefusal
+  refusal-is = first-some (tableRefusal t g) (cond (tooSmall t g x) 6 0) refused-some
+
+  pub refused-built : BuildPromise t g x (built.Refused why) x
+  unfolding buildTold indexAfter
+  refused-built = record { told = rw (refusal-is, refused-some, e); buffers = rw (refusal-is, refused-some) }
+
+  pub refused-checked : checkedNumbers checked.Unlawful ≡ checkTold t g x
+  unfolding checkTold setLawful
+  refused-checked = rw (every-not (eqb (tableRefusal t g) 0 ∷ begins (orderWords t g) (x .order) ∷ begins (nodeWords t g) (x .nodes) ∷ begins (entryWords t g) (x .entries) ∷ []) 0 refused-some)
+
+-- ---- past those, from the columns
+
+over-written : (words room : List ℕ) → over room 0 words ≡ written words room
+unfolding over
+over-written words room = rw (zero-add (length words))
+
+module _ (t : Table) (g : Grid) (l : LawfulTable t g) (x : Index) where
+  small-is : tooSmallFor (columns t g) x ≡ tooSmall t g x
+  unfolding tooSmallFor tooSmall
+  small-is = rw (regions-length g t, node-count t g l, entry-count t g l)
+
+  over-is : overAll (columns t g) x ≡ record { order = written (orderWords t g) (x .order); nodes = written (nodeWords t g) (x .nodes); entries = written (entryWords t g) (x .entries) }
+  unfolding overAll
+  over-is =
+      rw (
+        order-words g t,
+        node-words t g l,
+        entry-words t g l,
+        over-written (orderWords t g) (x .order),
+        over-written (nodeWords t g) (x .nodes),
+        over-written (entryWords t g) (x .entries),
+      )
+
+  refusal-past : buildRefusal t g x ≡ cond (tooSmall t g x) 6 0
+  unfolding buildRefusal
+  refusal-past = rw (taken t g l)
+
+  pub wrote-built : (r : Built) (y : Index) → BuiltFrom (columns t g) x r y → BuildPromise t g x r y
+  unfolding buildTold indexAfter
+  wrote-built r y w = step (which (tooSmall t g x))
+    where
+      step : (tooSmall t g x ≡ true) ⊎ (tooSmall t g x ≡ false) → BuildPromise t g x r y
+      step (inl q) = record { told = w .told ∙ rw (small-is, refusal-past, q); buffers = w .buffers ∙ rw (small-is, refusal-past, q) }
+      step (inr q) =
+          record {
+            told = w .told ∙ rw (small-is, refusal-past, q, node-count t g l, entry-count t g l);
+            buffers = w .buffers ∙ rw (small-is, refusal-past, q) over-is;
+          }
+
+  has-is : hasAll (columns t g) x ≡ setLawful t g x
+  unfolding hasAll setLawful every
+  has-is = rw (order-words g t, node-words t g l, entry-words t g l, taken t g l)
+
+  pub compared-checked : (r : Checked) → CheckedFrom (columns t g) x r → checkedNumbers r ≡ checkTold t g x
+  unfolding checkTold
+  compared-checked r w = w .told ∙ rw (has-is, node-count t g l, entry-count t g l)
+
+-- ---- the ways out past those
+
+-- the buffers are long enough
+pub record Roomy (c : Columns) (x : Index) : Type 0 where
+  pub for-order : length (c .region) ≤ length (x .order)
+  pub for-nodes : nodeCountOf c * 8 ≤ length (x .nodes)
+  pub for-entries : entryCountOf c * 4 ≤ length (x .entries)
+
+-- by the counts and by the test of the buffers' lengths
+module _ (c : Columns) (x : Index) (n e : ℕ) (nodes : n ≡ nodeCountOf c) (entries : e ≡ entryCountOf c) (small : Bool)
+    (tested : small ≡ ltb (length (x .order)) (length (c .region)) || ltb (length (x .nodes)) (8 * n) || ltb (length (x .entries)) (4 * e)) where
+  small-test : tooSmallFor c x ≡ small
+  unfolding tooSmallFor
+  small-test = sym (tested ∙ rw (nodes, entries))
+
+  pub no-room : small ≡ true → BuiltFrom c x (built.Refused BufferTooSmall) x
+  no-room q = record { told = rw (small-test, q); buffers = rw (small-test, q) }
+
+  pub roomy : small ≡ false → Roomy c x
+  roomy q =
+      let a = or-neither (ltb (length (x .order)) (length (c .region)) || ltb (length (x .nodes)) (8 * n)) (ltb (length (x .entries)) (4 * e)) (sym tested ∙ q) in
+      let b = or-neither (ltb (length (x .order)) (length (c .region))) (ltb (length (x .nodes)) (8 * n)) (a .0) in
+      record {
+        for-order = ltb-false _ _ (b .0);
+        for-nodes = omega (arith, nodes, ltb-false (length (x .nodes)) (8 * n) (b .1));
+        for-entries = omega (arith, entries, ltb-false (length (x .entries)) (4 * e) (a .1));
+      }
+
+  pub wrote : small ≡ false → (order′ nodes′ entries′ : List ℕ) → order′ ≡ over (x .order) 0 (orderOf (c .region)) → nodes′ ≡ over (x .nodes) 0 (nodeWordsOf c) → entries′ ≡ over (x .entries) 0 (entryWordsOf c)
+      → BuiltFrom c x (built.Index n e) (indexOf order′ nodes′ entries′)
+  unfolding overAll
+  wrote q order′ nodes′ entries′ o p r = record { told = rw (small-test, q, nodes, entries); buffers = rw (small-test, q, o, p, r) }
+
+-- by the order and by the nodes with their entries, which are compared one after the other
+module _ (c : Columns) (x : Index) (ordered : Bool) (tested : ordered ≡ begins (orderOf (c .region)) (x .order)) where
+  pub other-order : ordered ≡ false → CheckedFrom c x checked.Unlawful
+  unfolding hasAll
+  other-order q = record { told = rw (every-not (begins (orderOf (c .region)) (x .order) ∷ begins (nodeWordsOf c) (x .nodes) ∷ begins (entryWordsOf c) (x .entries) ∷ []) 0 (sym tested ∙ q)) }
+
+  module _ (same : Bool) (compared : same ≡ begins (nodeWordsOf c) (x .nodes) && begins (entryWordsOf c) (x .entries)) where
+    has-test : ordered ≡ true → hasAll c x ≡ same
+    unfolding hasAll every
+    has-test q = rw (sym tested ∙ q, and-true (begins (entryWordsOf c) (x .entries))) (sym compared)
+
+    pub other-nodes : ordered ≡ true → same ≡ false → CheckedFrom c x checked.Unlawful
+    other-nodes q r = record { told = rw (has-test q, r) }
+
+    pub has-words : ordered ≡ true → same ≡ true → (n e : ℕ) → n ≡ nodeCountOf c → e ≡ entryCountOf c → CheckedFrom c x (checked.Lawful n e)
+    has-words q r n e nodes entries = record { told = rw (has-test q, r, nodes, entries) }

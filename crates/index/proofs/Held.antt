@@ -1,0 +1,105 @@
+-- What the regions under a node hold, its words of bits and its entries: by the columns they are the definitions'.
+-- Assumes nothing.
+use mathlib.Core.Path.{_≡_, refl, sym, ap, _∙_}
+use mathlib.Core.Logic.{_⊎_, inl, inr, ⊎-elim}
+use mathlib.Core.Bool.{Bool, true, false, not, false≢true}
+use mathlib.Core.List.{List, [], _∷_, _++_, append-nil}
+use Prim.Native.Nat.{ℕ, zero, suc, _+_, _-_, _≤_, _<_}
+use native.Mathlib.Omega.{arith}
+use lib.Dec.{eqb, ltb}
+use lib.ListN.{length, length-append}
+use borrow.Author.Tests.{lt-ltb, le-ltb, ltb-true, ltb-false, eq-eqb, ne-eqb}
+use Rattle.base.specs.Lists.{fromOn, upTo, keep, each, eachList, largest, firstOf, isEmpty, sortBy, positionIn, In}
+use Rattle.base.specs.Bits.{wordOf}
+use Rattle.base.proofs.Tests.{which, le-or-lt}
+use Rattle.base.proofs.Members.{keep-in, keep-same, each-same, eachList-same, eachList-append}
+use Rattle.base.proofs.Runs.{in-from, upTo-suc}
+use Rattle.base.proofs.Words.{word-same}
+use Rattle.rules.specs.declared.Grid.{Grid}
+use Rattle.rules.specs.Places.{regions}
+use Rattle.rules.specs.Tables.{Table, stands, scoreOf}
+use Rattle.rules.specs.Questions.{under, regionOfStand, inRegion, byRegion}
+use Rattle.rules.specs.Indexes.{orderWords, occupied, regionsUnder, Entry, entryOf, ahead, entriesOf}
+use Rattle.trie.proofs.Regions.{before, region-place}
+use Rattle.node.specs.Columns.{at, span, standsIn, heldIn, regionsIn, entryIn, entriesIn}
+use Rattle.node.specs.Visits.{belowOf, placeAt, placesAt}
+use Rattle.words.specs.Over.{regionOrder, orderOf}
+use Rattle.words.proofs.Orders.{firsts, firsts-below}
+use Rattle.node.proofs.Placing.{regions-are, place-at}
+use Rattle.index.specs.Columns.{regionsOf}
+use Rattle.index.proofs.ByStand.{regions-length, regions-at}
+
+module _ (g : Grid) (t : Table) where
+  abbrev region : List ℕ
+  region = regionsOf g t
+
+  -- ---- the stand order
+
+  stands-same : (r : ℕ) (s : List ℕ) → ((i : ℕ) → In i s → i < stands t) → standsIn region r s ≡ keep (inRegion g t r) s
+  unfolding standsIn
+  stands-same r s h = keep-same (λ i. eqb (at region i) r) (inRegion g t r) s (λ i u. ap (λ (x : ℕ). eqb x r) (regions-at g t i (h i u)))
+
+  of-run : (i e : ℕ) → e ≤ stands t → (k : ℕ) → In k (span i e) → k < stands t
+  of-run i e h k u = omega (arith, in-from i (e - i) k u)
+
+  before-stand : (r i : ℕ) → i ≤ stands t → standsIn region r (upTo i) ≡ keep (inRegion g t r) (upTo i)
+  before-stand r i h = stands-same r (upTo i) (λ k u. omega (arith, in-from 0 i k u))
+
+  order-region : (r : ℕ) → regionOrder region r ≡ keep (inRegion g t r) (upTo (stands t))
+  unfolding regionOrder
+  order-region r = ap (λ (n : ℕ). standsIn region r (upTo n)) (regions-length g t) ∙ before-stand r (stands t) (omega arith)
+
+  pub order-words : orderOf region ≡ orderWords t g
+  unfolding orderOf
+  order-words = eachList-same (regionOrder region) (λ r. keep (inRegion g t r) (upTo (stands t))) (upTo regions) order-region
+
+  -- ---- the node whose text is p and whose stands are i to e - 1
+
+  module _ (p : List ℕ) (i e : ℕ) (fits : i ≤ e) (inside : e ≤ stands t) (run : under t p ≡ span i e) where
+    stands-here : (r : ℕ) → standsIn region r (span i e) ≡ keep (inRegion g t r) (under t p)
+    stands-here r = stands-same r (span i e) (of-run i e inside) ∙ ap (keep (inRegion g t r)) (sym run)
+
+    held-here : (r : ℕ) → heldIn region (span i e) r ≡ occupied t g p r
+    unfolding heldIn
+    held-here r = ap (λ (l : List ℕ). not (isEmpty l)) (stands-here r)
+
+    pub bits-here : (base : ℕ) → wordOf (heldIn region (span i e)) base 32 ≡ wordOf (occupied t g p) base 32
+    bits-here base = word-same (heldIn region (span i e)) (occupied t g p) base base 32 (λ k h. held-here (base + k))
+
+    pub regions-here : regionsIn region (span i e) ≡ regionsUnder t g p
+    regions-here = keep-same (heldIn region (span i e)) (occupied t g p) (upTo regions) (λ r u. held-here r)
+
+    -- where a region's stands begin in the order
+    first-here : (r x : ℕ) (s : List ℕ) → r < regions → keep (inRegion g t r) (under t p) ≡ x ∷ s → placeAt region i r ≡ positionIn x (orderWords t g)
+    unfolding placeAt before firsts
+    first-here r x s lt q =
+        let size : i + (e - i) ≤ stands t = omega arith in
+        let those : List ℕ = eachList (λ r. keep (inRegion g t r) (upTo (stands t))) (upTo r) in
+        omega (
+          arith,
+          firsts-below region r,
+          ap length (eachList-same (regionOrder region) (λ r. keep (inRegion g t r) (upTo (stands t))) (upTo r) order-region),
+          ap length (before-stand r i (omega arith)),
+          region-place (regionOfStand g t) (stands t) regions i (e - i) r size lt x s (ap (keep (inRegion g t r)) (sym run) ∙ q),
+          length-append those (keep (inRegion g t r) (upTo i)),
+        )
+
+    entry-here : (r : ℕ) → r < regions → occupied t g p r ≡ true → entryIn region (t .score) (placesAt region i) (span i e) r ≡ entryOf t g p r
+    unfolding entryIn
+    entry-here r lt o = go (keep (inRegion g t r) (under t p)) refl
+      where
+        go : (l : List ℕ) → keep (inRegion g t r) (under t p) ≡ l → entryIn region (t .score) (placesAt region i) (span i e) r ≡ entryOf t g p r
+        go [] q = absurd (false≢true (sym (ap (λ (l : List ℕ). not (isEmpty l)) q) ∙ o))
+        go (x ∷ s) q =
+            let first : at (placesAt region i) r ≡ positionIn (firstOf (keep (inRegion g t r) (under t p))) (orderWords t g) =
+            place-at region i r (omega (arith, regions-are)) ∙ first-here r x s lt q ∙ ap (λ (l : List ℕ). positionIn (firstOf l) (orderWords t g)) (sym q) in
+            rw (stands-here r, first)
+
+    pub entries-here : entriesIn region (t .score) (placesAt region i) (span i e) ≡ entriesOf t g p
+    unfolding entriesIn
+    entries-here =
+        let entry = entryIn region (t .score) (placesAt region i) (span i e) in
+        ap (sortBy ahead)
+        (ap (each entry) regions-here
+        ∙ each-same entry (entryOf t g p) (regionsUnder t g p)
+        (λ r u. let k = keep-in (occupied t g p) (upTo regions) r u in entry-here r (omega (arith, in-from 0 regions r (k .0))) (k .1)))

@@ -1,0 +1,227 @@
+-- A node's number, its stands, its parent, its last byte and the end of its subtree: by the columns they are the definitions'.
+-- Assumes nothing.
+use mathlib.Core.Path.{_≡_, refl, sym, ap, _∙_}
+use mathlib.Core.Logic.{_⊎_, inl, inr}
+use mathlib.Core.Bool.{false}
+use mathlib.Core.List.{List, [], _++_}
+use Prim.Native.Nat.{ℕ, zero, suc, _+_, _-_, _≤_, _<_}
+use native.Mathlib.Omega.{arith}
+use native.Mathlib.Numerals.{add-one}
+use lib.Dec.{eqb}
+use lib.ListN.{length, take}
+use borrow.Author.Tests.{lt-ltb, le-ltb, ne-eqb}
+use Rattle.base.specs.Lists.{fromOn, upTo, each, total, firstOf}
+use Rattle.base.proofs.Tests.{le-or-lt}
+use Rattle.base.proofs.Members.{each-append}
+use Rattle.base.proofs.Runs.{length-from}
+use Rattle.base.proofs.Sums.{total-append}
+use Rattle.base.proofs.Begins.{shared-le, shared-le-other, sharedLength-take}
+use Rattle.rules.specs.declared.Grid.{Grid}
+use Rattle.rules.specs.Tables.{Table, stands, nameOf, LawfulTable}
+use Rattle.rules.specs.Questions.{under}
+use Rattle.rules.specs.Indexes.{beginnings, nodeCount, numberIn, lastByte, butLast, pastOf}
+use Rattle.trie.specs.Adding as added
+use Rattle.trie.specs.Adding.{sharedAt}
+use Rattle.trie.proofs.Tables.{under-all, under-run, past-root}
+use Rattle.trie.proofs.Adding.{nodes-step, nodes-all, node-number, first-stand, past-stand, past-node, last-take, but-last-take}
+use Rattle.node.specs.Columns.{at, endOf, span, growth, grownOf}
+use Rattle.node.specs.Visits.{nodesBefore, numberAt}
+use Rattle.node.specs.Rows.{lastOf, parentOf, pastNumber}
+use Rattle.node.proofs.Ends.{upTo-part, grown-last}
+use Rattle.index.specs.Columns.{lengthsOf, sharedOf}
+use Rattle.index.proofs.ByStand.{lengths-length, shared-length, lengths-at, shared-at, name-byte, columns-lawful}
+use Rattle.index.proofs.Blocks.{Block, block, end-all}
+
+-- ---- how many nodes stands make
+
+grown-none : (lengths shared : List ℕ) → grownOf lengths shared 0 0 ≡ 0
+unfolding grownOf
+grown-none lengths shared = refl
+
+span-all : (e : ℕ) → span 0 e ≡ upTo e
+span-all e = let z : e - 0 ≡ e = omega arith in ap (fromOn 0) z
+
+grown-add : (lengths shared : List ℕ) (i e : ℕ) → i ≤ e → grownOf lengths shared 0 e ≡ grownOf lengths shared 0 i + grownOf lengths shared i e
+unfolding grownOf
+grown-add lengths shared i e h =
+    let f = growth lengths shared in
+    rw (span-all e, span-all i)
+    (ap (λ (l : List ℕ). total (each f l)) (upTo-part i e h) ∙ ap total (each-append f (upTo i) (span i e)) ∙ total-append (each f (upTo i)) (each f (span i e)))
+
+number-root : (t : Table) → numberIn [] (beginnings t) ≡ 0
+unfolding beginnings
+number-root t = refl
+
+module _ (t : Table) (g : Grid) (l : LawfulTable t g) where
+  -- before stand e
+  nodes-same : (e : ℕ) → e ≤ stands t → added.nodesBefore t e ≡ nodesBefore (lengthsOf t) (sharedOf t) e
+  nodes-same zero h = omega (arith, grown-none (lengthsOf t) (sharedOf t))
+  nodes-same (suc e) h =
+      omega (
+        arith,
+        nodes-step t e,
+        nodes-same e (omega arith),
+        grown-last (lengthsOf t) (sharedOf t) 0 e (omega arith),
+        ap (grownOf (lengthsOf t) (sharedOf t) 0) (add-one e),
+        lengths-at t e h,
+        shared-at t e h,
+      )
+
+  -- before e are those before i and those of i to e - 1
+  nodes-add : (i e : ℕ) → i ≤ e → e ≤ stands t → added.nodesBefore t e ≡ added.nodesBefore t i + grownOf (lengthsOf t) (sharedOf t) i e
+  nodes-add i e h k = omega (arith, nodes-same i (omega arith), nodes-same e k, grown-add (lengthsOf t) (sharedOf t) i e h)
+
+  -- ---- numbers
+
+  number-same : (i k : ℕ) → i < stands t → k ≤ length (nameOf t i) → numberAt (lengthsOf t) (sharedOf t) i k ≡ numberIn (take k (nameOf t i)) (beginnings t)
+  number-same zero zero h u = sym (number-root t)
+  number-same zero (suc k) h u = sym (node-number t (l .ordered) 0 (suc k) h (omega arith) u ∙ omega arith)
+  number-same (suc i) k h u = step (number-same i k (omega arith)) (le-or-lt k (at (sharedOf t) (suc i)))
+    where
+      step : (k ≤ length (nameOf t i) → numberAt (lengthsOf t) (sharedOf t) i k ≡ numberIn (take k (nameOf t i)) (beginnings t))
+          → (k ≤ at (sharedOf t) (suc i)) ⊎ (at (sharedOf t) (suc i) < k)
+          → numberAt (lengthsOf t) (sharedOf t) (suc i) k ≡ numberIn (take k (nameOf t (suc i))) (beginnings t)
+      step r (inl q) =
+          let c : k ≤ sharedAt t (suc i) = omega (arith, shared-at t (suc i) h) in
+          rw (le-ltb (at (sharedOf t) (suc i)) k q)
+          (r (omega (arith, shared-le (nameOf t i) (nameOf t (suc i))))
+          ∙ ap (λ (p : List ℕ). numberIn p (beginnings t)) (sharedLength-take (nameOf t i) (nameOf t (suc i)) k c))
+      step r (inr q) =
+          let n = node-number t (l .ordered) (suc i) k h (omega (arith, shared-at t (suc i) h)) u in
+          rw (lt-ltb (at (sharedOf t) (suc i)) k q) (omega (arith, n, nodes-same (suc i) (omega arith), shared-at t (suc i) h))
+
+  -- ---- the stands under the node of stand i's first k bytes
+
+  module _ (i k : ℕ) (h : i < stands t) (u : k ≤ length (nameOf t i)) where
+    e : ℕ
+    e = endOf (sharedOf t) i k
+
+    b : Block (sharedOf t) i k e
+    unfolding e
+    b = block (sharedOf t) i k (omega (arith, shared-length t))
+
+    -- all in the block begin alike
+    alike : (d : ℕ) → i + d < e → (take k (nameOf t (i + d)) ≡ take k (nameOf t i)) × (k ≤ length (nameOf t (i + d)))
+    alike zero v = let z : i + 0 ≡ i = omega arith in rw z (refl, u)
+    alike (suc d) v =
+        let r = alike d (omega arith) in
+        let s : i + suc d ≡ suc (i + d) = omega arith in
+        let n : suc (i + d) < stands t = omega (arith, b .within, shared-length t) in
+        let c : k ≤ sharedAt t (suc (i + d)) = omega (arith, b .inside (suc (i + d)) (omega arith) (omega arith), shared-at t (suc (i + d)) n) in
+        rw s
+        (sym (sharedLength-take (nameOf t (i + d)) (nameOf t (suc (i + d))) k c) ∙ r .0, omega (arith, shared-le-other (nameOf t (i + d)) (nameOf t (suc (i + d)))))
+
+    -- the last of them
+    record Last : Type 0 where
+      pub number : ℕ
+      pub full : suc number ≡ e
+      pub stand : number < stands t
+      pub same : take k (nameOf t number) ≡ take k (nameOf t i)
+      pub long : k ≤ length (nameOf t number)
+      pub next : suc number < stands t → sharedAt t (suc number) < k
+
+    last : Last
+    last =
+        let n = e - 1 in
+        let full : suc n ≡ e = omega (arith, b .after) in
+        let q : i + (n - i) ≡ n = omega (arith, b .after) in
+        let s = rw q at (alike (n - i) (omega (arith, b .after))) in
+        record {
+          number = n;
+          full = full;
+          stand = omega (arith, b .within, shared-length t);
+          same = s .0;
+          long = s .1;
+          next = λ v. omega (arith, b .stops (omega (arith, shared-length t)), shared-at t e (omega arith), ap (sharedAt t) full);
+        }
+
+    past-is : firstOf (under t (take k (nameOf t i))) + length (under t (take k (nameOf t i))) ≡ endOf (sharedOf t) i k
+    unfolding e
+    past-is =
+        ap (λ (p : List ℕ). firstOf (under t p) + length (under t p)) (sym (last .same))
+        ∙ past-stand t (l .ordered) (last .number) k (last .stand) (last .long) (last .next)
+        ∙ last .full
+
+    past-number-is : pastOf (beginnings t) (numberIn (take k (nameOf t i)) (beginnings t)) ≡ added.nodesBefore t (endOf (sharedOf t) i k)
+    unfolding e
+    past-number-is =
+        ap (λ (p : List ℕ). pastOf (beginnings t) (numberIn p (beginnings t))) (sym (last .same))
+        ∙ past-node t (l .ordered) (l .some) (last .number) k (last .stand) (last .long) (last .next)
+        ∙ ap (added.nodesBefore t) (last .full)
+
+    end-in : (i < endOf (sharedOf t) i k) × (endOf (sharedOf t) i k ≤ stands t)
+    unfolding e
+    end-in = (b .after, omega (arith, b .within, shared-length t))
+
+-- ---- one node: what is reckoned at stand i's first k bytes is what the definitions say of its text p
+
+pub record Meant (t : Table) (i k : ℕ) (p : List ℕ) : Type 0 where
+  pub parent : parentOf (lengthsOf t) (sharedOf t) i k ≡ numberIn (butLast p) (beginnings t)
+  pub last : lastOf (t .text) (t .starts) i k ≡ lastByte p
+  pub first : i ≡ firstOf (under t p)
+  pub past : endOf (sharedOf t) i k ≡ firstOf (under t p) + length (under t p)
+  pub end : pastNumber (lengthsOf t) (sharedOf t) i k (endOf (sharedOf t) i k) (numberIn p (beginnings t)) ≡ pastOf (beginnings t) (numberIn p (beginnings t))
+  pub run : under t p ≡ span i (endOf (sharedOf t) i k)
+  pub after : i ≤ endOf (sharedOf t) i k
+  pub within : endOf (sharedOf t) i k ≤ stands t
+
+module _ (t : Table) (g : Grid) (l : LawfulTable t g) where
+  pub meant-root : Meant t 0 0 []
+  meant-root =
+      let e : endOf (sharedOf t) 0 0 ≡ stands t = end-all (sharedOf t) ∙ shared-length t in
+      let n : length (under t []) ≡ stands t = ap length (under-all t) ∙ length-from 0 (stands t) in
+      let f : firstOf (under t []) ≡ 0 = ap firstOf (under-all t) ∙ first-of (stands t) in
+      record {
+        parent = sym (number-root t);
+        last = refl;
+        first = sym f;
+        past = omega (arith, e, n, f);
+        end =
+            omega (
+              arith,
+              columns-lawful t g l .grows .first,
+              ap (grownOf (lengthsOf t) (sharedOf t) 0) e,
+              nodes-same t g l (stands t) (omega arith),
+              nodes-all t,
+              past-root t,
+              number-root t,
+              ap (pastOf (beginnings t)) (number-root t),
+            );
+        run = under-all t ∙ sym (ap (span 0) e ∙ span-all (stands t));
+        after = omega arith;
+        within = omega (arith, e);
+      }
+    where
+      first-of : (n : ℕ) → firstOf (upTo n) ≡ 0
+      first-of zero = refl
+      first-of (suc n) = refl
+
+  pub meant-new : (i k : ℕ) → i < stands t → sharedAt t i < k → k ≤ length (nameOf t i) → Meant t i k (take k (nameOf t i))
+  meant-new i zero h c u = absurd (omega arith)
+  meant-new i (suc k) h c u =
+      let p : List ℕ = take (suc k) (nameOf t i) in
+      let f : firstOf (under t p) ≡ i = first-stand t (l .ordered) i (suc k) h c u in
+      let e : firstOf (under t p) + length (under t p) ≡ endOf (sharedOf t) i (suc k) = past-is t g l i (suc k) h u in
+      let a = end-in t g l i (suc k) h u in
+      let n : length (under t p) ≡ endOf (sharedOf t) i (suc k) - i = omega (arith, e, f) in
+      let x : suc k - 1 ≡ k = omega arith in
+      let some : eqb (suc k) 0 ≡ false = ne-eqb (suc k) 0 (λ r. omega arith) in
+      record {
+        parent =
+            rw (some, x)
+            (number-same t g l i k h (omega arith) ∙ ap (λ (r : List ℕ). numberIn r (beginnings t)) (sym (but-last-take (nameOf t i) k u)));
+        last = rw (some, x) (sym (last-take (nameOf t i) k u ∙ name-byte t g l i k h u));
+        first = sym f;
+        past = sym e;
+        end =
+            omega (
+              arith,
+              node-number t (l .ordered) i (suc k) h c u,
+              shared-at t i h,
+              nodes-add t g l i (endOf (sharedOf t) i (suc k)) (omega arith) (a .1),
+              past-number-is t g l i (suc k) h u,
+            );
+        run = under-run t (l .ordered) p ∙ ap (λ (m : ℕ). fromOn m (length (under t p))) f ∙ ap (fromOn i) n;
+        after = omega arith;
+        within = a .1;
+      }

@@ -1,0 +1,137 @@
+-- For the reader: no two outcomes satisfy what building or checking promises; checking accepts what building wrote, and building leaves
+-- alone what checking accepts, with the same counts; an empty table has one node and no entry. Assumes nothing.
+use mathlib.Core.Path.{_≡_, refl, sym, ap, _∙_, subst}
+use mathlib.Core.Logic.{_⊎_, inl, inr}
+use mathlib.Core.Bool.{true, false, cond}
+use mathlib.Core.List.{List, [], _∷_, _++_}
+use Prim.Native.Nat.{ℕ, zero, suc, _*_, _≤_}
+use native.Mathlib.Omega.{arith}
+use lib.Dec.{eqb}
+use lib.ListN.{length, take, drop, take-append-drop}
+use borrow.Author.Tests.{eqb-true, eq-eqb, le-ltb}
+use Rattle.base.specs.Lists.{every, begins, written}
+use Rattle.base.proofs.Tests.{which, never, every-at, every-of}
+use Rattle.base.proofs.Begins.{begins-append, begins-is-take, begins-length}
+use Rattle.rules.specs.declared.Grid.{Grid}
+use Rattle.rules.specs.declared.Built.{Built}
+use Rattle.rules.specs.declared.Built.the-variants as built
+use Rattle.rules.specs.declared.Checked.{Checked}
+use Rattle.rules.specs.declared.Checked.the-variants as checked
+use Rattle.rules.specs.Numbers.{firstGiven, BuildTold, CheckTold, builtNumbers, checkedNumbers}
+use Rattle.rules.specs.Tables.{Table, stands, LawfulTable, tableRefusal}
+use Rattle.rules.specs.Indexes.{Index, orderWords, nodeWords, entryWords, nodeCount, entryCount, tooSmall, buildRefusal, buildTold, indexAfter, setLawful, checkTold}
+use Rattle.rules.proofs.Lawful.{lawful}
+use Rattle.rules.proofs.Outcomes.{one-built, one-checked}
+use Rattle.trie.proofs.Listing.{order-means}
+use Rattle.trie.proofs.Words.{nodes-length, entry-words-length}
+use Rattle.trie.proofs.Sizes.{sizes-bounded}
+use Rattle.index.specs.Promises.{BuildPromise}
+
+-- ---- no two outcomes
+
+module _ (t : Table) (g : Grid) (x : Index) where
+  pub one-building : (r s : Built) (y z : Index) → BuildPromise t g x r y → BuildPromise t g x s z → (r ≡ s) × (y ≡ z)
+  one-building r s y z p q = (one-built r s (p .told ∙ sym (q .told)), p .buffers ∙ sym (q .buffers))
+
+  pub one-checking : (r s : Checked) → checkedNumbers r ≡ checkTold t g x → checkedNumbers s ≡ checkTold t g x → r ≡ s
+  one-checking r s p q = one-checked r s (p ∙ sym q)
+
+-- ---- an index that was built
+
+first-none : (a b : ℕ) → firstGiven a b ≡ 0 → (a ≡ 0) × (b ≡ 0)
+first-none zero b e = (refl, e)
+first-none (suc a) b e = absurd (omega arith)
+
+-- words stand at the start of a room that they are written to; and what stands there already is not changed by writing it
+written-begins : (words room : List ℕ) → begins words (written words room) ≡ true
+written-begins words room = begins-append words (drop (length words) room)
+
+written-again : (words room : List ℕ) → begins words room ≡ true → written words room ≡ room
+written-again words room h =
+    ap (λ (w : List ℕ). w ++ drop (length words) room) (begins-is-take words room h) ∙ take-append-drop (length words) room
+
+module _ (t : Table) (g : Grid) (x : Index) where
+  abbrev writtenAll : Index
+  writtenAll = record { order = written (orderWords t g) (x .order); nodes = written (nodeWords t g) (x .nodes); entries = written (entryWords t g) (x .entries) }
+
+  -- what an answer with counts says
+  record Succeeded (n e : ℕ) (y : Index) : Type 0 where
+    pub table : tableRefusal t g ≡ 0
+    pub nodes : n ≡ nodeCount t
+    pub entries : e ≡ entryCount t g
+    pub buffers : y ≡ writtenAll
+
+  unrefused : buildRefusal t g x ≡ 0 → tableRefusal t g ≡ 0
+  unfolding buildRefusal
+  unrefused e = first-none (tableRefusal t g) (cond (tooSmall t g x) 6 0) e .0
+
+  succeeded : (n e : ℕ) (y : Index) → BuildPromise t g x (built.Index n e) y → Succeeded n e y
+  unfolding buildTold indexAfter
+  succeeded n e y p = step (which (eqb (buildRefusal t g x) 0))
+    where
+      step : (eqb (buildRefusal t g x) 0 ≡ true) ⊎ (eqb (buildRefusal t g x) 0 ≡ false) → Succeeded n e y
+      step (inl q) =
+          record {
+            table = unrefused (eqb-true (buildRefusal t g x) 0 q);
+            nodes = ap (λ (b : BuildTold). b .nodes) (rw q at (p .told));
+            entries = ap (λ (b : BuildTold). b .entries) (rw q at (p .told));
+            buffers = rw q at (p .buffers);
+          }
+      step (inr q) = let z : 0 ≡ buildRefusal t g x = ap (λ (b : BuildTold). b .refusal) (rw q at (p .told)) in never _ (eq-eqb (buildRefusal t g x) 0 (sym z)) q
+
+  -- checking accepts what building wrote, with the same counts
+  pub build-then-check : (n e : ℕ) (y : Index) (r : Checked) → BuildPromise t g x (built.Index n e) y → checkedNumbers r ≡ checkTold t g y → r ≡ checked.Lawful n e
+  unfolding checkTold setLawful
+  build-then-check n e y r p c =
+      let s = succeeded n e y p in
+      let has : setLawful t g writtenAll ≡ true =
+      every-of _ (
+        eq-eqb (tableRefusal t g) 0 (s .table),
+        (written-begins (orderWords t g) (x .order), (written-begins (nodeWords t g) (x .nodes), (written-begins (entryWords t g) (x .entries), tt))),
+      ) in
+      one-checked r (checked.Lawful n e) (c ∙ rw (s .buffers, has, s .nodes, s .entries))
+
+  -- ---- an index that was checked
+
+  -- its buffers are not too small, and writing the words again changes nothing
+  lawful-stays : setLawful t g x ≡ true → (buildRefusal t g x ≡ 0) × (indexAfter t g x ≡ x)
+  unfolding setLawful tooSmall buildRefusal indexAfter
+  lawful-stays h =
+      let table : tableRefusal t g ≡ 0 = eqb-true (tableRefusal t g) 0 (every-at _ 0 h) in
+      let order : begins (orderWords t g) (x .order) ≡ true = every-at _ 1 h in
+      let nodes : begins (nodeWords t g) (x .nodes) ≡ true = every-at _ 2 h in
+      let entries : begins (entryWords t g) (x .entries) ≡ true = every-at _ 3 h in
+      let l = lawful t g table in
+      let a : stands t ≤ length (x .order) = omega (arith, begins-length (orderWords t g) (x .order) order, order-means t g l .whole) in
+      let b : 8 * nodeCount t ≤ length (x .nodes) = omega (arith, begins-length (nodeWords t g) (x .nodes) nodes, nodes-length t g) in
+      let c : 4 * entryCount t g ≤ length (x .entries) = omega (arith, begins-length (entryWords t g) (x .entries) entries, entry-words-length t g) in
+      let none : buildRefusal t g x ≡ 0 =
+      rw (
+        table,
+        le-ltb (length (x .order)) (stands t) a,
+        le-ltb (length (x .nodes)) (8 * nodeCount t) b,
+        le-ltb (length (x .entries)) (4 * entryCount t g) c,
+      ) in
+      (none, rw (eq-eqb (buildRefusal t g x) 0 none) (rw (written-again (orderWords t g) (x .order) order, written-again (nodeWords t g) (x .nodes) nodes, written-again (entryWords t g) (x .entries) entries)))
+
+  -- so building answers the same counts and leaves the buffers as they are
+  pub check-then-build : (n e : ℕ) (r : Built) (y : Index) → checkedNumbers (checked.Lawful n e) ≡ checkTold t g x → BuildPromise t g x r y
+      → (r ≡ built.Index n e) × (y ≡ x)
+  unfolding checkTold buildTold
+  check-then-build n e r y c p = step (which (setLawful t g x))
+    where
+      step : (setLawful t g x ≡ true) ⊎ (setLawful t g x ≡ false) → (r ≡ built.Index n e) × (y ≡ x)
+      step (inl q) =
+          let s = lawful-stays q in
+          let nodes : n ≡ nodeCount t = ap (λ (b : CheckTold). b .nodes) (rw q at c) in
+          let entries : e ≡ entryCount t g = ap (λ (b : CheckTold). b .entries) (rw q at c) in
+          (one-built r (built.Index n e) (p .told ∙ rw (eq-eqb (buildRefusal t g x) 0 (s .0), nodes, entries)), p .buffers ∙ s .1)
+      step (inr q) = let z : _≡_ {A = ℕ} 1 0 = ap (λ (b : CheckTold). b .lawful) (rw q at c) in absurd (omega arith)
+
+  -- ---- an empty table
+
+  pub build-empty : (n e : ℕ) (y : Index) → stands t ≡ 0 → BuildPromise t g x (built.Index n e) y → (n ≡ 1) × (e ≡ 0)
+  build-empty n e y z p =
+      let s = succeeded n e y p in
+      let m = sizes-bounded t g (lawful t g (s .table)) .lone z in
+      (s .nodes ∙ m .0, s .entries ∙ m .1)

@@ -1,0 +1,42 @@
+-- `buffers::has_index` compares the order, then the nodes with their entries: a way out for each.
+-- Assumes nothing.
+use borrow.Author.Tests.{not-true, not-false}
+use Rattle.index.proofs.Answers.{other-order, other-nodes, has-words}
+use borrow.Author.Needs.{needs}
+use Rattle.index.proofs.buffers.has_index.Statement.{statement}
+use Rattle.index.proofs.buffers.has_index.Tie as tie
+
+has-order-requires : tie.Need-has-order-requires
+has-order-requires c κs = search needs
+
+returns : tie.Need-returns
+returns c = other-order _ _ _ (c .before .has-order .ensures) (not-true _ (c .if1 .taken))
+
+count-nodes-requires : tie.Need-count-nodes-requires
+count-nodes-requires c κs = search needs
+
+check-requires : tie.Need-check-requires
+check-requires c κs = search needs
+
+returns-2 : tie.Need-returns-2
+returns-2 c = other-nodes _ _ _ (c .before .before .before .before .has-order .ensures) _ (c .before .check .ensures) (not-false _ (c .before .before .before .if1 .left)) (not-true _ (c .if2 .taken))
+
+count-entries-requires : tie.Need-count-entries-requires
+count-entries-requires c κs = search needs
+
+returns-3 : tie.Need-returns-3
+returns-3 c =
+    has-words _ _ _ (c .before .before .before .before .before .has-order .ensures) _ (c .before .before .check .ensures) (not-false _ (c .before .before .before .before .if1 .left)) (not-false _ (c .before .if2 .left)) _ _
+    (c .before .before .before .count-nodes .ensures) (c .count-entries .ensures)
+
+pub has-index-spec : {M : Type 1} → statement M
+has-index-spec =
+    tie.close
+    (tie.spec
+    has-order-requires
+    returns
+    count-nodes-requires
+    check-requires
+    returns-2
+    count-entries-requires
+    returns-3)

@@ -1,0 +1,66 @@
+-- `buffers::put_index` counts, tests the buffers, and writes: two ways out.
+-- Assumes nothing.
+use Rattle.rules.specs.Indexes.{Index, indexOf}
+use Rattle.node.specs.Columns.{Columns, columnsOf}
+use Rattle.index.proofs.Answers.{Roomy, no-room, roomy, wrote}
+use borrow.Author.Needs.{needs}
+use Rattle.index.proofs.buffers.put_index.Statement.{statement}
+use Rattle.index.proofs.buffers.put_index.Tie as tie
+
+count-nodes-requires : tie.Need-count-nodes-requires
+count-nodes-requires c κs = search needs
+
+count-entries-requires : tie.Need-count-entries-requires
+count-entries-requires c κs = search needs
+
+too-small-requires : tie.Need-too-small-requires
+too-small-requires c κs = search needs
+
+returns : tie.Need-returns
+returns c = no-room _ _ _ _ (c .before .before .before .count-nodes .ensures) (c .before .before .count-entries .ensures) _ (c .before .too-small .ensures) (c .if1 .taken)
+
+abbrev columns-of : tie.Start → Columns
+columns-of s = let a = s .args in columnsOf (a .text .now) (a .starts .now) (a .lengths .now) (a .shared .now) (a .region .now) (a .score .now)
+
+abbrev buffers-of : tie.Start → Index
+buffers-of s = let a = s .args in indexOf (a .order .now) (a .nodes .now) (a .entries .now)
+
+room : (c : tie.Else1) → Roomy (columns-of (c .before .before .before .before .before .before .before .before .before .before .before .before .before)) (buffers-of (c .before .before .before .before .before .before .before .before .before .before .before .before .before))
+room c =
+    roomy (columns-of (c .before .before .before .before .before .before .before .before .before .before .before .before .before)) (buffers-of (c .before .before .before .before .before .before .before .before .before .before .before .before .before)) _ _
+    (c .before .before .before .count-nodes .ensures) (c .before .before .count-entries .ensures) _ (c .before .too-small .ensures) (c .if1 .left)
+
+put-order-requires : tie.Need-put-order-requires
+put-order-requires c κs = (c .before .before .before .before .before .before .before .before .before .before .before .before .before .before .pre .placed, room (c .before) .for-order)
+
+write-requires : tie.Need-write-requires
+write-requires c κs = let r = room (c .before .before .before .before .before .before) in (c .before .before .before .before .before .before .before .before .before .before .before .before .before .before .before .before .before .before .before .pre, c .before .before .before .before .before .before .before .before .before .count-nodes .ensures, r .for-nodes, r .for-entries)
+
+same-length : tie.Need-same-length
+same-length c = search needs
+
+same-length-2 : tie.Need-same-length-2
+same-length-2 c = search needs
+
+same-length-3 : tie.Need-same-length-3
+same-length-3 c = search needs
+
+returns-2 : tie.Need-returns-2
+returns-2 c =
+    wrote _ _ _ _ (c .before .before .before .before .before .before .before .before .before .before .before .before .before .before .count-nodes .ensures) (c .before .before .before .before .before .before .before .before .before .before .before .before .before .count-entries .ensures) _ (c .before .before .before .before .before .before .before .before .before .before .before .before .too-small .ensures) (c .before .before .before .before .before .before .before .before .before .before .before .if1 .left) _ _ _
+    (c .before .before .before .before .before .before .before .before .before .put-order .ensures) (c .before .before .before .before .write .ensures .0) (c .before .before .before .before .write .ensures .1)
+
+pub put-index-spec : {M : Type 1} → statement M
+put-index-spec =
+    tie.close
+    (tie.spec
+    count-nodes-requires
+    count-entries-requires
+    too-small-requires
+    returns
+    put-order-requires
+    write-requires
+    same-length
+    same-length-2
+    same-length-3
+    returns-2)

@@ -1,0 +1,108 @@
+-- `build` gives the table's refusal, or what is put into the buffers from the table's columns.
+-- Assumes nothing.
+use Prim.Native.Nat.{ℕ}
+use mathlib.Core.Path.{_≡_, sym, ap, _∙_}
+use native.Mathlib.Omega.{arith}
+use lib.ListN.{length, take}
+use lib.Seq.{length-take-le}
+use borrow.Author.Needs.{needs}
+use Rattle.rules.specs.Numbers.{verdictNumber}
+use Rattle.rules.specs.Tables.{Table, tableOf, stands, LawfulTable}
+use Rattle.rules.proofs.Lawful.{granted}
+use Rattle.node.specs.Columns.{columnsOf}
+use Rattle.index.specs.Columns.{columns}
+use Rattle.index.proofs.ByStand.{spelled, located, columns-are, columns-lawful}
+use Rattle.index.proofs.Answers.{refused-built, wrote-built}
+use Rattle.index.proofs.build.Statement.{statement}
+use Rattle.index.proofs.build.Tie as tie
+
+table-refusal-requires : tie.Need-table-refusal-requires
+table-refusal-requires c κs = search needs
+
+enum-known-verdict : tie.Need-enum-known-verdict
+enum-known-verdict c = search needs
+
+returns : tie.Need-returns
+returns c = refused-built _ _ _ _ (sym (ap verdictNumber (c .before .verdict .given .1)) ∙ c .before .before .before .table-refusal .ensures)
+
+enum-told : tie.Need-enum-told
+enum-told c = search needs
+
+abbrev table-of : tie.Start → Table
+table-of s = let a = s .args in tableOf (a .text .now) (a .starts .now) (a .east .now) (a .north .now) (a .score .now)
+
+-- past the refusals
+lawful-here : (c : tie.After-enum-told) → LawfulTable (table-of (c .before .before .before .before .before .before .before .before .before)) (c .before .before .before .before .before .before .before .before .before .args .grid)
+lawful-here c = granted _ _ _ (c .before .before .table-refusal .ensures) (c .enum-told .given .1)
+
+lengths-requires : tie.Need-lengths-requires
+lengths-requires c κs = spelled _ _ (lawful-here c)
+
+shares-requires : tie.Need-shares-requires
+shares-requires c κs = spelled _ _ (lawful-here (c .before))
+
+regions-requires : tie.Need-regions-requires
+regions-requires c κs = located _ _ (lawful-here (c .before .before))
+
+array-share-prefix-long : tie.Need-array-share-prefix-long
+array-share-prefix-long c = let size : length (c .before .before .lengths .result) ≡ 1024 = search needs in omega (arith, lawful-here (c .before .before .before) .shaped .few)
+
+slice-aggregate-put-index : tie.Need-slice-aggregate-put-index
+slice-aggregate-put-index c = let size : length (c .before .before .before .lengths .result) ≡ 1024 = search needs in sym (length-take-le _ (c .before .before .before .lengths .result) (omega (arith, lawful-here (c .before .before .before .before) .shaped .few)))
+
+array-share-prefix-alike : tie.Need-array-share-prefix-alike
+array-share-prefix-alike c = let size : length (c .before .before .shares .result) ≡ 1024 = search needs in omega (arith, lawful-here (c .before .before .before .before) .shaped .few)
+
+slice-aggregate-put-index-2 : tie.Need-slice-aggregate-put-index-2
+slice-aggregate-put-index-2 c = let size : length (c .before .before .before .shares .result) ≡ 1024 = search needs in sym (length-take-le _ (c .before .before .before .shares .result) (omega (arith, lawful-here (c .before .before .before .before .before) .shaped .few)))
+
+array-share-prefix-places : tie.Need-array-share-prefix-places
+array-share-prefix-places c = let size : length (c .before .before .regions .result) ≡ 1024 = search needs in omega (arith, lawful-here (c .before .before .before .before .before) .shaped .few)
+
+slice-aggregate-put-index-3 : tie.Need-slice-aggregate-put-index-3
+slice-aggregate-put-index-3 c = let size : length (c .before .before .before .regions .result) ≡ 1024 = search needs in sym (length-take-le _ (c .before .before .before .regions .result) (omega (arith, lawful-here (c .before .before .before .before .before .before) .shaped .few)))
+
+-- the columns that are lent
+columns-here : (c : tie.After-regions) →
+    let t = table-of (c .before .before .before .before .before .before .before .before .before .before .before .before) in
+    columnsOf (t .text) (t .starts) (take (stands t) (c .before .before .lengths .result)) (take (stands t) (c .before .shares .result)) (take (stands t) (c .regions .result)) (t .score)
+    ≡ columns t (c .before .before .before .before .before .before .before .before .before .before .before .before .args .grid)
+columns-here c = columns-are _ _ (lawful-here (c .before .before .before)) _ _ _ (c .before .before .lengths .ensures) (c .before .shares .ensures) (c .regions .ensures)
+
+put-index-requires : tie.Need-put-index-requires
+put-index-requires c κs = rw (columns-here (c .before .before .before .before .before .before)) (columns-lawful _ _ (lawful-here (c .before .before .before .before .before .before .before .before .before)))
+
+same-length : tie.Need-same-length
+same-length c = search needs
+
+same-length-2 : tie.Need-same-length-2
+same-length-2 c = search needs
+
+same-length-3 : tie.Need-same-length-3
+same-length-3 c = search needs
+
+returns-2 : tie.Need-returns-2
+returns-2 c = wrote-built _ _ (lawful-here (c .before .before .before .before .before .before .before .before .before .before .before .before .before .before .before .before)) _ _ _ (rw (columns-here (c .before .before .before .before .before .before .before .before .before .before .before .before .before)) at (c .before .before .before .before .before .before .put-index .ensures))
+
+pub build-spec : {M : Type 1} → statement M
+build-spec =
+    tie.close
+    (tie.spec
+    table-refusal-requires
+    enum-known-verdict
+    returns
+    enum-told
+    lengths-requires
+    shares-requires
+    regions-requires
+    array-share-prefix-long
+    slice-aggregate-put-index
+    array-share-prefix-alike
+    slice-aggregate-put-index-2
+    array-share-prefix-places
+    slice-aggregate-put-index-3
+    put-index-requires
+    same-length
+    same-length-2
+    same-length-3
+    returns-2)

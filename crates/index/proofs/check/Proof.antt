@@ -1,0 +1,96 @@
+-- `check` says no for a table that is refused; else it compares the buffers with what the table's columns give.
+-- Assumes nothing.
+use Prim.Native.Nat.{ℕ}
+use mathlib.Core.Path.{_≡_, sym, ap, _∙_}
+use native.Mathlib.Omega.{arith}
+use lib.ListN.{length, take}
+use lib.Seq.{length-take-le}
+use borrow.Author.Needs.{needs}
+use Rattle.rules.specs.Numbers.{verdictNumber}
+use Rattle.rules.specs.Tables.{Table, tableOf, stands, LawfulTable}
+use Rattle.rules.proofs.Lawful.{granted}
+use Rattle.node.specs.Columns.{columnsOf}
+use Rattle.index.specs.Columns.{columns}
+use Rattle.index.proofs.ByStand.{spelled, located, columns-are, columns-lawful}
+use Rattle.index.proofs.Answers.{refused-checked, compared-checked}
+use Rattle.index.proofs.check.Statement.{statement}
+use Rattle.index.proofs.check.Tie as tie
+
+table-refusal-requires : tie.Need-table-refusal-requires
+table-refusal-requires c κs = search needs
+
+enum-told : tie.Need-enum-told
+enum-told c = search needs
+
+enum-told-2 : tie.Need-enum-told-2
+enum-told-2 c = search needs
+
+returns : tie.Need-returns
+returns c = refused-checked _ _ _ (c .enum-told2 .given .0 .0) (sym (ap verdictNumber (c .enum-told2 .given .1)) ∙ c .before .before .table-refusal .ensures)
+
+abbrev table-of : tie.Start → Table
+table-of s = let a = s .args in tableOf (a .text .now) (a .starts .now) (a .east .now) (a .north .now) (a .score .now)
+
+-- past the refusals
+lawful-here : (c : tie.After-enum-told) → LawfulTable (table-of (c .before .before .before .before .before .before .before .before .before)) (c .before .before .before .before .before .before .before .before .before .args .grid)
+lawful-here c = granted _ _ _ (c .before .before .table-refusal .ensures) (c .enum-told .given .1)
+
+lengths-requires : tie.Need-lengths-requires
+lengths-requires c κs = spelled _ _ (lawful-here c)
+
+shares-requires : tie.Need-shares-requires
+shares-requires c κs = spelled _ _ (lawful-here (c .before))
+
+regions-requires : tie.Need-regions-requires
+regions-requires c κs = located _ _ (lawful-here (c .before .before))
+
+array-share-prefix-long : tie.Need-array-share-prefix-long
+array-share-prefix-long c = let size : length (c .before .before .lengths .result) ≡ 1024 = search needs in omega (arith, lawful-here (c .before .before .before) .shaped .few)
+
+slice-aggregate-has-index : tie.Need-slice-aggregate-has-index
+slice-aggregate-has-index c = let size : length (c .before .before .before .lengths .result) ≡ 1024 = search needs in sym (length-take-le _ (c .before .before .before .lengths .result) (omega (arith, lawful-here (c .before .before .before .before) .shaped .few)))
+
+array-share-prefix-alike : tie.Need-array-share-prefix-alike
+array-share-prefix-alike c = let size : length (c .before .before .shares .result) ≡ 1024 = search needs in omega (arith, lawful-here (c .before .before .before .before) .shaped .few)
+
+slice-aggregate-has-index-2 : tie.Need-slice-aggregate-has-index-2
+slice-aggregate-has-index-2 c = let size : length (c .before .before .before .shares .result) ≡ 1024 = search needs in sym (length-take-le _ (c .before .before .before .shares .result) (omega (arith, lawful-here (c .before .before .before .before .before) .shaped .few)))
+
+array-share-prefix-places : tie.Need-array-share-prefix-places
+array-share-prefix-places c = let size : length (c .before .before .regions .result) ≡ 1024 = search needs in omega (arith, lawful-here (c .before .before .before .before .before) .shaped .few)
+
+slice-aggregate-has-index-3 : tie.Need-slice-aggregate-has-index-3
+slice-aggregate-has-index-3 c = let size : length (c .before .before .before .regions .result) ≡ 1024 = search needs in sym (length-take-le _ (c .before .before .before .regions .result) (omega (arith, lawful-here (c .before .before .before .before .before .before) .shaped .few)))
+
+-- the columns that are lent
+columns-here : (c : tie.After-regions) →
+    let t = table-of (c .before .before .before .before .before .before .before .before .before .before .before .before) in
+    columnsOf (t .text) (t .starts) (take (stands t) (c .before .before .lengths .result)) (take (stands t) (c .before .shares .result)) (take (stands t) (c .regions .result)) (t .score)
+    ≡ columns t (c .before .before .before .before .before .before .before .before .before .before .before .before .args .grid)
+columns-here c = columns-are _ _ (lawful-here (c .before .before .before)) _ _ _ (c .before .before .lengths .ensures) (c .before .shares .ensures) (c .regions .ensures)
+
+has-index-requires : tie.Need-has-index-requires
+has-index-requires c κs = rw (columns-here (c .before .before .before)) (columns-lawful _ _ (lawful-here (c .before .before .before .before .before .before)))
+
+returns-2 : tie.Need-returns-2
+returns-2 c = compared-checked _ _ (lawful-here (c .before .before .before .before .before .before .before)) _ _ (rw (columns-here (c .before .before .before .before)) at (c .has-index .ensures))
+
+pub check-spec : {M : Type 1} → statement M
+check-spec =
+    tie.close
+    (tie.spec
+    table-refusal-requires
+    enum-told
+    enum-told-2
+    returns
+    lengths-requires
+    shares-requires
+    regions-requires
+    array-share-prefix-long
+    slice-aggregate-has-index
+    array-share-prefix-alike
+    slice-aggregate-has-index-2
+    array-share-prefix-places
+    slice-aggregate-has-index-3
+    has-index-requires
+    returns-2)

@@ -1,0 +1,96 @@
+-- `columns::regions` fills the column of the regions: the invariant is Filled.
+-- Assumes nothing.
+use Prim.Native.Nat.{ℕ, _-_}
+use native.Mathlib.Omega.{arith}
+use mathlib.Core.Path.{_≡_, _∙_}
+use mathlib.Core.Bool.{Bool}
+use lib.IntN.{ℤ, pos}
+use lib.ListN.{length, getD}
+use Rattle.base.proofs.Machine.{arrive}
+use Rattle.rules.specs.Places.{inGrid, regionOf}
+use Rattle.rules.specs.Tables.{placeIn}
+use Rattle.rules.proofs.Places.{region-less}
+use Rattle.index.specs.Columns.{regionIn}
+use Rattle.index.proofs.Filling.{Filled, filled, filled-more, filled-end}
+use borrow.Author.Needs.{needs}
+use Rattle.index.proofs.columns.regions.Statement.{statement}
+use Rattle.index.proofs.columns.regions.Tie as tie
+
+abbrev Inv-loop : tie.InvT-loop
+Inv-loop east north grid column₀ i₀ column i = Filled (regionIn east north grid) (length east) column i
+
+abbrev μ-loop : tie.MeasureT-loop
+μ-loop east north grid column₀ i₀ column i = length east - i
+
+loop-holds : tie.Need-loop-holds Inv-loop μ-loop
+loop-holds c = filled _ _ _ (search needs)
+
+mul-t7 : tie.Need-mul-t7 Inv-loop μ-loop
+mul-t7 c = search needs
+
+shared-slice-copy-out-t10 : tie.Need-shared-slice-copy-out-t10 Inv-loop μ-loop
+shared-slice-copy-out-t10 c = search needs
+
+mul-t11 : tie.Need-mul-t11 Inv-loop μ-loop
+mul-t11 c = search needs
+
+shared-slice-copy-out-t13 : tie.Need-shared-slice-copy-out-t13 Inv-loop μ-loop
+shared-slice-copy-out-t13 c = search needs
+
+region-of-requires : tie.Need-region-of-requires Inv-loop μ-loop
+region-of-requires c κs =
+    let a = c .before .before .before .before .args in
+    let p = c .before .before .before .before .pre in
+    let i = c .before .before .before .loop .i in
+    let inside : ℤ → ℤ → Bool = λ e n. inGrid (a .grid) (record { east = e; north = n }) in
+    (p .lawful, arrive inside (getD (a .east .now) i (pos 0)) (getD (a .north .now) i (pos 0)) (search needs) (search needs) ∙ p .inside i (c .before .before .loop-test .taken))
+
+told : (c : tie.After-region-of Inv-loop μ-loop) →
+    let a = c .before .before .before .before .before .args in
+    c .region-of .result ≡ regionIn (a .east .now) (a .north .now) (a .grid) (c .before .before .before .before .loop .i)
+told c =
+    let a = c .before .before .before .before .before .args in
+    let i = c .before .before .before .before .loop .i in
+    let region : ℤ → ℤ → ℕ = λ e n. regionOf (a .grid) (record { east = e; north = n }) in
+    c .region-of .ensures ∙ arrive region (getD (a .east .now) i (pos 0)) (getD (a .north .now) i (pos 0)) (search needs) (search needs)
+
+cast-column : tie.Need-cast-column Inv-loop μ-loop
+cast-column c =
+    let a = c .before .before .before .before .before .args in
+    let p = c .before .before .before .before .before .pre in
+    let i = c .before .before .before .before .loop .i in
+    omega (arith, told c, region-less (a .grid) (placeIn (a .east .now) (a .north .now) i) (p .lawful) (p .inside i (c .before .before .before .loop-test .taken)))
+
+array-write-column : tie.Need-array-write-column Inv-loop μ-loop
+array-write-column c = search needs
+
+add-i : tie.Need-add-i Inv-loop μ-loop
+add-i c = search needs
+
+loop-less : tie.Need-loop-less Inv-loop μ-loop
+loop-less c = search needs
+
+loop-again : tie.Need-loop-again Inv-loop μ-loop
+loop-again c = filled-more _ _ _ _ _ (c .before .before .before .before .loop .inv) (c .before .before .before .loop-test .taken) (told c)
+
+returns : tie.Need-returns Inv-loop μ-loop
+returns c = filled-end _ _ _ _ (c .before .loop .inv) (c .loop-test .left)
+
+pub regions-spec : {M : Type 1} → statement M
+regions-spec =
+    tie.close
+    (tie.spec
+    Inv-loop
+    μ-loop
+    loop-holds
+    mul-t7
+    shared-slice-copy-out-t10
+    mul-t11
+    shared-slice-copy-out-t13
+    region-of-requires
+    cast-column
+    array-write-column
+    add-i
+    loop-less
+    loop-again
+    returns)

@@ -1,0 +1,56 @@
+-- `columns::shared_before` asks for what two names share, but before the first name there is none.
+-- Assumes nothing.
+use native.Mathlib.Omega.{arith}
+use mathlib.Core.Path.{_≡_, ap, _∙_}
+use Rattle.base.specs.Lists.{sharedLength}
+use Rattle.base.proofs.Tests.{ap2}
+use Rattle.rules.specs.Names.{name}
+use Rattle.index.specs.Columns.{sharedIn}
+use Rattle.index.proofs.ByStand.{shared-first, shared-later, shared-short}
+use borrow.Author.Needs.{needs}
+use Rattle.index.proofs.columns.shared_before.Statement.{statement}
+use Rattle.index.proofs.columns.shared_before.Tie as tie
+
+returns : tie.Need-returns
+returns c = shared-first _ _ _ (c .if1 .taken)
+
+sub-t8 : tie.Need-sub-t8
+sub-t8 c = search needs
+
+cast-t9 : tie.Need-cast-t9
+cast-t9 c = search needs
+
+name-of-requires : tie.Need-name-of-requires
+name-of-requires c κs = search needs
+
+cast-t9-2 : tie.Need-cast-t9-2
+cast-t9-2 c = search needs
+
+name-of-requires-2 : tie.Need-name-of-requires-2
+name-of-requires-2 c κs = search needs
+
+shared-requires : tie.Need-shared-requires
+shared-requires c κs = search needs
+
+told : (c : tie.After-shared) → let a = c .before .before .before .before .before .before .args in c .shared .result ≡ sharedIn (a .text .now) (a .starts .now) (a .i)
+told c = c .shared .ensures ∙ ap2 sharedLength (c .before .before .name-of .ensures) (c .before .name-of2 .ensures) ∙ shared-later _ _ _ (c .before .before .before .if1 .left)
+
+cast-result : tie.Need-cast-result
+cast-result c = let s = c .before .before .before .before .before .before .pre in omega (arith, told c, shared-short _ _ _ _ (s .0) (s .1))
+
+returns-2 : tie.Need-returns-2
+returns-2 c = told c
+
+pub shared-before-spec : {M : Type 1} → statement M
+shared-before-spec =
+    tie.close
+    (tie.spec
+    returns
+    sub-t8
+    cast-t9
+    name-of-requires
+    cast-t9-2
+    name-of-requires-2
+    shared-requires
+    cast-result
+    returns-2)

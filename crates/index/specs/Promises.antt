@@ -1,0 +1,13 @@
+-- What building promises, of its answer and of the three buffers, on every input. What checking promises is one equation of the rules:
+-- `checkedNumbers r ≡ checkTold t g x`.
+use mathlib.Core.Path.{_≡_}
+use Rattle.rules.specs.declared.Grid.{Grid}
+use Rattle.rules.specs.declared.Built.{Built}
+use Rattle.rules.specs.Numbers.{builtNumbers}
+use Rattle.rules.specs.Tables.{Table}
+use Rattle.rules.specs.Indexes.{Index, buildTold, indexAfter}
+
+-- given the table t, the grid g and the buffers x, it answers r and leaves the buffers y
+pub record BuildPromise (t : Table) (g : Grid) (x : Index) (r : Built) (y : Index) : Type 0 where
+  pub told : builtNumbers r ≡ buildTold t g x
+  pub buffers : y ≡ indexAfter t g x
