@@ -108,8 +108,8 @@ pub fn check(
     let mut places = [0u32; 64];
     let mut best = [0u32; 64];
     let mut ranked = [0u32; 64];
-    let mut c = root();
-    while c.number < all {
+    let mut here = root();
+    while here.number < all {
         let Compared::Same(further) = check_node(
             text,
             starts,
@@ -117,7 +117,7 @@ pub fn check(
             shared,
             region,
             score,
-            c,
+            here,
             &mut next,
             &mut path,
             &mut places,
@@ -128,7 +128,7 @@ pub fn check(
         ) else {
             return false;
         };
-        c = further;
+        here = further;
     }
     true
 }
