@@ -1,0 +1,4 @@
+-- Laws of writing and reading: numbers, lines, whole inputs.
+pub mod Decimals
+pub mod Lines
+pub mod Inputs
