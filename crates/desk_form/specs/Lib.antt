@@ -1,5 +1,6 @@
 -- The desk program's input, by how it is written; what its stands are to the finder; what the program prints.
--- Reads has no meaning of its own: it is what the code computes, line by line.
+-- Reads and Says have no meaning of their own: Reads is what the code computes, line by line, and Says what its answers say of that.
 pub mod Writing
 pub mod Form
 pub mod Reads
+pub mod Says
