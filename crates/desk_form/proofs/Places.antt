@@ -31,13 +31,13 @@ module _ (l : List ℕ) (from past : ℕ) (is : past ≡ from + positionIn 10 (d
   unfolding toFeed
   no-feed e = rw (le-ltb (positionIn 10 (drop from l)) (length (drop from l)) (omega (arith, length-drop from l)))
 
-  fed : (past ≡ length l → ⊥) → PartReached l (toFeed (drop from l)) from past
+  fed : (past ≡ length l → ⊥) → PartReached l from (toFeed (drop from l)) from past
   unfolding toFeed
   fed n =
       let p : positionIn 10 (drop from l) < length (drop from l) = omega (arith, length-drop from l, position-le 10 (drop from l), n) in
       let a : past - from ≡ positionIn 10 (drop from l) = omega (arith, is) in
       let b : from + suc (positionIn 10 (drop from l)) ≡ past + 1 = omega (arith, is) in
-      record { forward = omega (arith, is); reached = record { within = omega (arith, is, length-drop from l); is = rw (lt-ltb _ _ p, drop-drop (suc (positionIn 10 (drop from l))) from l, b, a) } }
+      record { begun = refl; forward = omega (arith, is); reached = record { within = omega (arith, is, length-drop from l); is = rw (lt-ltb _ _ p, drop-drop (suc (positionIn 10 (drop from l))) from l, b, a) } }
 
 -- the bytes from `at` on, as a part that ends where the input does
 module _ (l key : List ℕ) (at : ℕ) where
@@ -60,7 +60,7 @@ module _ (l key : List ℕ) (at : ℕ) where
     pub feed-missing : past ≡ length l → bytesLine key (drop at l) ≡ nothing
     feed-missing e = after-key key-is ∙ no-feed l (at + length key) past is h e
 
-    pub line-there : (past ≡ length l → ⊥) → PartReached l (bytesLine key (drop at l)) (at + length key) past
+    pub line-there : (past ≡ length l → ⊥) → PartReached l (at + length key) (bytesLine key (drop at l)) (at + length key) past
     line-there n = rw (after-key key-is) (fed l (at + length key) past is h n)
 
 -- a number's digits, by how many there are and the first of them
@@ -94,7 +94,7 @@ module _ {A : Type 0} (read : List ℕ → Option A) (key rest : List ℕ) where
   unfolding valueLine onward
   value-missing e = rw e
 
-  module _ (l : List ℕ) (from past : ℕ) (there : PartReached l (bytesLine key rest) from past) where
+  module _ (l : List ℕ) (keyed from past : ℕ) (there : PartReached l keyed (bytesLine key rest) from past) where
     pub value-broken : read (part from past l) ≡ none → valueLine read key rest ≡ nothing
     unfolding valueLine onward
     value-broken e = rw (there .reached .is, e)

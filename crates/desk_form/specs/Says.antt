@@ -5,7 +5,17 @@ use mathlib.Core.Option.{Option, none, some}
 use Prim.Native.Nat.{ℕ, _+_, _-_, _≤_}
 use lib.IntN.{ℤ}
 use lib.ListN.{length, take, drop}
+use Rattle.rules.specs.declared.Grid.{Grid}
+use Rattle.rules.specs.declared.Ranking.{Ranking}
+use Rattle.desk_form.specs.Writing.{ascii}
+use Rattle.desk_form.specs.Form.{StandLines}
 use Rattle.desk_form.specs.Reads.{Found, found, nothing}
+use Rattle.desk_form.specs.declared.group.Opening.{Opening}
+use Rattle.desk_form.specs.declared.group.Opening.the-variants as opening
+use Rattle.desk_form.specs.declared.group.StandRead.{StandRead}
+use Rattle.desk_form.specs.declared.group.StandRead.the-variants as stand
+use Rattle.desk_form.specs.declared.group.Question.{Question}
+use Rattle.desk_form.specs.declared.group.Question.the-variants as question
 use Rattle.desk_form.specs.declared.line.Bytes.{Bytes}
 use Rattle.desk_form.specs.declared.line.Bytes.the-variants as bytes
 use Rattle.desk_form.specs.declared.line.Unsigned.{Unsigned}
@@ -26,13 +36,15 @@ pub record Reached {A : Type 0} (input : List ℕ) (f : Found A) (a : A) (next :
   pub within : next ≤ length input
   pub is : f ≡ found a (drop next input)
 
-pub record PartReached (input : List ℕ) (f : Found (List ℕ)) (from past : ℕ) : Type 0 where
+-- a line's value was found, as the part of the input that begins past the key
+pub record PartReached (input : List ℕ) (keyed : ℕ) (f : Found (List ℕ)) (from past : ℕ) : Type 0 where
+  pub begun : from ≡ keyed
   pub forward : from ≤ past
   pub reached : Reached input f (part from past input) (past + 1)
 
-abbrev pub SaysBytes : List ℕ → Found (List ℕ) → Bytes → Type 0
-SaysBytes input f (bytes.Part from past) = PartReached input f from past
-SaysBytes input f bytes.Malformed = f ≡ nothing
+abbrev pub SaysBytes : List ℕ → ℕ → Found (List ℕ) → Bytes → Type 0
+SaysBytes input keyed f (bytes.Part from past) = PartReached input keyed f from past
+SaysBytes input keyed f bytes.Malformed = f ≡ nothing
 
 abbrev pub SaysUnsigned : List ℕ → Found ℕ → Unsigned → Type 0
 SaysUnsigned input f (unsigned.Number n next) = Reached input f n next
@@ -49,3 +61,28 @@ saidNumber (some n) = decimal.Number n
 abbrev pub saidMetres : Option ℤ → Metres
 saidMetres none = metres.Malformed
 saidMetres (some n) = metres.Number n
+
+abbrev pub SaysOpening : List ℕ → Found (Grid × ℕ) → Opening → Type 0
+SaysOpening input f (opening.Lines grid stands next) = Reached input f (grid, stands) next
+SaysOpening input f opening.Malformed = f ≡ nothing
+
+-- a stand's lines were found, with the name at a part of the input
+pub record StandReached (input : List ℕ) (f : Found StandLines) (from past : ℕ) (east north : ℤ) (score next : ℕ) : Type 0 where
+  pub forward : from ≤ past
+  pub inside : past ≤ length input
+  pub reached : Reached input f (record { name = part from past input; east = east; north = north; score = score }) next
+
+abbrev pub SaysStand : List ℕ → Found StandLines → StandRead → Type 0
+SaysStand input f (stand.Lines from past east north score next) = StandReached input f from past east north score next
+SaysStand input f stand.Malformed = f ≡ nothing
+
+-- the question's lines were found, with the text at the part of the input that begins past its key
+pub record QuestionReached (input : List ℕ) (at : ℕ) (f : Found (List ℕ × Ranking)) (from past : ℕ) (ranking : Ranking) (next : ℕ) : Type 0 where
+  pub begun : from ≡ at + length (ascii "text=")
+  pub forward : from ≤ past
+  pub inside : past ≤ length input
+  pub reached : Reached input f (part from past input, ranking) next
+
+abbrev pub SaysQuestion : List ℕ → ℕ → Found (List ℕ × Ranking) → Question → Type 0
+SaysQuestion input at f (question.Lines from past ranking next) = QuestionReached input at f from past ranking next
+SaysQuestion input at f question.Malformed = f ≡ nothing

@@ -53,7 +53,7 @@ fn feed_from(input: &[u8], at: usize) -> usize
 
 pub fn bytes_line(input: &[u8], at: usize, key: &[u8]) -> Bytes
     requires { ⌜ at ≤ length (now input) ⌝ }
-    ensures { λ r. ⌜ SaysBytes (now (input .entry)) (bytesLine (now (key .entry)) (drop at (now (input .entry)))) r ⌝ }
+    ensures { λ r. ⌜ SaysBytes (now (input .entry)) (at + length (now (key .entry))) (bytesLine (now (key .entry)) (drop at (now (input .entry)))) r ⌝ }
 {
     if !begins(&input[at..], key) {
         return Bytes::Malformed;

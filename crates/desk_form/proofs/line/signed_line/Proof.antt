@@ -1,7 +1,7 @@
 -- `line::signed_line` reads the value of its line.
 -- Assumes nothing.
 use mathlib.Core.Path.{sym, _∙_}
-use Prim.Native.Nat.{ℕ}
+use Prim.Native.Nat.{_+_}
 use native.Mathlib.Omega.{arith}
 use lib.ListN.{length, drop}
 use borrow.Author.Needs.{needs}
@@ -27,7 +27,7 @@ enum-told : tie.Need-enum-told
 enum-told c = search needs
 
 -- src/line.rt:141:9
-value-part : (c : tie.After-known-told) → let a = c .before .before .before .before .before .before .args in PartReached (a .input .now) (bytesLine (a .key .now) (drop (a .at) (a .input .now))) (c .before .from .given .0 .0) (c .before .from .given .0 .1 .0)
+value-part : (c : tie.After-known-told) → let a = c .before .before .before .before .before .before .args in PartReached (a .input .now) (a .at + length (a .key .now)) (bytesLine (a .key .now) (drop (a .at) (a .input .now))) (c .before .from .given .0 .0) (c .before .from .given .0 .1 .0)
 value-part c = rw (c .before .from .given .1) at (c .before .before .before .bytes-line .ensures)
 
 returns : tie.Need-returns
@@ -64,7 +64,7 @@ returns-2 : tie.Need-returns-2
 returns-2 c =
     let a = c .before .before .before .before .before .before .before .before .before .before .args in
     let e = c .before .before .before .before in
-    value-broken signedIn (a .key .now) _ (a .input .now) _ _ (value-part e) (said-unsigned _ (sym (c .before .before .metres-of .ensures) ∙ c .enum-told2 .given .1))
+    value-broken signedIn (a .key .now) _ (a .input .now) _ _ _ (value-part e) (said-unsigned _ (sym (c .before .before .metres-of .ensures) ∙ c .enum-told2 .given .1))
 
 -- src/line.rt:146:23
 add-t10 : tie.Need-add-t10
@@ -76,7 +76,7 @@ returns-3 c =
     let a = c .before .before .before .before .before .before .before .before .before .before .before .args in
     let e = c .before .before .before .before .before in
     rw (toZ-ofZ {w = w32} {z = c .before .n .given .0 .0} (search needs))
-    (value-there signedIn (a .key .now) _ (a .input .now) _ _ (value-part e) _ (said-signed _ _ (sym (c .before .before .before .metres-of .ensures) ∙ c .before .n .given .1)))
+    (value-there signedIn (a .key .now) _ (a .input .now) _ _ _ (value-part e) _ (said-signed _ _ (sym (c .before .before .before .metres-of .ensures) ∙ c .before .n .given .1)))
 
 pub signed-line-spec : {M : Type 1} → statement M
 signed-line-spec =

@@ -1,7 +1,7 @@
 -- `line::unsigned_line` reads the value of its line.
 -- Assumes nothing.
 use mathlib.Core.Path.{sym, _∙_}
-use Prim.Native.Nat.{ℕ}
+use Prim.Native.Nat.{_+_}
 use native.Mathlib.Omega.{arith}
 use lib.ListN.{length, drop}
 use borrow.Author.Needs.{needs}
@@ -25,7 +25,7 @@ enum-told : tie.Need-enum-told
 enum-told c = search needs
 
 -- src/line.rt:128:9
-value-part : (c : tie.After-known-told) → let a = c .before .before .before .before .before .before .args in PartReached (a .input .now) (bytesLine (a .key .now) (drop (a .at) (a .input .now))) (c .before .from .given .0 .0) (c .before .from .given .0 .1 .0)
+value-part : (c : tie.After-known-told) → let a = c .before .before .before .before .before .before .args in PartReached (a .input .now) (a .at + length (a .key .now)) (bytesLine (a .key .now) (drop (a .at) (a .input .now))) (c .before .from .given .0 .0) (c .before .from .given .0 .1 .0)
 value-part c = rw (c .before .from .given .1) at (c .before .before .before .bytes-line .ensures)
 
 returns : tie.Need-returns
@@ -62,7 +62,7 @@ returns-2 : tie.Need-returns-2
 returns-2 c =
     let a = c .before .before .before .before .before .before .before .before .before .before .args in
     let e = c .before .before .before .before in
-    value-broken (numberIn (a .most)) (a .key .now) _ (a .input .now) _ _ (value-part e) (said-none _ (sym (c .before .before .decimal-of .ensures) ∙ c .enum-told2 .given .1))
+    value-broken (numberIn (a .most)) (a .key .now) _ (a .input .now) _ _ _ (value-part e) (said-none _ (sym (c .before .before .decimal-of .ensures) ∙ c .enum-told2 .given .1))
 
 -- src/line.rt:133:25
 add-t11 : tie.Need-add-t11
@@ -73,7 +73,7 @@ returns-3 : tie.Need-returns-3
 returns-3 c =
     let a = c .before .before .before .before .before .before .before .before .before .before .before .args in
     let e = c .before .before .before .before .before in
-    value-there (numberIn (a .most)) (a .key .now) _ (a .input .now) _ _ (value-part e) _ (said-some _ _ (sym (c .before .before .before .decimal-of .ensures) ∙ c .before .n .given .1))
+    value-there (numberIn (a .most)) (a .key .now) _ (a .input .now) _ _ _ (value-part e) _ (said-some _ _ (sym (c .before .before .before .decimal-of .ensures) ∙ c .before .n .given .1))
 
 pub unsigned-line-spec : {M : Type 1} → statement M
 unsigned-line-spec =
