@@ -57,7 +57,7 @@ stand-sound l s rest e =
     as-found (λ s rest. StandInRanges s × (l ≡ standText s ++ rest)) _ s l₄ rest e₄
     (record { name = r₁; east = r₂; north = r₃; score = r₄ }, rw (s₁, s₂, s₃, s₄) (simp append-assoc))))))
 
-stand-law : Reads standText StandInRanges standLines
+pub stand-law : Reads standText StandInRanges standLines
 stand-law = record { back = stand-back; sound = stand-sound }
 
 abbrev QuestionOk : List ℕ × Ranking → Type 0

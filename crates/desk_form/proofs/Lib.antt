@@ -5,3 +5,4 @@ pub mod Inputs
 pub mod Turns
 pub mod Places
 pub mod Signs
+pub mod Layouts

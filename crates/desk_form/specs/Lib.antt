@@ -2,5 +2,6 @@
 -- Reads and Says have no meaning of their own: Reads is what the code computes, line by line, and Says what its answers say of that.
 pub mod Writing
 pub mod Form
+pub mod Columns
 pub mod Reads
 pub mod Says

@@ -2,14 +2,18 @@
 use mathlib.Core.Path.{_≡_}
 use mathlib.Core.List.{List}
 use mathlib.Core.Option.{Option, none, some}
-use Prim.Native.Nat.{ℕ, _+_, _-_, _≤_}
+use Prim.Native.Nat.{ℕ, _+_, _-_, _≤_, _<_}
 use lib.IntN.{ℤ}
 use lib.ListN.{length, take, drop}
 use Rattle.rules.specs.declared.Grid.{Grid}
 use Rattle.rules.specs.declared.Ranking.{Ranking}
 use Rattle.desk_form.specs.Writing.{ascii}
 use Rattle.desk_form.specs.Form.{StandLines}
+use Rattle.rules.specs.Tables.{Table}
+use Rattle.desk_form.specs.Columns.{namesOf, tableFrom, laidTable}
 use Rattle.desk_form.specs.Reads.{Found, found, nothing}
+use Rattle.desk_form.specs.declared.columns.Stands.{Stands}
+use Rattle.desk_form.specs.declared.columns.Stands.the-variants as columns
 use Rattle.desk_form.specs.declared.group.Opening.{Opening}
 use Rattle.desk_form.specs.declared.group.Opening.the-variants as opening
 use Rattle.desk_form.specs.declared.group.StandRead.{StandRead}
@@ -86,3 +90,24 @@ pub record QuestionReached (input : List ℕ) (at : ℕ) (f : Found (List ℕ ×
 abbrev pub SaysQuestion : List ℕ → ℕ → Found (List ℕ × Ranking) → Question → Type 0
 SaysQuestion input at f (question.Lines from past ranking next) = QuestionReached input at f from past ranking next
 SaysQuestion input at f question.Malformed = f ≡ nothing
+
+-- the lent parts have room for so many stands, and for as many bytes of names as there are bytes
+pub record RoomFor (input : List ℕ) (at stands : ℕ) (rooms : Table) : Type 0 where
+  pub within : at ≤ length input
+  pub short : length input < 4294967296
+  pub text : length input ≤ length (rooms .text)
+  pub starts : stands < length (rooms .starts)
+  pub east : stands ≤ length (rooms .east)
+  pub north : stands ≤ length (rooms .north)
+  pub score : stands ≤ length (rooms .score)
+
+-- the stands' lines were found, and the lent parts begin with their table
+pub record StandsReached (input : List ℕ) (f : Found (List StandLines)) (rooms after : Table) (bytes next : ℕ) : Type 0 where
+  pub stands : List StandLines
+  pub reached : Reached input f stands next
+  pub counted : bytes ≡ length (namesOf stands)
+  pub laid : after ≡ laidTable (tableFrom stands) rooms
+
+abbrev pub SaysStands : List ℕ → Found (List StandLines) → Table → Table → Stands → Type 0
+SaysStands input f rooms after (columns.Laid bytes next) = StandsReached input f rooms after bytes next
+SaysStands input f rooms after columns.Malformed = f ≡ nothing
