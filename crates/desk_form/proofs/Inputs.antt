@@ -80,7 +80,7 @@ question-sound l q rest e =
     as-found (λ q rest. QuestionOk q × (l ≡ questionText (q .0) (q .1) ++ rest)) _ q l₅ rest e₅
     ((r₁, record { east = r₂; north = r₃; weight = r₄; k = r₅ }), rw (s₁, s₂, s₃, s₄, s₅) (simp append-assoc)))))))
 
-question-law : Reads (λ q. questionText (q .0) (q .1)) QuestionOk questionLines
+pub question-law : Reads (λ q. questionText (q .0) (q .1)) QuestionOk questionLines
 question-law = record { back = question-back; sound = question-sound }
 
 -- as many stands as were said
@@ -95,7 +95,7 @@ stands-back (suc n) [] rest r = absurd (omega (arith, r .0))
 stands-back (suc n) (s ∷ stands) rest r =
     rw (append-assoc (standText s) (eachList standText stands) rest, stand-back s (eachList standText stands ++ rest) (r .1 s (inl refl)), stands-back n stands rest (omega (arith, r .0), λ z i. r .1 z (inr i)))
 
-stands-sound : (n : ℕ) (l : List ℕ) (stands : List StandLines) (rest : List ℕ) → allStands n l ≡ found stands rest → StandsOk n stands × (l ≡ eachList standText stands ++ rest)
+pub stands-sound : (n : ℕ) (l : List ℕ) (stands : List StandLines) (rest : List ℕ) → allStands n l ≡ found stands rest → StandsOk n stands × (l ≡ eachList standText stands ++ rest)
 unfolding allStands
 stands-sound zero l stands rest e = as-found (λ stands rest. StandsOk 0 stands × (l ≡ eachList standText stands ++ rest)) [] stands l rest e ((refl, λ z i. absurd i), refl)
 stands-sound (suc n) l stands rest e =

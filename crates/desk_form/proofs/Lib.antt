@@ -6,3 +6,4 @@ pub mod Turns
 pub mod Places
 pub mod Signs
 pub mod Layouts
+pub mod Readings

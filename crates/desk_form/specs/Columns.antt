@@ -1,13 +1,11 @@
 -- What an input is to the finder: its stands as the columns of a table, and where the question's text lies.
--- Then what reading an input answers, and what the lent parts of a table hold after it.
-use mathlib.Core.Path.{_≡_}
 use mathlib.Core.List.{List, [], _∷_, _++_}
 use Prim.Native.Nat.{ℕ, _+_}
 use lib.ListN.{length, drop}
 use Rattle.base.specs.Lists.{each, eachList}
 use Rattle.rules.specs.Tables.{Table}
 use Rattle.desk_form.specs.Writing.{ascii}
-use Rattle.desk_form.specs.Form.{StandLines, Input, gridText, standText, textOf, InRanges}
+use Rattle.desk_form.specs.Form.{StandLines, Input, gridText, standText}
 
 -- the names one after the other
 abbrev pub namesOf : List StandLines → List ℕ

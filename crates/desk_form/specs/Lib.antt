@@ -3,5 +3,6 @@
 pub mod Writing
 pub mod Form
 pub mod Columns
+pub mod Answers
 pub mod Reads
 pub mod Says

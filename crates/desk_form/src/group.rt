@@ -1,4 +1,5 @@
 // Lines that belong together: the grid's, a stand's, the question's. Each group is read where it begins, in the order of its lines.
+use crate::Reading;
 use crate::line::Bytes;
 use crate::line::Signed;
 use crate::line::Unsigned;
@@ -12,12 +13,6 @@ ghost use Prim.Native.Nat.{_+_, _≤_};
 ghost use lib.ListN.{length, drop};
 ghost use Rattle.desk_form.specs.Reads.{gridLines, standLines, questionLines};
 ghost use Rattle.desk_form.specs.Says.{SaysOpening, SaysStand, SaysQuestion};
-
-// The largest cell, score, weight or k that a line may hold.
-const NUMBER_MOST: u32 = 65_535;
-
-// The most stands that a line may promise.
-const STANDS_MOST: u32 = 64;
 
 // The grid, how many stands follow, and where their lines begin.
 pub enum Opening {
@@ -62,10 +57,11 @@ pub fn read_opening(input: &[u8]) -> Opening
     let Signed::Number(south, at) = signed_line(input, at, b"south=") else {
         return Opening::Malformed;
     };
-    let Unsigned::Number(cell, at) = unsigned_line(input, at, b"cell=", NUMBER_MOST) else {
+    let Unsigned::Number(cell, at) = unsigned_line(input, at, b"cell=", Reading::NUMBER_MOST) else {
         return Opening::Malformed;
     };
-    let Unsigned::Number(stands, at) = unsigned_line(input, at, b"stands=", STANDS_MOST) else {
+    let Unsigned::Number(stands, at) = unsigned_line(input, at, b"stands=", Reading::STANDS_MOST)
+    else {
         return Opening::Malformed;
     };
     Opening::Lines {
@@ -88,7 +84,8 @@ pub fn read_stand(input: &[u8], at: usize) -> StandRead
     let Signed::Number(north, at) = signed_line(input, at, b"north=") else {
         return StandRead::Malformed;
     };
-    let Unsigned::Number(score, at) = unsigned_line(input, at, b"score=", NUMBER_MOST) else {
+    let Unsigned::Number(score, at) = unsigned_line(input, at, b"score=", Reading::NUMBER_MOST)
+    else {
         return StandRead::Malformed;
     };
     StandRead::Lines {
@@ -114,10 +111,11 @@ pub fn read_question(input: &[u8], at: usize) -> Question
     let Signed::Number(north, at) = signed_line(input, at, b"north=") else {
         return Question::Malformed;
     };
-    let Unsigned::Number(weight, at) = unsigned_line(input, at, b"weight=", NUMBER_MOST) else {
+    let Unsigned::Number(weight, at) = unsigned_line(input, at, b"weight=", Reading::NUMBER_MOST)
+    else {
         return Question::Malformed;
     };
-    let Unsigned::Number(k, at) = unsigned_line(input, at, b"k=", NUMBER_MOST) else {
+    let Unsigned::Number(k, at) = unsigned_line(input, at, b"k=", Reading::NUMBER_MOST) else {
         return Question::Malformed;
     };
     Question::Lines {
