@@ -1,0 +1,98 @@
+-- From the lines that were found, or not, to what reading a whole input promises.
+-- Assumes nothing.
+use mathlib.Core.Path.{_≡_, refl, sym, ap, _∙_}
+use mathlib.Core.Logic.{_⊎_, inl, inr}
+use mathlib.Core.Bool.{true, false}
+use mathlib.Core.List.{List, [], _∷_, _++_}
+use Prim.Native.Nat.{ℕ, _+_, _-_, _≤_, _<_}
+use native.Mathlib.Omega.{arith}
+use lib.Dec.{leb}
+use lib.ListN.{length, drop, getD, length-append, length-drop, drop-of-length-le}
+use lib.Seq.{drop-cons, length-take-le}
+use borrow.Author.Tests.{le-leb, lt-leb}
+use Rattle.base.specs.Lists.{eachList}
+use Rattle.base.proofs.Tests.{which, ap2}
+use Rattle.rules.specs.declared.Grid.{Grid}
+use Rattle.rules.specs.declared.Ranking.{Ranking}
+use Rattle.rules.specs.declared.Refusal.the-variants.{InputMalformed}
+use Rattle.rules.specs.Tables.{Table}
+use Rattle.desk_form.specs.Writing.{ascii}
+use Rattle.desk_form.specs.Form.{StandLines, Input, gridText, standText, textOf, InRanges}
+use Rattle.desk_form.specs.Columns.{namesOf, tableFrom, laidTable, textAt}
+use Rattle.desk_form.specs.Answers.{readingOf, ReadsInput}
+use Rattle.desk_form.specs.Reads.{Found, found, nothing, onward, gridLines, allStands, questionLines, ended, inputOf, allLines, readInput}
+use Rattle.desk_form.specs.Says.{part, Reached, StandsReached, QuestionReached}
+use Rattle.desk_form.specs.declared.Reading.{Reading}
+use Rattle.desk_form.specs.declared.Reading.the-variants.{Of, Refused}
+use Rattle.desk_form.proofs.Lines.{lost}
+use Rattle.desk_form.proofs.Inputs.{grid-law, stands-sound, read-back, read-sound}
+
+same-reading : {stands stands′ bytes bytes′ from from′ past past′ : ℕ} {grid : Grid} {ranking : Ranking} → stands ≡ stands′ → bytes ≡ bytes′ → from ≡ from′ → past ≡ past′ → Of stands bytes grid from past ranking ≡ Of stands′ bytes′ grid from′ past′ ranking
+same-reading a b c d = rw (a, b, c, d)
+
+module _ (l : List ℕ) (rooms after : Table) where
+  refused : readInput l ≡ nothing → ReadsInput l rooms (Refused InputMalformed) after
+  refused e = record { of-form = λ r h t. lost (sym e ∙ ap readInput (sym t) ∙ read-back r h); other = λ no. refl }
+
+  accepted : (answer : Reading) (r : Input) (rest : List ℕ) → readInput l ≡ found r rest → answer ≡ readingOf r → after ≡ laidTable (tableFrom (r .stands)) rooms → ReadsInput l rooms answer after
+  accepted answer r rest e a b =
+      record { of-form = same; other = λ no. absurd (no r (read-sound l r rest e .0) (read-sound l r rest e .1)) }
+    where
+      same : (s : Input) → InRanges s → textOf s ≡ l → (answer ≡ readingOf s) × (after ≡ laidTable (tableFrom (s .stands)) rooms)
+      same s h t =
+          let q : found r rest ≡ found s [] = sym e ∙ ap readInput (sym t) ∙ read-back s h in
+          let i : r ≡ s = cc in
+          (rw i at a, rw i at b)
+
+  pub too-long : 16384 < length l → ReadsInput l rooms (Refused InputMalformed) after
+  unfolding readInput
+  too-long h = refused (rw (lt-leb _ _ h))
+
+  lines-refused : allLines l ≡ nothing → ReadsInput l rooms (Refused InputMalformed) after
+  unfolding readInput
+  lines-refused e = refused (step (which (leb (length l) 16384)))
+    where
+      step : (leb (length l) 16384 ≡ true) ⊎ (leb (length l) 16384 ≡ false) → readInput l ≡ nothing
+      step (inl q) = rw (q, e)
+      step (inr q) = rw q
+
+  pub no-opening : gridLines l ≡ nothing → ReadsInput l rooms (Refused InputMalformed) after
+  unfolding allLines onward
+  no-opening e = lines-refused (rw e)
+
+  module _ (grid : Grid) (n at₁ : ℕ) (opening : Reached l (gridLines l) (grid, n) at₁) where
+    pub no-stands : allStands n (drop at₁ l) ≡ nothing → ReadsInput l rooms (Refused InputMalformed) after
+    unfolding allLines onward
+    no-stands e = lines-refused (rw (opening .is, e))
+
+    module _ (bytes at₂ : ℕ) (laid : StandsReached l (allStands n (drop at₁ l)) rooms after bytes at₂) where
+      pub no-question : questionLines (drop at₂ l) ≡ nothing → ReadsInput l rooms (Refused InputMalformed) after
+      unfolding allLines onward
+      no-question e = lines-refused (rw (opening .is, laid .reached .is, e))
+
+      module _ (from past : ℕ) (ranking : Ranking) (at₃ : ℕ) (asked : QuestionReached l at₂ (questionLines (drop at₂ l)) from past ranking at₃) where
+        pub more-behind : (at₃ ≡ length l → ⊥) → ReadsInput l rooms (Refused InputMalformed) after
+        unfolding allLines onward
+        more-behind h = lines-refused (rw (opening .is, laid .reached .is, asked .reached .is, drop-cons l at₃ 0 (omega (arith, asked .reached .within, h))))
+
+        counted : length (laid .stands) ≡ n
+        counted = stands-sound n (drop at₁ l) (laid .stands) (drop at₂ l) (laid .reached .is) .0 .0
+
+        begun : from ≡ textAt (inputOf grid (laid .stands) (part from past l, ranking))
+        unfolding textAt
+        begun =
+            let g = ap length (grid-law .sound l (grid, n) (drop at₁ l) (opening .is) .1) ∙ length-append (gridText grid n) (drop at₁ l) in
+            let s = ap length (stands-sound n (drop at₁ l) (laid .stands) (drop at₂ l) (laid .reached .is) .1) ∙ length-append (eachList standText (laid .stands)) (drop at₂ l) in
+            let t = length-append (gridText grid n ++ eachList standText (laid .stands)) (ascii "text=") in
+            let u = length-append (gridText grid n) (eachList standText (laid .stands)) in
+            rw counted (omega (arith, g, s, t, u, length-drop at₁ l, length-drop at₂ l, opening .within, laid .reached .within, asked .begun))
+
+        ended-at : past ≡ from + length (part from past l)
+        ended-at = omega (arith, length-take-le (past - from) (drop from l) (omega (arith, length-drop from l, asked .inside)), asked .forward)
+
+        pub all-read : length l ≤ 16384 → at₃ ≡ length l → ReadsInput l rooms (Of n bytes grid from past ranking) after
+        unfolding readInput allLines onward
+        all-read short h =
+            accepted (Of n bytes grid from past ranking) (inputOf grid (laid .stands) (part from past l, ranking)) []
+            (rw (le-leb _ _ short, opening .is, laid .reached .is, asked .reached .is, drop-of-length-le l {i = at₃} (omega arith)))
+            (same-reading (sym counted) (laid .counted) begun (ended-at ∙ ap (λ k. k + length (part from past l)) begun)) (laid .laid)

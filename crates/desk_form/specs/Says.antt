@@ -1,0 +1,113 @@
+-- What an answer of the code says of what its reader found: the same value, and the place where the bytes behind it begin.
+use mathlib.Core.Path.{_≡_}
+use mathlib.Core.List.{List}
+use mathlib.Core.Option.{Option, none, some}
+use Prim.Native.Nat.{ℕ, _+_, _-_, _≤_, _<_}
+use lib.IntN.{ℤ}
+use lib.ListN.{length, take, drop}
+use Rattle.rules.specs.declared.Grid.{Grid}
+use Rattle.rules.specs.declared.Ranking.{Ranking}
+use Rattle.desk_form.specs.Writing.{ascii}
+use Rattle.desk_form.specs.Form.{StandLines}
+use Rattle.rules.specs.Tables.{Table}
+use Rattle.desk_form.specs.Columns.{namesOf, tableFrom, laidTable}
+use Rattle.desk_form.specs.Reads.{Found, found, nothing}
+use Rattle.desk_form.specs.declared.columns.Stands.{Stands}
+use Rattle.desk_form.specs.declared.columns.Stands.the-variants as columns
+use Rattle.desk_form.specs.declared.group.Opening.{Opening}
+use Rattle.desk_form.specs.declared.group.Opening.the-variants as opening
+use Rattle.desk_form.specs.declared.group.StandRead.{StandRead}
+use Rattle.desk_form.specs.declared.group.StandRead.the-variants as stand
+use Rattle.desk_form.specs.declared.group.Question.{Question}
+use Rattle.desk_form.specs.declared.group.Question.the-variants as question
+use Rattle.desk_form.specs.declared.line.Bytes.{Bytes}
+use Rattle.desk_form.specs.declared.line.Bytes.the-variants as bytes
+use Rattle.desk_form.specs.declared.line.Unsigned.{Unsigned}
+use Rattle.desk_form.specs.declared.line.Unsigned.the-variants as unsigned
+use Rattle.desk_form.specs.declared.line.Signed.{Signed}
+use Rattle.desk_form.specs.declared.line.Signed.the-variants as signed
+use Rattle.desk_form.specs.declared.line.Decimal.{Decimal}
+use Rattle.desk_form.specs.declared.line.Decimal.the-variants as decimal
+use Rattle.desk_form.specs.declared.line.Metres.{Metres}
+use Rattle.desk_form.specs.declared.line.Metres.the-variants as metres
+
+-- the bytes from one place of the input to another
+abbrev pub part : ℕ → ℕ → List ℕ → List ℕ
+part from past input = take (past - from) (drop from input)
+
+-- a value was found, and the next line begins in the input, or at its end
+pub record Reached {A : Type 0} (input : List ℕ) (f : Found A) (a : A) (next : ℕ) : Type 0 where
+  pub within : next ≤ length input
+  pub is : f ≡ found a (drop next input)
+
+-- a line's value was found, as the part of the input that begins past the key
+pub record PartReached (input : List ℕ) (keyed : ℕ) (f : Found (List ℕ)) (from past : ℕ) : Type 0 where
+  pub begun : from ≡ keyed
+  pub forward : from ≤ past
+  pub reached : Reached input f (part from past input) (past + 1)
+
+abbrev pub SaysBytes : List ℕ → ℕ → Found (List ℕ) → Bytes → Type 0
+SaysBytes input keyed f (bytes.Part from past) = PartReached input keyed f from past
+SaysBytes input keyed f bytes.Malformed = f ≡ nothing
+
+abbrev pub SaysUnsigned : List ℕ → Found ℕ → Unsigned → Type 0
+SaysUnsigned input f (unsigned.Number n next) = Reached input f n next
+SaysUnsigned input f unsigned.Malformed = f ≡ nothing
+
+abbrev pub SaysSigned : List ℕ → Found ℤ → Signed → Type 0
+SaysSigned input f (signed.Number n next) = Reached input f n next
+SaysSigned input f signed.Malformed = f ≡ nothing
+
+abbrev pub saidNumber : Option ℕ → Decimal
+saidNumber none = decimal.Malformed
+saidNumber (some n) = decimal.Number n
+
+abbrev pub saidMetres : Option ℤ → Metres
+saidMetres none = metres.Malformed
+saidMetres (some n) = metres.Number n
+
+abbrev pub SaysOpening : List ℕ → Found (Grid × ℕ) → Opening → Type 0
+SaysOpening input f (opening.Lines grid stands next) = Reached input f (grid, stands) next
+SaysOpening input f opening.Malformed = f ≡ nothing
+
+-- a stand's lines were found, with the name at a part of the input
+pub record StandReached (input : List ℕ) (f : Found StandLines) (from past : ℕ) (east north : ℤ) (score next : ℕ) : Type 0 where
+  pub forward : from ≤ past
+  pub inside : past ≤ length input
+  pub reached : Reached input f (record { name = part from past input; east = east; north = north; score = score }) next
+
+abbrev pub SaysStand : List ℕ → Found StandLines → StandRead → Type 0
+SaysStand input f (stand.Lines from past east north score next) = StandReached input f from past east north score next
+SaysStand input f stand.Malformed = f ≡ nothing
+
+-- the question's lines were found, with the text at the part of the input that begins past its key
+pub record QuestionReached (input : List ℕ) (at : ℕ) (f : Found (List ℕ × Ranking)) (from past : ℕ) (ranking : Ranking) (next : ℕ) : Type 0 where
+  pub begun : from ≡ at + length (ascii "text=")
+  pub forward : from ≤ past
+  pub inside : past ≤ length input
+  pub reached : Reached input f (part from past input, ranking) next
+
+abbrev pub SaysQuestion : List ℕ → ℕ → Found (List ℕ × Ranking) → Question → Type 0
+SaysQuestion input at f (question.Lines from past ranking next) = QuestionReached input at f from past ranking next
+SaysQuestion input at f question.Malformed = f ≡ nothing
+
+-- the lent parts have room for so many stands, and for as many bytes of names as there are bytes
+pub record RoomFor (input : List ℕ) (at stands : ℕ) (rooms : Table) : Type 0 where
+  pub within : at ≤ length input
+  pub short : length input < 4294967296
+  pub text : length input ≤ length (rooms .text)
+  pub starts : stands < length (rooms .starts)
+  pub east : stands ≤ length (rooms .east)
+  pub north : stands ≤ length (rooms .north)
+  pub score : stands ≤ length (rooms .score)
+
+-- the stands' lines were found, and the lent parts begin with their table
+pub record StandsReached (input : List ℕ) (f : Found (List StandLines)) (rooms after : Table) (bytes next : ℕ) : Type 0 where
+  pub stands : List StandLines
+  pub reached : Reached input f stands next
+  pub counted : bytes ≡ length (namesOf stands)
+  pub laid : after ≡ laidTable (tableFrom stands) rooms
+
+abbrev pub SaysStands : List ℕ → Found (List StandLines) → Table → Table → Stands → Type 0
+SaysStands input f rooms after (columns.Laid bytes next) = StandsReached input f rooms after bytes next
+SaysStands input f rooms after columns.Malformed = f ≡ nothing
