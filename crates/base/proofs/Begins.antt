@@ -39,14 +39,14 @@ begins-length (a ∷ p) [] h = absurd (false≢true h)
 begins-length (a ∷ p) (b ∷ n) h = let t = begins-length p n (begins-cases a b p n h .1) in omega arith
 
 -- of two beginnings of one name the shorter begins the longer
-pub begins-_&&_ : (p q n : List ℕ) → begins p n ≡ true → begins q n ≡ true → length p ≤ length q → begins p q ≡ true
-begins-_&&_ [] q n h k l = refl
-begins-_&&_ (a ∷ p) [] n h k l = absurd (omega arith)
-begins-_&&_ (a ∷ p) (b ∷ q) [] h k l = absurd (false≢true h)
-begins-_&&_ (a ∷ p) (b ∷ q) (c ∷ n) h k l =
+pub begins-both : (p q n : List ℕ) → begins p n ≡ true → begins q n ≡ true → length p ≤ length q → begins p q ≡ true
+begins-both [] q n h k l = refl
+begins-both (a ∷ p) [] n h k l = absurd (omega arith)
+begins-both (a ∷ p) (b ∷ q) [] h k l = absurd (false≢true h)
+begins-both (a ∷ p) (b ∷ q) (c ∷ n) h k l =
     let s = begins-cases a c p n h in
     let t = begins-cases b c q n k in
-    begins-same a b p q (s .0 ∙ sym (t .0)) (begins-_&&_ p q n (s .1) (t .1) (omega arith))
+    begins-same a b p q (s .0 ∙ sym (t .0)) (begins-both p q n (s .1) (t .1) (omega arith))
 
 -- a beginning as long as the whole is the whole
 pub begins-whole : (p q : List ℕ) → begins p q ≡ true → length q ≤ length p → p ≡ q

@@ -8,3 +8,6 @@ pub mod Words
 pub mod Shuffles
 pub mod Sorts
 pub mod Machine
+pub mod Pairs
+pub mod Counts
+pub mod Rows

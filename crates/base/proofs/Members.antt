@@ -2,13 +2,14 @@
 -- Assumes nothing.
 use mathlib.Core.Path.{_≡_, refl, sym, ap, _∙_}
 use mathlib.Core.Logic.{_⊎_, inl, inr}
-use mathlib.Core.Bool.{Bool, true, false, not, true≢false}
+use mathlib.Core.Bool.{Bool, true, false, not, true≢false, false≢true}
 use mathlib.Core.List.{List, [], _∷_, _++_, append-assoc}
-use Prim.Native.Nat.{ℕ, zero, suc, _<_}
+use Prim.Native.Nat.{ℕ, zero, suc, _≤_, _<_}
 use native.Mathlib.Omega.{arith}
-use lib.ListN.{length, getD}
-use borrow.Author.Tests.{eq-eqb, ne-eqb}
-use Rattle.base.specs.Lists.{keep, each, eachList, isEmpty, positionIn, In}
+use lib.Dec.{ltb}
+use lib.ListN.{length, take, getD}
+use borrow.Author.Tests.{ltb-true, ltb-false, eq-eqb, ne-eqb}
+use Rattle.base.specs.Lists.{keep, each, eachList, largest, isEmpty, positionIn, In}
 use Rattle.base.proofs.Tests.{which}
 
 pub in-left : {A : Type 0} (x : A) (s t : List A) → In x s → In x (s ++ t)
@@ -20,10 +21,10 @@ pub in-right : {A : Type 0} (x : A) (s t : List A) → In x t → In x (s ++ t)
 in-right x [] t h = h
 in-right x (y ∷ s) t h = inr (in-right x s t h)
 
-pub in-_||_ : {A : Type 0} (x : A) (s t : List A) → In x (s ++ t) → In x s ⊎ In x t
-in-_||_ x [] t h = inr h
-in-_||_ x (y ∷ s) t (inl e) = inl (inl e)
-in-_||_ x (y ∷ s) t (inr h) = step (in-_||_ x s t h)
+pub in-either : {A : Type 0} (x : A) (s t : List A) → In x (s ++ t) → In x s ⊎ In x t
+in-either x [] t h = inr h
+in-either x (y ∷ s) t (inl e) = inl (inl e)
+in-either x (y ∷ s) t (inr h) = step (in-either x s t h)
   where
     step : In x s ⊎ In x t → In x (y ∷ s) ⊎ In x t
     step (inl k) = inl (inr k)
@@ -105,7 +106,7 @@ position-seam x (y ∷ l) z h = rw (ne-eqb x y (λ e. h (inl e)), position-seam 
 
 pub in-eachList : {A B : Type 0} (f : A → List B) (l : List A) (y : B) → In y (eachList f l) → (x : A) × In x l × In y (f x)
 in-eachList f [] y h = absurd h
-in-eachList {A} {B} f (x ∷ l) y h = step (in-eachList f l y) (in-_||_ y (f x) (eachList f l) h)
+in-eachList {A} {B} f (x ∷ l) y h = step (in-eachList f l y) (in-either y (f x) (eachList f l) h)
   where
     step : (In y (eachList f l) → (z : A) × In z l × In y (f z)) → In y (f x) ⊎ In y (eachList f l) → (z : A) × In z (x ∷ l) × In y (f z)
     step below (inl k) = (x, inl refl, k)
@@ -140,3 +141,46 @@ eachList-append f (x ∷ s) u = rw (eachList-append f s u) (sym (append-assoc (f
 pub empty-of : {A : Type 0} (l : List A) → not (isEmpty l) ≡ false → l ≡ []
 empty-of [] h = refl
 empty-of (x ∷ l) h = absurd (true≢false h)
+
+-- a list with a member is not empty, and one that is not empty has a member
+pub in-some : {A : Type 0} (l : List A) (x : A) → In x l → not (isEmpty l) ≡ true
+in-some [] x h = absurd h
+in-some (y ∷ l) x h = refl
+
+pub some-in : {A : Type 0} (l : List A) → not (isEmpty l) ≡ true → (x : A) × In x l
+some-in [] h = absurd (false≢true h)
+some-in (x ∷ l) h = (x, inl refl)
+
+pub some-length : {A : Type 0} (l : List A) → not (isEmpty l) ≡ true → 1 ≤ length l
+some-length [] h = absurd (false≢true h)
+some-length (x ∷ l) h = omega arith
+
+pub in-take : {A : Type 0} (k : ℕ) (l : List A) (x : A) → In x (take k l) → In x l
+in-take zero l x h = absurd h
+in-take (suc k) [] x h = h
+in-take (suc k) (y ∷ l) x (inl e) = inl e
+in-take (suc k) (y ∷ l) x (inr h) = inr (in-take k l x h)
+
+-- ---- the largest member
+
+pub in-largest : (l : List ℕ) (x : ℕ) → In x l → x ≤ largest l
+in-largest [] x h = absurd h
+in-largest (y ∷ l) x h = step (in-largest l x) h (which (ltb y (largest l)))
+  where
+    step : (In x l → x ≤ largest l) → In x (y ∷ l) → (ltb y (largest l) ≡ true) ⊎ (ltb y (largest l) ≡ false) → x ≤ largest (y ∷ l)
+    step below (inl e) (inl q) = rw q (omega (arith, ltb-true y (largest l) q))
+    step below (inl e) (inr q) = rw q (omega arith)
+    step below (inr k) (inl q) = rw q (below k)
+    step below (inr k) (inr q) = rw q (omega (arith, ltb-false y (largest l) q, below k))
+
+pub largest-in : (l : List ℕ) → not (isEmpty l) ≡ true → In (largest l) l
+largest-in [] h = absurd (false≢true h)
+largest-in (y ∷ l) h = step (largest-in l) (which (ltb y (largest l)))
+  where
+    some : (l : List ℕ) → y < largest l → not (isEmpty l) ≡ true
+    some [] k = absurd (omega arith)
+    some (z ∷ l) k = refl
+
+    step : (not (isEmpty l) ≡ true → In (largest l) l) → (ltb y (largest l) ≡ true) ⊎ (ltb y (largest l) ≡ false) → In (largest (y ∷ l)) (y ∷ l)
+    step below (inl q) = rw q (inr (below (some l (ltb-true y (largest l) q))))
+    step below (inr q) = rw q (inl refl)

@@ -22,6 +22,11 @@ abbrev pub In : {A : Type 0} → A → List A → Type 0
 In x [] = ⊥
 In x (y ∷ l) = (x ≡ y) ⊎ In x l
 
+-- each member stands so to all that follow it
+abbrev pub Pairwise : {A : Type 0} → (A → A → Type 0) → List A → Type 0
+Pairwise R [] = Unit {0}
+Pairwise {A} R (x ∷ l) = ((y : A) → In y l → R x y) × Pairwise R l
+
 -- those that pass the test, in their order
 abbrev pub keep : {A : Type 0} → (A → Bool) → List A → List A
 keep p [] = []

@@ -1,5 +1,7 @@
--- What holds of the definitions: the small scheme, the order of names, lawful tables, and that answers are told apart by their numbers.
+-- What holds of the definitions: the small scheme, places of a grid, the order of names, lawful tables,
+-- and that answers are told apart by their numbers.
 pub mod Scheme
+pub mod Places
 pub mod Orders
 pub mod Bytes
 pub mod Lawful

@@ -1,0 +1,225 @@
+-- For a pass over the names in turn: which nodes a name adds, their numbers, their stands, and where their subtrees end.
+-- Assumes nothing.
+use mathlib.Core.Path.{_≡_, refl, sym, ap, _∙_, subst, subst₂}
+use mathlib.Core.Logic.{_⊎_, inl, inr}
+use mathlib.Core.Bool.{true}
+use mathlib.Core.List.{List, [], _∷_, _++_, append-nil}
+use Prim.Native.Nat.{ℕ, zero, suc, _+_, _-_, _≤_, _<_}
+use native.Mathlib.Omega.{arith}
+use native.Mathlib.Numerals.{add-one}
+use lib.ListN.{length, take, getD, length-append, List·getD-append}
+use lib.Seq.{length-take-le, getD-append-add, take-length, take-take, take-suc}
+use Rattle.base.specs.Lists.{fromOn, upTo, each, eachList, firstOf, begins}
+use Rattle.base.proofs.Tests.{never, le-or-lt}
+use Rattle.base.proofs.Members.{length-each, eachList-append}
+use Rattle.base.proofs.Runs.{length-from, upTo-split, upTo-suc, getD-each-from}
+use Rattle.base.proofs.Begins.{begins-trans, take-begins, begins-take, begins-take-not, sharedLength-sym}
+use Rattle.rules.specs.Tables.{Table, stands, nameOf, Ordered}
+use Rattle.rules.specs.Questions.{under}
+use Rattle.rules.specs.Indexes.{newAt, beginnings, nodeCount, numberIn, lastByte, butLast, pastOf}
+use Rattle.rules.proofs.Orders.{order-antisym, begins-order}
+use Rattle.trie.specs.Trees.{Tree, fresh, textOf}
+use Rattle.trie.specs.Adding.{nameBefore, sharedAt, nodesBefore}
+use Rattle.trie.proofs.Fresh.{fresh-takes, fresh-all}
+use Rattle.trie.proofs.Tree.{number-in, number-at}
+use Rattle.trie.proofs.Children.{subtree-in, subtree-only, past-bounds, last-snoc}
+use Rattle.trie.proofs.Tables.{beginnings-tree, beginnings-of, under-from, under-only}
+
+-- ---- the nodes that name i adds: its beginnings longer than what it shares, in a row
+
+module _ (t : Table) where
+  new-fresh : (i : ℕ) → newAt t i ≡ fresh (nameBefore t i) (nameOf t i)
+  new-fresh zero = fresh-all (nameOf t 0)
+  new-fresh (suc i) = refl
+
+  pub new-takes : (i : ℕ) → newAt t i ≡ each (λ l. take l (nameOf t i)) (fromOn (suc (sharedAt t i)) (length (nameOf t i) - sharedAt t i))
+  new-takes i = new-fresh i ∙ fresh-takes (nameBefore t i) (nameOf t i)
+
+  new-length : (i : ℕ) → length (newAt t i) ≡ length (nameOf t i) - sharedAt t i
+  new-length i = ap length (new-takes i) ∙ simp (length-each, length-from)
+
+  new-suc : (i : ℕ) → eachList (newAt t) (upTo (suc i)) ≡ eachList (newAt t) (upTo i) ++ newAt t i
+  new-suc i =
+      ap (eachList (newAt t)) (upTo-suc i)
+      ∙ eachList-append (newAt t) (upTo i) (i ∷ [])
+      ∙ ap (λ (u : List (List ℕ)). eachList (newAt t) (upTo i) ++ u) (append-nil (newAt t i))
+
+  new-split : (i : ℕ) → i < stands t → beginnings t ≡ ([] ∷ eachList (newAt t) (upTo i)) ++ (newAt t i ++ eachList (newAt t) (fromOn (suc i) (stands t - suc i)))
+  unfolding beginnings
+  new-split i h =
+      ap (λ (l : List (List ℕ)). [] ∷ l)
+      (ap (eachList (newAt t)) (upTo-split i (stands t) h) ∙ eachList-append (newAt t) (upTo i) (i ∷ fromOn (suc i) (stands t - suc i)))
+
+  pub nodes-step : (i : ℕ) → nodesBefore t (suc i) ≡ nodesBefore t i + (length (nameOf t i) - sharedAt t i)
+  nodes-step i = omega (arith, ap length (new-suc i), length-append (eachList (newAt t) (upTo i)) (newAt t i), new-length i)
+
+  pub nodes-all : nodesBefore t (stands t) ≡ nodeCount t
+  unfolding beginnings
+  nodes-all = refl
+
+  pub nodes-fit : (i : ℕ) → i < stands t → nodesBefore t (suc i) ≤ nodeCount t
+  nodes-fit i h =
+      let r = eachList (newAt t) (fromOn (suc i) (stands t - suc i)) in
+      omega (
+        arith,
+        ap length (new-split i h),
+        length-append ([] ∷ eachList (newAt t) (upTo i)) (newAt t i ++ r),
+        length-append (newAt t i) r,
+        nodes-step i,
+        new-length i,
+      )
+
+  -- the k-th of them
+  pub node-text : (i k : ℕ) → i < stands t → k < length (nameOf t i) - sharedAt t i → textOf t (nodesBefore t i + k) ≡ take (suc (sharedAt t i) + k) (nameOf t i)
+  node-text i k h l =
+      let r = eachList (newAt t) (fromOn (suc i) (stands t - suc i)) in
+      ap (λ (B : List (List ℕ)). getD B (nodesBefore t i + k) []) (new-split i h)
+      ∙ getD-append-add ([] ∷ eachList (newAt t) (upTo i)) (newAt t i ++ r) k []
+      ∙ List·getD-append (newAt t i) r [] k (omega (arith, new-length i))
+      ∙ ap (λ (B : List (List ℕ)). getD B k []) (new-takes i)
+      ∙ getD-each-from (λ l. take l (nameOf t i)) (suc (sharedAt t i)) (length (nameOf t i) - sharedAt t i) k [] l
+
+-- ---- the last byte of a text, and the text without it
+
+pub last-take : (n : List ℕ) (l : ℕ) → l < length n → lastByte (take (suc l) n) ≡ getD n l 0
+last-take n l h = rw (take-suc n l 0 h) (last-snoc (take l n) (getD n l 0))
+
+pub but-last-take : (n : List ℕ) (l : ℕ) → l < length n → butLast (take (suc l) n) ≡ take l n
+but-last-take n l h =
+    let e : length (take (suc l) n) - 1 ≡ l = omega (arith, length-take-le (suc l) n h) in
+    ap (λ (k : ℕ). take k (take (suc l) n)) e ∙ take-take l (suc l) n (omega arith)
+
+module _ (t : Table) (o : Ordered t) where
+  -- ---- numbers of the nodes on the path of name i that name i adds
+
+  pub node-number : (i l : ℕ) → i < stands t → sharedAt t i < l → l ≤ length (nameOf t i) → numberIn (take l (nameOf t i)) (beginnings t) ≡ nodesBefore t i + (l - suc (sharedAt t i))
+  node-number i l h u v =
+      let k = l - suc (sharedAt t i) in
+      let e : suc (sharedAt t i) + k ≡ l = omega arith in
+      let x : textOf t (nodesBefore t i + k) ≡ take l (nameOf t i) = node-text t i k h (omega arith) ∙ ap (λ (l : ℕ). take l (nameOf t i)) e in
+      ap (λ (p : List ℕ). numberIn p (beginnings t)) (sym x)
+      ∙ number-at (beginnings t) (beginnings-tree t o .sorted) (nodesBefore t i + k) (omega (arith, nodes-fit t i h, nodes-step t i))
+
+  -- ---- the stands under a node of name i's path
+
+  -- the first is i, where name i adds the node
+  pub first-stand : (i l : ℕ) → i < stands t → sharedAt t i < l → l ≤ length (nameOf t i) → firstOf (under t (take l (nameOf t i))) ≡ i
+  first-stand i l h u v = go i h u v (under-from t o (take l (nameOf t i)) i h (take-begins l (nameOf t i)))
+    where
+      go : (i : ℕ) → i < stands t → sharedAt t i < l → l ≤ length (nameOf t i)
+          → (firstOf (under t (take l (nameOf t i))) ≤ i) × (i < firstOf (under t (take l (nameOf t i))) + length (under t (take l (nameOf t i))))
+          → firstOf (under t (take l (nameOf t i))) ≡ i
+      go zero h u v r = omega arith
+      go (suc i) h u v r = step (le-or-lt f i)
+        where
+          f : ℕ
+          f = firstOf (under t (take l (nameOf t (suc i))))
+
+          step : (f ≤ i) ⊎ (i < f) → f ≡ suc i
+          step (inl q) = never _ (under-only t o (take l (nameOf t (suc i))) i q (omega arith) .1) (begins-take-not (nameOf t i) (nameOf t (suc i)) l u v)
+          step (inr q) = omega arith
+
+  -- the last is i, where the next name does not go through the node
+  pub past-stand : (i l : ℕ) → i < stands t → l ≤ length (nameOf t i) → (suc i < stands t → sharedAt t (suc i) < l)
+      → firstOf (under t (take l (nameOf t i))) + length (under t (take l (nameOf t i))) ≡ suc i
+  past-stand i l h v c = step (le-or-lt e (suc i))
+    where
+      p : List ℕ
+      p = take l (nameOf t i)
+
+      e : ℕ
+      e = firstOf (under t p) + length (under t p)
+
+      r : (firstOf (under t p) ≤ i) × (i < e)
+      r = under-from t o p i h (take-begins l (nameOf t i))
+
+      step : (e ≤ suc i) ⊎ (suc i < e) → e ≡ suc i
+      step (inl q) = omega (arith, r)
+      step (inr q) =
+          let s = under-only t o p (suc i) (omega (arith, r)) q in
+          let apart = begins-take-not (nameOf t (suc i)) (nameOf t i) l (omega (arith, c (s .0), sharedLength-sym (nameOf t i) (nameOf t (suc i)))) v in
+          never _ (s .1) apart
+
+  -- ---- where the nodes' subtrees end
+
+  module _ (long : (i : ℕ) → i < stands t → 1 ≤ length (nameOf t i)) where
+    -- a name that adds nothing is the name before
+    adds-none : (i : ℕ) → suc i < stands t → length (nameOf t (suc i)) ≤ sharedAt t (suc i) → nameOf t (suc i) ≡ nameOf t i
+    adds-none i h u =
+        let b = begins-take (nameOf t i) (nameOf t (suc i)) (length (nameOf t (suc i))) u in
+        let w : begins (nameOf t (suc i)) (nameOf t i) ≡ true = subst (λ (p : List ℕ). begins p (nameOf t i) ≡ true) (take-length (nameOf t (suc i))) b in
+        order-antisym (nameOf t (suc i)) (nameOf t i) (begins-order (nameOf t (suc i)) (nameOf t i) w) (rw add-one at (o i (omega arith)))
+
+    last-added : (i : ℕ) → i < stands t → sharedAt t i < length (nameOf t i) → textOf t (nodesBefore t (suc i) - 1) ≡ nameOf t i
+    last-added i h u =
+        let k = length (nameOf t i) - sharedAt t i - 1 in
+        let x : nodesBefore t (suc i) - 1 ≡ nodesBefore t i + k = omega (arith, nodes-step t i) in
+        let y : suc (sharedAt t i) + k ≡ length (nameOf t i) = omega arith in
+        ap (λ (m : ℕ). textOf t m) x
+        ∙ node-text t i k h (omega arith)
+        ∙ ap (λ (l : ℕ). take l (nameOf t i)) y
+        ∙ take-length (nameOf t i)
+
+    -- the last of the nodes of the names up to i is name i
+    last-node : (i : ℕ) → i < stands t → textOf t (nodesBefore t (suc i) - 1) ≡ nameOf t i
+    last-node zero h = last-added 0 h (long 0 h)
+    last-node (suc i) h = step (last-node i (omega arith)) (le-or-lt (length (nameOf t (suc i))) (sharedAt t (suc i)))
+      where
+        step : textOf t (nodesBefore t (suc i) - 1) ≡ nameOf t i → (length (nameOf t (suc i)) ≤ sharedAt t (suc i)) ⊎ (sharedAt t (suc i) < length (nameOf t (suc i)))
+            → textOf t (nodesBefore t (suc (suc i)) - 1) ≡ nameOf t (suc i)
+        step r (inl u) =
+            let x : nodesBefore t (suc (suc i)) - 1 ≡ nodesBefore t (suc i) - 1 = omega (arith, nodes-step t (suc i)) in
+            ap (λ (m : ℕ). textOf t m) x ∙ r ∙ sym (adds-none i h u)
+        step r (inr u) = last-added (suc i) h u
+
+    -- a node of name i's path that is not on the path of the next name ends with the nodes of the names up to i
+    pub past-node : (i l : ℕ) → i < stands t → l ≤ length (nameOf t i) → (suc i < stands t → sharedAt t (suc i) < l)
+        → pastOf (beginnings t) (numberIn (take l (nameOf t i)) (beginnings t)) ≡ nodesBefore t (suc i)
+    past-node i l h v c = step (le-or-lt e N)
+      where
+        B : List (List ℕ)
+        B = beginnings t
+
+        tree : Tree (beginnings t)
+        tree = beginnings-tree t o
+
+        p : List ℕ
+        p = take l (nameOf t i)
+
+        at : (numberIn p B < length B) × (getD B (numberIn p B) [] ≡ p)
+        at = number-in p B (beginnings-of t i p h (take-begins l (nameOf t i)))
+
+        N : ℕ
+        N = nodesBefore t (suc i)
+
+        e : ℕ
+        e = pastOf B (numberIn p B)
+
+        last : (numberIn p B ≤ N - 1) × (N - 1 < e)
+        last =
+            subtree-in B (tree .sorted) (numberIn p B) (at .0) (N - 1) (omega (arith, nodes-fit t i h))
+            (subst₂ (λ (x y : List ℕ). begins x y ≡ true) (sym (at .1)) (sym (last-node i h)) (take-begins l (nameOf t i)))
+
+        -- the next node is of the next name, whose path p is not on
+        next : N < e → (suc i < stands t) → sharedAt t (suc i) < length (nameOf t (suc i)) → ⊥
+        next q k f =
+            let m = suc (sharedAt t (suc i)) + 0 in
+            let z : N + 0 ≡ N = omega arith in
+            let b = subtree-only B (tree .sorted) (numberIn p B) (at .0) N (omega (arith, last)) q .1 in
+            let x : getD B N [] ≡ take m (nameOf t (suc i)) = ap (λ (m : ℕ). getD B m []) (sym z) ∙ node-text t (suc i) 0 k (omega arith) in
+            let y : begins p (take m (nameOf t (suc i))) ≡ true = subst₂ (λ (x y : List ℕ). begins x y ≡ true) (at .1) x b in
+            let through = begins-trans p (take m (nameOf t (suc i))) (nameOf t (suc i)) y (take-begins m (nameOf t (suc i))) in
+            let apart = begins-take-not (nameOf t (suc i)) (nameOf t i) l (omega (arith, c k, sharedLength-sym (nameOf t i) (nameOf t (suc i)))) v in
+            never _ through apart
+
+        more : N < e → (stands t ≤ suc i) ⊎ (suc i < stands t) → (length (nameOf t (suc i)) ≤ sharedAt t (suc i)) ⊎ (sharedAt t (suc i) < length (nameOf t (suc i))) → ⊥
+        more q (inl k) f =
+            let s : stands t ≡ suc i = omega arith in
+            let r : length B ≡ N = sym (nodes-all t) ∙ ap (nodesBefore t) s in
+            omega (arith, past-bounds B (tree .sorted) (numberIn p B) (at .0))
+        more q (inr k) (inl f) = omega (arith, ap length (adds-none i k f), c k)
+        more q (inr k) (inr f) = next q k f
+
+        step : (e ≤ N) ⊎ (N < e) → e ≡ N
+        step (inl q) = omega (arith, last)
+        step (inr q) = absurd (more q (le-or-lt (stands t) (suc i)) (le-or-lt (length (nameOf t (suc i))) (sharedAt t (suc i))))

@@ -1,0 +1,144 @@
+-- The texts that names in order make are a tree: strictly in order, and closed under beginnings.
+-- And the number of a text in a list that is strictly in order. Assumes nothing.
+use mathlib.Core.Path.{_≡_, refl, sym}
+use mathlib.Core.Logic.{_⊎_, inl, inr}
+use mathlib.Core.Bool.{true, false, not, false≢true}
+use mathlib.Core.List.{List, [], _∷_}
+use Prim.Native.Nat.{ℕ, zero, suc, _+_, _≤_, _<_}
+use native.Mathlib.Omega.{arith}
+use lib.ListN.{length, take, getD, length-take}
+use lib.Seq.{take-take}
+use Rattle.base.specs.Lists.{fromOn, each, begins, sameList, In}
+use Rattle.base.proofs.Tests.{which, never}
+use Rattle.base.proofs.Members.{in-left, in-right, in-either, getD-in, in-each}
+use Rattle.base.proofs.Runs.{in-from}
+use Rattle.base.proofs.Begins.{begins-trans, take-begins, same-true, same-refl}
+use Rattle.base.proofs.Pairs.{pairs-append, pairs-keep, pairs-at, pairs-weaken, distinct-once}
+use Rattle.rules.specs.Names.{inOrder}
+use Rattle.rules.specs.Indexes.{beginningsOf, numberIn}
+use Rattle.rules.proofs.Orders.{StrictlyRising, order-refl, begins-order, begins-above, begins-strict, strict-after}
+use Rattle.trie.specs.Trees.{Sorted, Tree, fresh, trieFrom, trieOf, Chain}
+use Rattle.trie.proofs.Fresh.{in-fresh, fresh-in}
+
+-- `x` strictly before `y`
+abbrev Before : List ℕ → List ℕ → Type 0
+Before x y = inOrder y x ≡ false
+
+pub sorted-at : (B : List (List ℕ)) → Sorted B → StrictlyRising (λ i. getD B i []) (length B)
+sorted-at B s = pairs-at Before [] B s
+
+-- two places with one text are one place
+pub sorted-once : (B : List (List ℕ)) → Sorted B → (i k : ℕ) → i < length B → k < length B → getD B i [] ≡ getD B k [] → i ≡ k
+sorted-once B s =
+    distinct-once (λ x. x) [] B
+    (pairs-weaken Before (λ x y. x ≡ y → ⊥) B (λ x y u v h e. never _ (order-refl y) (rw e at h)) s)
+
+-- ---- the new beginnings of one name
+
+sorted-takes : (n : List ℕ) (a k : ℕ) → a + k ≤ suc (length n) → Sorted (each (λ l. take l n) (fromOn a k))
+sorted-takes n a zero h = tt
+sorted-takes n a (suc k) h = (first, sorted-takes n (suc a) k (omega arith))
+  where
+    first : (y : List ℕ) → In y (each (λ l. take l n) (fromOn (suc a) k)) → inOrder y (take a n) ≡ false
+    first y u =
+        let t = in-each (λ l. take l n) (fromOn (suc a) k) y u in
+        let r = in-from (suc a) k (t .0) (t .1) in
+        let b : begins (take a n) (take (t .0) n) ≡ true = rw (take-take a (t .0) n (omega arith)) at (take-begins a (take (t .0) n)) in
+        rw (t .2) (begins-strict (take a n) (take (t .0) n) b (simp length-take (omega arith)))
+
+sorted-fresh : (m n : List ℕ) → Sorted (fresh m n)
+sorted-fresh m n = pairs-keep Before (λ p. not (begins p m)) (beginningsOf n) (sorted-takes n 1 (length n) (omega arith))
+
+-- ---- what names in order add after a name
+
+trie-above : (m : List ℕ) (ns : List (List ℕ)) → Chain m ns → (x : List ℕ) → In x (trieFrom m ns) → inOrder x m ≡ false
+trie-above m [] c x h = absurd h
+trie-above m (n ∷ ns) c x h = step (in-either x (fresh m n) (trieFrom n ns) h) (trie-above n ns (c .1) x)
+  where
+    step : In x (fresh m n) ⊎ In x (trieFrom n ns) → (In x (trieFrom n ns) → inOrder x n ≡ false) → inOrder x m ≡ false
+    step (inl u) below = let t = in-fresh m n x u in begins-above m n x (c .0) (t .0) (t .1)
+    step (inr u) below = strict-after m n x (c .0) (below u)
+
+trie-sorted : (m : List ℕ) (ns : List (List ℕ)) → Chain m ns → Sorted (trieFrom m ns)
+trie-sorted m [] c = tt
+trie-sorted m (n ∷ ns) c =
+    pairs-append Before (fresh m n) (trieFrom n ns) (sorted-fresh m n) (trie-sorted n ns (c .1))
+    (λ x y u v. strict-after x n y (begins-order x n (in-fresh m n x u .0)) (trie-above n ns (c .1) y v))
+
+-- a member begins one of the names
+abbrev pub Beginning : List ℕ → List (List ℕ) → Type 0
+Beginning p ns = (n : List ℕ) × In n ns × (begins p n ≡ true)
+
+trie-member : (m : List ℕ) (ns : List (List ℕ)) (p : List ℕ) → In p (trieFrom m ns) → Beginning p ns
+trie-member m [] p h = absurd h
+trie-member m (n ∷ ns) p h = step (in-either p (fresh m n) (trieFrom n ns) h) (trie-member n ns p)
+  where
+    step : In p (fresh m n) ⊎ In p (trieFrom n ns) → (In p (trieFrom n ns) → Beginning p ns) → Beginning p (n ∷ ns)
+    step (inl u) below = (n, inl refl, in-fresh m n p u .0)
+    step (inr u) below = let t = below u in (t .0, inr (t .1), t .2)
+
+-- a beginning of one of the names begins m or is a member
+trie-every : (m : List ℕ) (ns : List (List ℕ)) (n p : List ℕ) → In n ns → begins p n ≡ true → 1 ≤ length p → (begins p m ≡ true) ⊎ In p (trieFrom m ns)
+trie-every m [] n p h b l = absurd h
+trie-every m (x ∷ ns) n p h b l = first (λ k. trie-every x ns n p k b l) h
+  where
+    new : begins p x ≡ true → (begins p m ≡ true) ⊎ (begins p m ≡ false) → (begins p m ≡ true) ⊎ In p (trieFrom m (x ∷ ns))
+    new k (inl u) = inl u
+    new k (inr u) = inr (in-left p (fresh m x) (trieFrom x ns) (fresh-in m x p k u l))
+
+    late : (begins p x ≡ true) ⊎ In p (trieFrom x ns) → (begins p m ≡ true) ⊎ In p (trieFrom m (x ∷ ns))
+    late (inl u) = new u (which (begins p m))
+    late (inr u) = inr (in-right p (fresh m x) (trieFrom x ns) u)
+
+    first : (In n ns → (begins p x ≡ true) ⊎ In p (trieFrom x ns)) → In n (x ∷ ns) → (begins p m ≡ true) ⊎ In p (trieFrom m (x ∷ ns))
+    first below (inl e) = new (rw e at b) (which (begins p m))
+    first below (inr k) = late (below k)
+
+-- ---- the whole, with the empty beginning
+
+module _ (ns : List (List ℕ)) where
+  pub tree-member : (p : List ℕ) → In p (trieOf ns) → (p ≡ []) ⊎ Beginning p ns
+  tree-member p (inl e) = inl e
+  tree-member p (inr h) = inr (trie-member [] ns p h)
+
+  pub tree-every : (n p : List ℕ) → In n ns → begins p n ≡ true → In p (trieOf ns)
+  tree-every n [] h b = inl refl
+  tree-every n (a ∷ p) h b = step (trie-every [] ns n (a ∷ p) h b (omega arith))
+    where
+      step : (begins (a ∷ p) [] ≡ true) ⊎ In (a ∷ p) (trieFrom [] ns) → In (a ∷ p) (trieOf ns)
+      step (inl u) = absurd (false≢true u)
+      step (inr u) = inr u
+
+  tree-closed : (p q : List ℕ) → In q (trieOf ns) → begins p q ≡ true → In p (trieOf ns)
+  tree-closed [] q h b = inl refl
+  tree-closed (a ∷ p) q h b = step (tree-member q h)
+    where
+      step : (q ≡ []) ⊎ Beginning q ns → In (a ∷ p) (trieOf ns)
+      step (inl e) = absurd (false≢true (rw e at b))
+      step (inr t) = tree-every (t .0) (a ∷ p) (t .1) (begins-trans (a ∷ p) q (t .0) b (t .2))
+
+  pub tree-of : Chain [] ns → Tree (trieOf ns)
+  tree-of c = record { sorted = (trie-above [] ns c, trie-sorted [] ns c); closed = tree-closed }
+
+-- ---- the number of a text
+
+pub number-in : (p : List ℕ) (B : List (List ℕ)) → In p B → (numberIn p B < length B) × (getD B (numberIn p B) [] ≡ p)
+number-in p [] h = absurd h
+number-in p (x ∷ B) h = first (number-in p B) h (which (sameList p x))
+  where
+    first : (In p B → (numberIn p B < length B) × (getD B (numberIn p B) [] ≡ p)) → In p (x ∷ B) → (sameList p x ≡ true) ⊎ (sameList p x ≡ false)
+        → (numberIn p (x ∷ B) < length (x ∷ B)) × (getD (x ∷ B) (numberIn p (x ∷ B)) [] ≡ p)
+    first below k (inl q) = rw q (omega arith, sym (same-true p x q))
+    first below (inl e) (inr q) = never _ (same-refl x) (rw e at q)
+    first below (inr k) (inr q) = let t = below k in rw q (omega arith, t .1)
+
+pub number-out : (p : List ℕ) (B : List (List ℕ)) → (In p B → ⊥) → numberIn p B ≡ length B
+number-out p [] h = refl
+number-out p (x ∷ B) h = step (which (sameList p x)) (number-out p B (λ k. h (inr k)))
+  where
+    step : (sameList p x ≡ true) ⊎ (sameList p x ≡ false) → numberIn p B ≡ length B → numberIn p (x ∷ B) ≡ length (x ∷ B)
+    step (inl q) r = absurd (h (inl (same-true p x q)))
+    step (inr q) r = rw (q, r)
+
+pub number-at : (B : List (List ℕ)) → Sorted B → (j : ℕ) → j < length B → numberIn (getD B j []) B ≡ j
+number-at B s j h = let t = number-in (getD B j []) B (getD-in [] B j h) in sorted-once B s (numberIn (getD B j []) B) j (t .0) h (t .1)

@@ -1,0 +1,144 @@
+-- What the definitions of the rules come to, in plain statements, so that nobody has to trust the shape of a definition.
+-- TableMeans, at the end, puts them together: it holds of every table and grid that no refusal from 1 to 5 meets.
+use mathlib.Core.Path.{_≡_}
+use mathlib.Core.Logic.{_⊎_}
+use mathlib.Core.Bool.{true}
+use mathlib.Core.List.{List, []}
+use Prim.Native.Nat.{ℕ, _+_, _-_, _*_, _≤_, _<_, min}
+use lib.ListN.{length, take, drop, getD}
+use Rattle.base.specs.Lists.{keep, begins, In}
+use Rattle.rules.specs.declared.Grid.{Grid}
+use Rattle.rules.specs.declared.Rect.{Rect}
+use Rattle.rules.specs.declared.Ranking.{Ranking}
+use Rattle.rules.specs.declared.Hit.{Hit}
+use Rattle.rules.specs.Places.{inRect}
+use Rattle.rules.specs.Tables.{Table, stands, nameOf, placeOf, scoreOf}
+use Rattle.rules.specs.Questions.{under, regionOfStand, inRegion, rangeList, hitOf, rankedList}
+use Rattle.rules.specs.Indexes.{orderWords, beginnings, nodeCount, numberIn, lastByte, butLast, pastOf, Entry, entriesOf, entryCount}
+use Rattle.trie.specs.Trees.{Child, OnWay, textOf}
+
+-- a stand of the table whose name begins with the text p
+pub record StandUnder (t : Table) (p : List ℕ) (i : ℕ) : Type 0 where
+  pub stand : i < stands t
+  pub named : begins p (nameOf t i) ≡ true
+
+-- ---- the beginnings are the nodes of the letter tree, in pre-order, children by rising byte
+
+pub record BeginningsMean (t : Table) : Type 0 where
+  -- node 0 is there, and is the empty text
+  pub root : (0 < nodeCount t) × (textOf t 0 ≡ [])
+  -- each beginning of each name is a node
+  pub every : (i : ℕ) (p : List ℕ) → StandUnder t p i → In p (beginnings t)
+  -- and nothing else is, but the empty text
+  pub only : (p : List ℕ) → In p (beginnings t) → (p ≡ []) ⊎ ((i : ℕ) × StandUnder t p i)
+  -- no text is there twice
+  pub once : (j k : ℕ) → j < nodeCount t → k < nodeCount t → textOf t j ≡ textOf t k → j ≡ k
+  -- a node's number is its place
+  pub numbered : (j : ℕ) → j < nodeCount t → numberIn (textOf t j) (beginnings t) ≡ j
+  -- a node's text without its last byte is a node, with a smaller number
+  pub parent : (j : ℕ) → 0 < j → j < nodeCount t → In (butLast (textOf t j)) (beginnings t) × (numberIn (butLast (textOf t j)) (beginnings t) < j)
+  -- a subtree is in one piece, from its node on to the number past it: each node below j stands there
+  pub subtree : (j i : ℕ) → j < nodeCount t → i < nodeCount t → begins (textOf t j) (textOf t i) ≡ true → (j ≤ i) × (i < pastOf (beginnings t) j)
+  -- and no other does
+  pub unbroken : (j i : ℕ) → j < nodeCount t → j ≤ i → i < pastOf (beginnings t) j → (i < nodeCount t) × (begins (textOf t j) (textOf t i) ≡ true)
+  -- the numbers j + 1, past of that, past of that one, .., short of j's own past, are the children of node j
+  pub way : (j c : ℕ) → j < nodeCount t → (OnWay (beginnings t) j c → Child (beginnings t) j c) × (Child (beginnings t) j c → OnWay (beginnings t) j c)
+  -- whose parent is j
+  pub parents : (j c : ℕ) → j < nodeCount t → Child (beginnings t) j c → numberIn (butLast (textOf t c)) (beginnings t) ≡ j
+  -- of two children of a node the one with the smaller number has the smaller last byte
+  pub children : (j c k : ℕ) → j < nodeCount t → Child (beginnings t) j c → Child (beginnings t) j k → c < k → lastByte (textOf t c) < lastByte (textOf t k)
+
+-- ---- lists of stands by region, then by number
+
+abbrev pub RegionFirst : Grid → Table → ℕ → ℕ → Type 0
+RegionFirst g t x y = (regionOfStand g t x < regionOfStand g t y) ⊎ ((regionOfStand g t x ≡ regionOfStand g t y) × (x < y))
+
+pub record ListedByRegion (g : Grid) (t : Table) (wanted : ℕ → Type 0) (l : List ℕ) : Type 0 where
+  -- each stand that is wanted is in the list
+  pub every : (i : ℕ) → wanted i → In i l
+  -- and nothing else is
+  pub only : (i : ℕ) → In i l → wanted i
+  -- none is there twice
+  pub once : (a b : ℕ) → a < length l → b < length l → getD l a 0 ≡ getD l b 0 → a ≡ b
+  -- of two places the earlier has the smaller region, or the same region and the smaller number
+  pub inTurn : (a b : ℕ) → a < b → b < length l → RegionFirst g t (getD l a 0) (getD l b 0)
+
+-- the stand order has each stand of the table once, by region, then by number
+pub record OrderMeans (t : Table) (g : Grid) : Type 0 where
+  pub listed : ListedByRegion g t (λ i. i < stands t) (orderWords t g)
+  pub whole : length (orderWords t g) ≡ stands t
+
+-- a range has exactly the stands under the text that are in the rectangle, each once, by region, then by number
+abbrev pub RangeMeans : Table → Grid → List ℕ → Rect → Type 0
+RangeMeans t g p r = ListedByRegion g t (λ i. StandUnder t p i × (inRect r (placeOf t i) ≡ true)) (rangeList t g p r)
+
+-- ---- a node's entries: one for each region that holds a stand under its text
+
+abbrev pub noEntry : Entry
+noEntry = record { region = 0; score = 0; first = 0; past = 0 }
+
+abbrev pub entryAt : Table → Grid → List ℕ → ℕ → Entry
+entryAt t g p a = getD (entriesOf t g p) a noEntry
+
+pub record EntriesMean (t : Table) (g : Grid) (p : List ℕ) : Type 0 where
+  -- the region of each stand under p has an entry
+  pub every : (i : ℕ) → StandUnder t p i → (a : ℕ) × (a < length (entriesOf t g p)) × (entryAt t g p a .region ≡ regionOfStand g t i)
+  -- and only one
+  pub once : (a b : ℕ) → a < length (entriesOf t g p) → b < length (entriesOf t g p) → entryAt t g p a .region ≡ entryAt t g p b .region → a ≡ b
+  -- the score is that of a stand under p in the region, so no region without one has an entry
+  pub attained : (a : ℕ) → a < length (entriesOf t g p)
+      → (i : ℕ) × StandUnder t p i × (regionOfStand g t i ≡ entryAt t g p a .region) × (scoreOf t i ≡ entryAt t g p a .score)
+  -- and none of them has a larger one
+  pub largest : (a : ℕ) → a < length (entriesOf t g p)
+      → (i : ℕ) → StandUnder t p i → regionOfStand g t i ≡ entryAt t g p a .region → scoreOf t i ≤ entryAt t g p a .score
+  -- first and past are places of the stand order, and the places from the first on, short of the past, hold exactly those stands, by number
+  pub bounds : (a : ℕ) → a < length (entriesOf t g p) → (entryAt t g p a .first < entryAt t g p a .past) × (entryAt t g p a .past ≤ stands t)
+  pub places : (a : ℕ) → a < length (entriesOf t g p)
+      → take (entryAt t g p a .past - entryAt t g p a .first) (drop (entryAt t g p a .first) (orderWords t g)) ≡ keep (inRegion g t (entryAt t g p a .region)) (under t p)
+  -- a larger score first; of equal scores the smaller region
+  pub inTurn : (a b : ℕ) → a < b → b < length (entriesOf t g p)
+      → (entryAt t g p b .score < entryAt t g p a .score) ⊎ ((entryAt t g p a .score ≡ entryAt t g p b .score) × (entryAt t g p a .region < entryAt t g p b .region))
+
+-- ---- a ranked answer
+
+-- a larger value is better; of equal values the smaller stand number
+abbrev pub Better : Hit → Hit → Type 0
+Better h k = (k .value < h .value) ⊎ ((h .value ≡ k .value) × (h .stand < k .stand))
+
+abbrev pub noHit : Hit
+noHit = record { stand = 0; value = 0 }
+
+abbrev pub hitAt : Table → Grid → List ℕ → Ranking → ℕ → Hit
+hitAt t g p q a = getD (rankedList t g p q) a noHit
+
+pub record RankedMeans (t : Table) (g : Grid) (p : List ℕ) (q : Ranking) : Type 0 where
+  -- k hits, or as many as there are stands under p where those are fewer
+  pub many : length (rankedList t g p q) ≡ min (q .k) (length (under t p))
+  -- each is a stand under p with its value
+  pub only : (h : Hit) → In h (rankedList t g p q) → (i : ℕ) × StandUnder t p i × (h ≡ hitOf t g q i)
+  -- no stand is there twice
+  pub once : (a b : ℕ) → a < length (rankedList t g p q) → b < length (rankedList t g p q) → hitAt t g p q a .stand ≡ hitAt t g p q b .stand → a ≡ b
+  -- an earlier one is better than a later one
+  pub inTurn : (a b : ℕ) → a < b → b < length (rankedList t g p q) → Better (hitAt t g p q a) (hitAt t g p q b)
+  -- and each is better than any stand under p that is left out
+  pub best : (h : Hit) → In h (rankedList t g p q) → (i : ℕ) → StandUnder t p i → (In (hitOf t g q i) (rankedList t g p q) → ⊥) → Better h (hitOf t g q i)
+
+-- ---- how large an index gets
+
+pub record SizesBounded (t : Table) (g : Grid) : Type 0 where
+  -- a root, and for each stand at most a node for each byte of its name
+  pub nodes : nodeCount t ≤ 24 * stands t + 1
+  -- each node has at most an entry for each stand under it, and a stand is under at most 25 nodes
+  pub entries : entryCount t g ≤ 25 * stands t
+  pub nodes-most : nodeCount t ≤ 24577
+  pub entries-most : entryCount t g ≤ 25600
+
+-- ---- all of it
+
+pub record TableMeans (t : Table) (g : Grid) : Type 0 where
+  pub tree : BeginningsMean t
+  pub order : OrderMeans t g
+  pub entries : (p : List ℕ) → EntriesMean t g p
+  pub range : (p : List ℕ) (r : Rect) → RangeMeans t g p r
+  pub ranked : (p : List ℕ) (q : Ranking) → RankedMeans t g p q
+  pub sizes : SizesBounded t g
