@@ -4,15 +4,15 @@ use mathlib.Core.Path.{_≡_, refl, ap, _∙_}
 use mathlib.Core.Bool.{Bool, true, false, _&&_, _||_}
 use mathlib.Core.Logic.{⊎-elim}
 use Prim.Native.Nat.{ℕ, zero, suc, _+_, _-_, _*_, _/_, _%_, _^_, _<_, _≤_}
-use native.Mathlib.Nat.{pow-suc, mod-eq-of-lt, one-mul, add-comm, mul-assoc, add-mul-div-right}
+use native.Mathlib.Nat.{pow-suc, mod-eq-of-lt, one-mul, add-comm, add-assoc, add-mul, mul-assoc, add-mul-div-right, zero-add, add-zero, add-suc}
 use native.Mathlib.Numerals.{add-one}
 use native.Mathlib.Omega.{arith}
-use lib.Dec.{eqb}
+use lib.Dec.{eqb, leb, ltb}
 use lib.Bits.{bitAnd, bitOr, and-block, or-block}
 use lib.Pow.{pow-lt, pow-mono, pow-pos, pow-add, high}
-use borrow.Author.Tests.{eq-eqb, ne-eqb}
+use borrow.Author.Tests.{eq-eqb, ne-eqb, lt-ltb, le-ltb, le-leb, lt-leb}
 use Rattle.base.specs.Bits.{bit, wordOf, bitAt}
-use Rattle.base.proofs.Tests.{le-or-lt}
+use Rattle.base.proofs.Tests.{le-or-lt, and-true, and-false}
 
 pub bit-most : (b : Bool) (n : ℕ) → bit b * n ≤ n
 bit-most true n = omega arith
@@ -138,3 +138,40 @@ bit-is false = refl
 -- a bit asks the test that the word was made of
 pub bit-asks : (test : ℕ → Bool) (base n i : ℕ) → i < n → bitAt (wordOf test base n) i ≡ test (base + i)
 bit-asks test base n i h = ap (λ (n : ℕ). eqb n 1) (bit-says test base n i h) ∙ bit-is (test (base + i))
+
+-- a word is the word of its first m bits and that of the n bits above
+pub word-split : (test : ℕ → Bool) (base m n : ℕ) → wordOf test base (m + n) ≡ wordOf test base m + wordOf test (base + m) n * 2 ^ m
+unfolding wordOf
+word-split test base m zero = rw (add-zero m) (omega arith)
+word-split test base m (suc n) =
+    rw (
+      add-suc m n,
+      word-split test base m n,
+      add-mul (wordOf test (base + m) n) (bit (test (base + m + n)) * 2 ^ n) (2 ^ m),
+      mul-assoc (bit (test (base + m + n))) (2 ^ n) (2 ^ m),
+      ← pow-add 2 n m,
+      add-comm n m,
+      add-assoc base m n,
+    )
+    (omega arith)
+
+-- one bit more, of the numbers from first on: it is set unless first lies above
+top-bit : (first n : ℕ) → 2 ^ n - 2 ^ first + bit (leb first n) * 2 ^ n ≡ 2 ^ suc n - 2 ^ first
+top-bit first n =
+    ⊎-elim
+    (λ (h : first ≤ n). rw (le-leb first n h, pow-suc 2 n) (omega (arith, pow-mono {i = first} {j = n} h)))
+    (λ (h : n < first). rw (lt-leb first n h) (omega (arith, pow-mono {i = n} {j = suc n} (omega arith), pow-mono {i = suc n} {j = first} h)))
+    (le-or-lt first n)
+
+-- the word of the numbers from first on and below past
+pub word-between : (first past n : ℕ) → past ≤ n → wordOf (λ k. leb first k && ltb k past) 0 n ≡ 2 ^ past - 2 ^ first
+unfolding wordOf
+word-between first past zero h = omega (arith, pow-mono {i = past} {j = first} (omega arith))
+word-between first past (suc n) h =
+    ⊎-elim
+    (λ (k : past ≤ n). rw (word-between first past n k, zero-add n, le-ltb n past k, and-false (leb first n)) (omega arith))
+    (λ (k : n < past).
+    let e : past ≡ suc n = omega arith in
+    let same = word-same (λ k. leb first k && ltb k (suc n)) (λ k. leb first k && ltb k n) 0 0 n (λ k l. rw (zero-add k, lt-ltb k n l, lt-ltb k (suc n) (omega arith))) in
+    rw (e, same, word-between first n n (omega arith), zero-add n, lt-ltb n (suc n) (omega arith), and-true (leb first n)) (top-bit first n))
+    (le-or-lt past n)

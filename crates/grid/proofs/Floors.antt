@@ -1,0 +1,59 @@
+-- For the reader: `floorDiv` rounds down, the greatest whole number of sides that is not above the difference;
+-- lifting keeps the order of metres; and a place's column is the floor that an edge's column is. Assumes nothing.
+use mathlib.Core.Path.{_≡_, refl, sym, _∙_}
+use mathlib.Core.Logic.{⊎-elim}
+use mathlib.Core.Bool.{true}
+use Prim.Native.Nat.{ℕ, zero, suc, _+_, _-_, _*_, _/_, _<_, _≤_}
+use native.Mathlib.Nat.{div-mul-le-self, lt-div-mul-add, add-mul, suc-mul, zero-mul}
+use native.Mathlib.Omega.{arith}
+use lib.IntN.{ℤ, pos, negsuc, negℤ, _+ℤ_, _*ℤ_}
+use lib.Signed.{leZ, _≤ℤ_, _<ℤ_}
+use lib.Dec.{leb, le→leb, lt→ltb}
+use borrow.Author.Tests.{le-leb, lt-leb}
+use mir.Syntax.{w32}
+use mir.Val.{SFits}
+use Rattle.base.proofs.Tests.{le-or-lt}
+use Rattle.rules.specs.Places.{lifted, floorDiv, edgeStrip, within, strip}
+use Rattle.grid.proofs.Signed.{one-up, ahead}
+use Rattle.grid.proofs.Inside.{from-edge}
+
+neg-below : (m n : ℕ) → n < m → negℤ (pos m) ≤ℤ negsuc n
+neg-below zero n h = absurd (omega arith)
+neg-below (suc m) n h = record { le = le→leb n m (omega arith) }
+
+neg-above : (m n : ℕ) → m ≤ n → negsuc n <ℤ negℤ (pos m)
+neg-above zero n h = record { lt = tt }
+neg-above (suc m) n h = record { lt = lt→ltb m n (omega arith) }
+
+neg-times : (k c : ℕ) → negℤ (pos k) *ℤ pos c ≡ negℤ (pos (k * c))
+neg-times zero c = rw (zero-mul c)
+neg-times (suc k) c = refl
+
+-- the floor's sides are not above x
+pub floor-below : (x : ℤ) (c : ℕ) → 0 < c → (floorDiv x c *ℤ pos c) ≤ℤ x
+floor-below (pos n) c h = record { le = le→leb _ _ (div-mul-le-self n c) }
+floor-below (negsuc n) c h = neg-below (suc (n / c) * c) n (omega (arith, suc-mul (n / c) c, lt-div-mul-add {a = n} {b = c} h))
+
+-- and one side more is above it
+pub floor-greatest : (x : ℤ) (c : ℕ) → 0 < c → x <ℤ ((floorDiv x c +ℤ pos 1) *ℤ pos c)
+floor-greatest (pos n) c h = record { lt = lt→ltb n ((n / c + 1) * c) (omega (arith, add-mul (n / c) 1 c, lt-div-mul-add {a = n} {b = c} h)) }
+floor-greatest (negsuc n) c h = rw (one-up (n / c), neg-times (n / c) c) (neg-above (n / c * c) n (div-mul-le-self n c))
+
+-- lifted metres stand in the order of the metres
+pub lifted-order : (a b : ℤ) → SFits w32 a → SFits w32 b → leZ a b ≡ leb (lifted a) (lifted b)
+lifted-order (pos a) (pos b) fa fb =
+    ⊎-elim
+    (λ (h : a ≤ b). le-leb a b h ∙ sym (le-leb (a + 2147483648) (b + 2147483648) (omega arith)))
+    (λ (h : b < a). lt-leb a b h ∙ sym (lt-leb (a + 2147483648) (b + 2147483648) (omega arith)))
+    (le-or-lt a b)
+lifted-order (pos a) (negsuc b) fa fb = sym (lt-leb (a + 2147483648) (2147483647 - b) (omega arith))
+lifted-order (negsuc a) (pos b) fa fb = sym (le-leb (2147483647 - a) (b + 2147483648) (omega arith))
+lifted-order (negsuc a) (negsuc b) fa fb =
+    ⊎-elim
+    (λ (h : b ≤ a). le-leb b a h ∙ sym (le-leb (2147483647 - a) (2147483647 - b) (omega arith)))
+    (λ (h : a < b). lt-leb b a h ∙ sym (lt-leb (2147483647 - a) (2147483647 - b) (omega (arith, fb .sfits))))
+    (le-or-lt b a)
+
+-- an edge along a metre of the grid is in the column of the places there
+pub strip-floor : (o : ℤ) (c : ℕ) (x : ℤ) → SFits w32 o → SFits w32 x → within o c x ≡ true → edgeStrip o c x ≡ pos (strip o c x)
+strip-floor o c x fo fx inside = rw (ahead x o fx fo (from-edge o c x inside))

@@ -1,0 +1,11 @@
+-- Laws of signed metres, places, distances, values and sets of regions; and what the rectangle's regions and the bounds are good for.
+pub mod Signed
+pub mod Floors
+pub mod Inside
+pub mod Squares
+pub mod Distances
+pub mod Values
+pub mod Spans
+pub mod Rows
+pub mod Sets
+pub mod Covers

@@ -1,0 +1,52 @@
+-- `grid::region_of` meets its contract. Column and row are below 8, so that the sum fits.
+-- Assumes nothing.
+use mathlib.Core.Path.{_≡_, _∙_}
+use native.Mathlib.Omega.{arith}
+use borrow.Author.Needs.{needs}
+use Rattle.base.proofs.Machine.{arrive}
+use Rattle.rules.specs.Places.{within, strip, regionOf}
+use Rattle.grid.proofs.Inside.{cell-some, east-inside, north-inside, strip-less}
+use Rattle.grid.proofs.region_of.Statement.{statement}
+use Rattle.grid.proofs.region_of.Tie as tie
+
+-- the column and the row, of the coordinates and not of their bits
+column-is : (c : tie.After-strip) → c .strip .result ≡ strip (c .before .before .before .args .grid .west) (c .before .before .before .args .grid .cell) (c .before .before .before .args .place .east)
+column-is c =
+    let a = c .before .before .before .args in
+    c .strip .ensures ∙ arrive (λ o x. strip o (a .grid .cell) x) (a .grid .west) (a .place .east) (search needs) (search needs)
+
+row-is : (c : tie.After-strip2) → c .strip2 .result ≡ strip (c .before .before .before .before .before .before .args .grid .south) (c .before .before .before .before .before .before .args .grid .cell) (c .before .before .before .before .before .before .args .place .north)
+row-is c =
+    let a = c .before .before .before .before .before .before .args in
+    c .strip2 .ensures ∙ arrive (λ o x. strip o (a .grid .cell) x) (a .grid .south) (a .place .north) (search needs) (search needs)
+
+strip-requires : tie.Need-strip-requires
+strip-requires c κs =
+    let s = c .before .before in
+    let a = s .args in
+    (cell-some _ (s .pre .0), arrive (λ o x. within o (a .grid .cell) x) (a .grid .west) (a .place .east) (search needs) (search needs) ∙ east-inside _ _ (s .pre .1))
+
+strip-requires-2 : tie.Need-strip-requires-2
+strip-requires-2 c κs =
+    let s = c .before .before .before .before .before in
+    let a = s .args in
+    (cell-some _ (s .pre .0), arrive (λ o x. within o (a .grid .cell) x) (a .grid .south) (a .place .north) (search needs) (search needs) ∙ north-inside _ _ (s .pre .1))
+
+mul-result : tie.Need-mul-result
+mul-result c =
+    let s = c .before .before .before .before .before .before in
+    rw (row-is c) (omega (arith, strip-less _ _ _ (north-inside _ _ (s .pre .1)) (cell-some _ (s .pre .0))))
+
+add-result : tie.Need-add-result
+add-result c =
+    let s = c .before .before .before .before .before .before in
+    let column = strip-less _ _ _ (east-inside _ _ (s .pre .1)) (cell-some _ (s .pre .0)) in
+    let row = strip-less _ _ _ (north-inside _ _ (s .pre .1)) (cell-some _ (s .pre .0)) in
+    rw (row-is c, column-is (c .before .before .before)) (omega arith)
+
+returns : tie.Need-returns
+unfolding regionOf
+returns c = rw (row-is c, column-is (c .before .before .before))
+
+pub region-of-spec : {M : Type 1} → statement M
+region-of-spec = tie.close (tie.spec strip-requires strip-requires-2 mul-result add-result returns)

@@ -1,0 +1,71 @@
+-- The regions that a rectangle touches, as bits, and sets of regions put together: what the code computes.
+-- A region is touched if its column and its row lie between the floored edges; proofs/Covers.antt says what that is good for.
+use mathlib.Core.Bool.{Bool, cond, _&&_}
+use Prim.Native.Nat.{ℕ, zero, suc, _+_, _-_, _*_, _/_, _%_, _^_}
+use lib.IntN.{ℤ, pos, negsuc}
+use lib.Signed.{ltZ}
+use lib.Dec.{ltb, leb}
+use lib.Bits.{bitAnd, bitOr}
+use Rattle.base.specs.Bits.{wordOf, bitAt}
+use Rattle.rules.specs.declared.Grid.{Grid}
+use Rattle.rules.specs.declared.Rect.{Rect}
+use Rattle.rules.specs.Places.{edgeStrip}
+use Rattle.grid.specs.declared.cells.Span.{Span}
+use Rattle.grid.specs.declared.cells.Cells.{Cells}
+
+-- clipped to 0..7
+abbrev pub clip : ℤ → ℕ
+clip (negsuc n) = 0
+clip (pos n) = cond (ltb 7 n) 7 n
+
+-- from one floored edge to the other, clipped; empty where both lie on one side of the grid
+unfoldable pub spanOf : ℤ → ℤ → Span
+spanOf from to =
+    cond (ltZ to (pos 0)) (record { first = 0; past = 0 })
+    (cond (ltZ (pos 7) from) (record { first = 0; past = 0 })
+    (record { first = clip from; past = clip to + 1 }))
+
+-- the columns or rows between two edges of a rectangle
+unfoldable pub edgesSpan : ℤ → ℕ → ℤ → ℤ → Span
+edgesSpan origin c low high = spanOf (edgeStrip origin c low) (edgeStrip origin c high)
+
+abbrev pub columnsOf : Grid → Rect → Span
+columnsOf g r = edgesSpan (g .west) (g .cell) (r .west) (r .east)
+
+abbrev pub rowsOf : Grid → Rect → Span
+rowsOf g r = edgesSpan (g .south) (g .cell) (r .south) (r .north)
+
+-- from first on, past not among them
+unfoldable pub inSpan : Span → ℕ → Bool
+inSpan s k = leb (s .first) k && ltb k (s .past)
+
+-- region row × 8 + column, by its column and its row
+unfoldable pub touched : Span → Span → ℕ → Bool
+touched columns rows r = inSpan columns (r % 8) && inSpan rows (r / 8)
+
+-- a mask of columns at each row of the span, eight bits to a row, for n rows from `from` on
+unfoldable pub laid : ℕ → Span → ℕ → ℕ → ℕ
+laid mask rows from zero = 0
+laid mask rows from (suc n) = laid mask rows from n + cond (inSpan rows (from + n)) mask 0 * 2 ^ (8 * n)
+
+-- the 64 bits of a test of regions: 0 to 31 in low, 32 to 63 in high
+unfoldable pub cellsBy : (ℕ → Bool) → Cells
+cellsBy test = record { low = wordOf test 0 32; high = wordOf test 32 32 }
+
+-- the regions that a rectangle touches
+unfoldable pub cellsOf : Grid → Rect → Cells
+cellsOf g r = cellsBy (touched (columnsOf g r) (rowsOf g r))
+
+-- whether the region's bit is 1
+unfoldable pub hasCell : Cells → ℕ → Bool
+hasCell c r = cond (ltb r 32) (bitAt (c .low) r) (bitAt (c .high) (r - 32))
+
+-- the regions of both
+unfoldable pub bothCells : Cells → Cells → Cells
+bothCells c d = record { low = bitAnd (c .low) (d .low); high = bitAnd (c .high) (d .high) }
+
+-- with one region more
+unfoldable pub withCell : Cells → ℕ → Cells
+withCell c r =
+    cond (ltb r 32) (record { low = bitOr (c .low) (2 ^ r); high = c .high })
+    (record { low = c .low; high = bitOr (c .high) (2 ^ (r - 32)) })

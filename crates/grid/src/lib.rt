@@ -1,0 +1,97 @@
+// Where a place lies in the grid of 8 by 8 regions, and whether grid and place are within their limits.
+// Distances and values are in `worth`, a rectangle's regions in `cells`, signed metres in `metres`.
+ghost use mathlib.Core.Path.{_≡_};
+ghost use mathlib.Core.Bool.{true};
+ghost use Prim.Native.Nat.{_<_};
+ghost use Rattle.rules.specs.Numbers.{locatedNumbers};
+ghost use Rattle.rules.specs.Places.{edgeLawful, gridLawful, within, inGrid, strip, regionOf, regionTold};
+
+pub mod cells;
+mod metres;
+pub mod worth;
+
+use metres::lift;
+use rules::Grid;
+use rules::Located;
+use rules::Place;
+use rules::Refusal;
+
+// Refusal 2 is for a grid that is not lawful.
+pub fn lawful(grid: Grid) -> bool
+    ensures { λ r. ⌜ r ≡ gridLawful grid ⌝ }
+{
+    if !edge_lawful(grid.west) {
+        return false;
+    }
+    if !edge_lawful(grid.south) {
+        return false;
+    }
+    let cell = grid.cell;
+    if cell < 1 {
+        return false;
+    }
+    cell <= Grid::CELL_MOST
+}
+
+// Whether a place is in the grid.
+pub fn holds(grid: Grid, place: Place) -> bool
+    ensures { λ r. ⌜ r ≡ inGrid grid place ⌝ }
+{
+    if !within(grid.west, grid.cell, place.east) {
+        return false;
+    }
+    within(grid.south, grid.cell, place.north)
+}
+
+// The region of a place of the grid.
+pub fn region_of(grid: Grid, place: Place) -> u32
+    requires { ⌜ (gridLawful grid ≡ true) × (inGrid grid place ≡ true) ⌝ }
+    ensures { λ r. ⌜ r ≡ regionOf grid place ⌝ }
+{
+    let column = strip(grid.west, grid.cell, place.east);
+    let row = strip(grid.south, grid.cell, place.north);
+    row * Grid::SIDE + column
+}
+
+// The region of any place in any grid, or why there is none.
+pub fn locate(grid: Grid, place: Place) -> Located
+    ensures { λ r. ⌜ locatedNumbers r ≡ regionTold grid place ⌝ }
+{
+    if !lawful(grid) {
+        return Located::Refused(Refusal::GridOutsideLimits);
+    }
+    if !holds(grid, place) {
+        return Located::Refused(Refusal::QuestionOutsideLimits);
+    }
+    Located::In(region_of(grid, place))
+}
+
+fn edge_lawful(edge: i32) -> bool
+    ensures { λ r. ⌜ r ≡ edgeLawful edge ⌝ }
+{
+    if edge < -Grid::EDGE_MOST {
+        return false;
+    }
+    edge <= Grid::EDGE_MOST
+}
+
+// Whether x is one of the metres from the grid's edge on that its cells cover.
+fn within(edge: i32, cell: u32, x: i32) -> bool
+    ensures { λ r. ⌜ r ≡ within edge cell x ⌝ }
+{
+    let start = lift(edge);
+    let at = lift(x);
+    if at < start {
+        return false;
+    }
+    at < start + (Grid::SIDE as u64) * (cell as u64)
+}
+
+// The column or row of a coordinate of the grid.
+fn strip(edge: i32, cell: u32, x: i32) -> u32
+    requires { ⌜ (0 < cell) × (within edge cell x ≡ true) ⌝ }
+    ensures { λ r. ⌜ r ≡ strip edge cell x ⌝ }
+{
+    let into = lift(x) - lift(edge);
+    (into / (cell as u64)) as u32
+}
