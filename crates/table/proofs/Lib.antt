@@ -1,0 +1,2 @@
+-- The laws that the proofs of `table` cite beyond those of base and rules.
+pub mod Parts

@@ -1,0 +1,63 @@
+-- `lawful::names_allowed` tests name after name: the invariant is Scanning.
+-- Assumes nothing.
+use Prim.Native.Nat.{_-_}
+use mathlib.Core.Path.{_≡_, sym, ap, _∙_}
+use borrow.Author.Needs.{needs}
+use Rattle.base.proofs.Tests.{breaks, holds}
+use Rattle.base.proofs.Scans.{Scanning, begin, pass, fail, finish}
+use Rattle.rules.specs.Names.{nameAllowed, name}
+use Rattle.rules.specs.Tables.{namesAllowed}
+use Rattle.table.proofs.lawful.names_allowed.Statement.{statement}
+use Rattle.table.proofs.lawful.names_allowed.Tie as tie
+
+abbrev Inv-loop : tie.InvT-loop
+Inv-loop text starts stands i₀ i = Scanning (λ k. nameAllowed (name text starts k)) stands i
+
+abbrev μ-loop : tie.MeasureT-loop
+μ-loop text starts stands i₀ i = stands - i
+
+loop-holds : tie.Need-loop-holds Inv-loop μ-loop
+loop-holds c = begin _ _
+
+name-of-requires : tie.Need-name-of-requires Inv-loop μ-loop
+name-of-requires c κs = search needs
+
+name-allowed-requires : tie.Need-name-allowed-requires Inv-loop μ-loop
+name-allowed-requires c κs = search needs
+
+told : (c : tie.After-name-allowed Inv-loop μ-loop) →
+    let a = c .before .before .before .before .before .before .args in
+    c .name-allowed .result ≡ nameAllowed (name (a .text .now) (a .starts .now) (c .before .before .before .loop .i))
+told c = c .name-allowed .ensures ∙ ap nameAllowed (c .before .name-of .ensures)
+
+returns : tie.Need-returns Inv-loop μ-loop
+unfolding namesAllowed
+returns c = sym (fail _ _ _ (c .before .before .before .loop-test .taken) (breaks _ _ (told (c .before)) (c .if1 .taken)) (c .before .before .before .before .loop .inv))
+
+add-i : tie.Need-add-i Inv-loop μ-loop
+add-i c = search needs
+
+loop-less : tie.Need-loop-less Inv-loop μ-loop
+loop-less c = search needs
+
+loop-again : tie.Need-loop-again Inv-loop μ-loop
+loop-again c = pass _ _ _ (search needs) (holds _ _ (told (c .before)) (c .if1 .left)) (search needs)
+
+returns-2 : tie.Need-returns-2 Inv-loop μ-loop
+unfolding namesAllowed
+returns-2 c = sym (finish _ _ _ (search needs) (c .before .loop .inv))
+
+pub names-allowed-spec : {M : Type 1} → statement M
+names-allowed-spec =
+    tie.close
+    (tie.spec
+    Inv-loop
+    μ-loop
+    loop-holds
+    name-of-requires
+    name-allowed-requires
+    returns
+    add-i
+    loop-less
+    loop-again
+    returns-2)

@@ -1,0 +1,79 @@
+-- `lawful::names_in_order` tests each name and the next: the invariant is Scanning.
+-- Assumes nothing.
+use Prim.Native.Nat.{_+_, _-_, _<_}
+use mathlib.Core.Path.{_≡_, sym, _∙_}
+use borrow.Author.Needs.{needs}
+use Rattle.base.proofs.Tests.{ap2, breaks, holds}
+use Rattle.base.proofs.Scans.{Scanning, begin, pass, fail, finish}
+use Rattle.rules.specs.Names.{inOrder, name}
+use Rattle.rules.specs.Tables.{namesInOrder}
+use Rattle.table.proofs.lawful.names_in_order.Statement.{statement}
+use Rattle.table.proofs.lawful.names_in_order.Tie as tie
+
+abbrev Inv-loop : tie.InvT-loop
+Inv-loop text starts stands i₀ i = Scanning (λ k. inOrder (name text starts k) (name text starts (k + 1))) (stands - 1) i
+
+abbrev μ-loop : tie.MeasureT-loop
+μ-loop text starts stands i₀ i = stands - i
+
+loop-holds : tie.Need-loop-holds Inv-loop μ-loop
+loop-holds c = begin _ _
+
+add-loop : tie.Need-add-loop Inv-loop μ-loop
+add-loop c = search needs
+
+name-of-requires : tie.Need-name-of-requires Inv-loop μ-loop
+name-of-requires c κs = search needs
+
+add-t7 : tie.Need-add-t7 Inv-loop μ-loop
+add-t7 c = search needs
+
+name-of-requires-2 : tie.Need-name-of-requires-2 Inv-loop μ-loop
+name-of-requires-2 c κs = search needs
+
+in-order-requires : tie.Need-in-order-requires Inv-loop μ-loop
+in-order-requires c κs = search needs
+
+told : (c : tie.After-in-order Inv-loop μ-loop) →
+    let a = c .before .before .before .before .before .before .before .args in
+    let i = c .before .before .before .before .loop .i in
+    c .in-order .result ≡ inOrder (name (a .text .now) (a .starts .now) i) (name (a .text .now) (a .starts .now) (i + 1))
+told c = c .in-order .ensures ∙ ap2 inOrder (c .before .before .name-of .ensures) (c .before .name-of2 .ensures)
+
+returns : tie.Need-returns Inv-loop μ-loop
+unfolding namesInOrder
+returns c =
+    let at = c .before .before .before .before .before .loop in
+    let more : at .i < c .before .before .before .before .before .before .before .before .args .stands - 1 = search needs in
+    sym (fail _ _ _ more (breaks _ _ (told (c .before)) (c .if1 .taken)) (at .inv))
+
+add-i : tie.Need-add-i Inv-loop μ-loop
+add-i c = search needs
+
+loop-less : tie.Need-loop-less Inv-loop μ-loop
+loop-less c = search needs
+
+loop-again : tie.Need-loop-again Inv-loop μ-loop
+loop-again c = pass _ _ _ (search needs) (holds _ _ (told (c .before)) (c .if1 .left)) (search needs)
+
+returns-2 : tie.Need-returns-2 Inv-loop μ-loop
+unfolding namesInOrder
+returns-2 c = sym (finish _ _ _ (search needs) (c .before .loop .inv))
+
+pub names-in-order-spec : {M : Type 1} → statement M
+names-in-order-spec =
+    tie.close
+    (tie.spec
+    Inv-loop
+    μ-loop
+    loop-holds
+    add-loop
+    name-of-requires
+    add-t7
+    name-of-requires-2
+    in-order-requires
+    returns
+    add-i
+    loop-less
+    loop-again
+    returns-2)

@@ -1,0 +1,99 @@
+-- `lawful::stands_lawful` tests stand after stand: the invariant is Scanning.
+-- Assumes nothing.
+use Prim.Native.Nat.{_-_}
+use mathlib.Core.Path.{_≡_, sym, _∙_}
+use mathlib.Core.Bool.{Bool}
+use lib.IntN.{ℤ, pos}
+use lib.ListN.{length, getD}
+use borrow.Author.Needs.{needs}
+use Rattle.base.proofs.Tests.{breaks, holds}
+use Rattle.base.proofs.Scans.{Scanning, begin, pass, fail, finish}
+use Rattle.base.proofs.Machine.{arrive}
+use Rattle.rules.specs.Places.{inGrid}
+use Rattle.rules.specs.Tables.{placeIn, standLawful, standsLawful}
+use Rattle.rules.proofs.Lawful.{stand-off, stand-over, stand-in}
+use Rattle.table.proofs.lawful.stands_lawful.Statement.{statement}
+use Rattle.table.proofs.lawful.stands_lawful.Tie as tie
+
+abbrev Inv-loop : tie.InvT-loop
+Inv-loop east north score grid i₀ i = Scanning (standLawful east north score grid) (length score) i
+
+abbrev μ-loop : tie.MeasureT-loop
+μ-loop east north score grid i₀ i = length score - i
+
+loop-holds : tie.Need-loop-holds Inv-loop μ-loop
+loop-holds c = begin _ _
+
+mul-t7 : tie.Need-mul-t7 Inv-loop μ-loop
+mul-t7 c = search needs
+
+shared-slice-copy-out-t10 : tie.Need-shared-slice-copy-out-t10 Inv-loop μ-loop
+shared-slice-copy-out-t10 c = search needs
+
+mul-t11 : tie.Need-mul-t11 Inv-loop μ-loop
+mul-t11 c = search needs
+
+shared-slice-copy-out-t13 : tie.Need-shared-slice-copy-out-t13 Inv-loop μ-loop
+shared-slice-copy-out-t13 c = search needs
+
+holds-requires : tie.Need-holds-requires Inv-loop μ-loop
+holds-requires c κs = search needs
+
+told : (c : tie.After-holds Inv-loop μ-loop) →
+    let a = c .before .before .before .before .before .before .args in
+    c .holds .result ≡ inGrid (a .grid) (placeIn (a .east .now) (a .north .now) (c .before .before .before .before .loop .i))
+told c =
+    let a = c .before .before .before .before .before .before .args in
+    let i = c .before .before .before .before .loop .i in
+    let in-grid : ℤ → ℤ → Bool = λ e n. inGrid (a .grid) (record { east = e; north = n }) in
+    c .holds .ensures ∙ arrive in-grid (getD (a .east .now) i (pos 0)) (getD (a .north .now) i (pos 0)) (search needs) (search needs)
+
+returns : tie.Need-returns Inv-loop μ-loop
+unfolding standsLawful
+returns c =
+    let at = c .before .before .before .before .before .loop in
+    sym (fail _ _ _ (c .before .before .before .before .loop-test .taken) (stand-off _ _ _ _ _ (breaks _ _ (told (c .before)) (c .if1 .taken))) (at .inv))
+
+mul-if2 : tie.Need-mul-if2 Inv-loop μ-loop
+mul-if2 c = search needs
+
+shared-slice-read-if2 : tie.Need-shared-slice-read-if2 Inv-loop μ-loop
+shared-slice-read-if2 c = search needs
+
+returns-2 : tie.Need-returns-2 Inv-loop μ-loop
+unfolding standsLawful
+returns-2 c = sym (fail _ _ _ (c .before .before .before .before .before .before .loop-test .taken) (stand-over _ _ _ _ _ (c .if2 .taken)) (c .before .before .before .before .before .before .before .loop .inv))
+
+add-i : tie.Need-add-i Inv-loop μ-loop
+add-i c = search needs
+
+loop-less : tie.Need-loop-less Inv-loop μ-loop
+loop-less c = search needs
+
+loop-again : tie.Need-loop-again Inv-loop μ-loop
+loop-again c = pass _ _ _ (search needs) (stand-in _ _ _ _ _ (holds _ _ (told (c .before .before .before)) (c .before .before .if1 .left)) (c .if2 .left)) (search needs)
+
+returns-3 : tie.Need-returns-3 Inv-loop μ-loop
+unfolding standsLawful
+returns-3 c = sym (finish _ _ _ (search needs) (c .before .loop .inv))
+
+pub stands-lawful-spec : {M : Type 1} → statement M
+stands-lawful-spec =
+    tie.close
+    (tie.spec
+    Inv-loop
+    μ-loop
+    loop-holds
+    mul-t7
+    shared-slice-copy-out-t10
+    mul-t11
+    shared-slice-copy-out-t13
+    holds-requires
+    returns
+    mul-if2
+    shared-slice-read-if2
+    returns-2
+    add-i
+    loop-less
+    loop-again
+    returns-3)

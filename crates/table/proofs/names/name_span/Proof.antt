@@ -1,0 +1,71 @@
+-- `names::name_span` gives where a name lies, or the empty span at 0.
+-- Assumes nothing.
+use Prim.Native.Nat.{_+_}
+use native.Mathlib.Omega.{arith}
+use borrow.Author.Tests.{le-ltb, lt-leb}
+use borrow.Author.Needs.{needs}
+use Rattle.base.proofs.Tests.{every-not}
+use Rattle.rules.specs.Names.{spanned}
+use Rattle.table.proofs.Parts.{nowhere, found}
+use Rattle.table.proofs.names.name_span.Statement.{statement}
+use Rattle.table.proofs.names.name_span.Tie as tie
+
+cast-i : tie.Need-cast-i
+cast-i c = search needs
+
+add-if1 : tie.Need-add-if1
+add-if1 c = search needs
+
+returns : tie.Need-returns
+unfolding spanned
+returns c = nowhere _ _ _ (every-not _ 0 (le-ltb _ _ (c .if1 .taken)))
+
+mul-from : tie.Need-mul-from
+mul-from c = search needs
+
+shared-slice-read-from : tie.Need-shared-slice-read-from
+shared-slice-read-from c = search needs
+
+cast-from : tie.Need-cast-from
+cast-from c = omega (arith, c .shared-slice-known .given (c .before .before .before .args .stand .0))
+
+add-past : tie.Need-add-past
+add-past c = search needs
+
+mul-past : tie.Need-mul-past
+mul-past c = search needs
+
+shared-slice-read-past : tie.Need-shared-slice-read-past
+shared-slice-read-past c = search needs
+
+cast-past : tie.Need-cast-past
+cast-past c = omega (arith, c .shared-slice-known2 .given (c .before .before .before .before .args .stand .0 + 1))
+
+returns-2 : tie.Need-returns-2
+unfolding spanned
+returns-2 c = nowhere _ _ _ (every-not _ 1 (lt-leb _ _ (c .if2 .taken)))
+
+returns-3 : tie.Need-returns-3
+unfolding spanned
+returns-3 c = nowhere _ _ _ (every-not _ 2 (lt-leb _ _ (c .if3 .taken)))
+
+returns-4 : tie.Need-returns-4
+returns-4 c = found _ _ _ (search needs) (search needs) (search needs)
+
+pub name-span-spec : {M : Type 1} → statement M
+name-span-spec =
+    tie.close
+    (tie.spec
+    cast-i
+    add-if1
+    returns
+    mul-from
+    shared-slice-read-from
+    cast-from
+    add-past
+    mul-past
+    shared-slice-read-past
+    cast-past
+    returns-2
+    returns-3
+    returns-4)

@@ -1,0 +1,102 @@
+// One test for each of refusals 1, 3, 4 and 5: true where the refusal does not hold.
+// Only the last asks something of its parts, that they are as long as each other; the first tests that.
+use crate::names::in_order;
+use crate::names::name_allowed;
+use crate::names::name_of;
+use rules::Grid;
+use rules::Place;
+use rules::Stand;
+ghost use mathlib.Core.Path.{_≡_};
+ghost use lib.ListN.{length};
+ghost use Rattle.rules.specs.Tables.{tableOf, rising, shapeLawful, namesAllowed, namesInOrder, standsLawful};
+
+// Whether no start is below the one before it.
+fn rising(starts: &[u32]) -> bool
+    ensures { λ r. ⌜ r ≡ rising (now (starts .entry)) ⌝ }
+{
+    let mut i = 0;
+    while i + 1 < starts.len() {
+        if starts[i + 1] < starts[i] {
+            return false;
+        }
+        i += 1;
+    }
+    true
+}
+
+pub fn shape_lawful(text: &[u8], starts: &[u32], east: &[i32], north: &[i32], score: &[u32]) -> bool
+    ensures { λ r. ⌜ r ≡ shapeLawful (tableOf (now (text .entry)) (now (starts .entry)) (now (east .entry)) (now (north .entry)) (now (score .entry))) ⌝ }
+{
+    let stands = score.len();
+    if Stand::MOST < stands {
+        return false;
+    }
+    if east.len() != stands {
+        return false;
+    }
+    if north.len() != stands {
+        return false;
+    }
+    if starts.len() != stands + 1 {
+        return false;
+    }
+    if starts[0] != 0 {
+        return false;
+    }
+    if !rising(starts) {
+        return false;
+    }
+    if starts[stands] as usize != text.len() {
+        return false;
+    }
+    true
+}
+
+pub fn names_allowed(text: &[u8], starts: &[u32], stands: u32) -> bool
+    ensures { λ r. ⌜ r ≡ namesAllowed (now (text .entry)) (now (starts .entry)) stands ⌝ }
+{
+    let mut i = 0;
+    while i < stands {
+        if !name_allowed(name_of(text, starts, Stand(i))) {
+            return false;
+        }
+        i += 1;
+    }
+    true
+}
+
+pub fn names_in_order(text: &[u8], starts: &[u32], stands: u32) -> bool
+    ensures { λ r. ⌜ r ≡ namesInOrder (now (text .entry)) (now (starts .entry)) stands ⌝ }
+{
+    let mut i = 0;
+    while i + 1 < stands {
+        let a = name_of(text, starts, Stand(i));
+        let b = name_of(text, starts, Stand(i + 1));
+        if !in_order(a, b) {
+            return false;
+        }
+        i += 1;
+    }
+    true
+}
+
+pub fn stands_lawful(east: &[i32], north: &[i32], score: &[u32], grid: Grid) -> bool
+    requires { ⌜ (length (now east) ≡ length (now score)) × (length (now north) ≡ length (now score)) ⌝ }
+    ensures { λ r. ⌜ r ≡ standsLawful (now (east .entry)) (now (north .entry)) (now (score .entry)) grid ⌝ }
+{
+    let mut i = 0;
+    while i < score.len() {
+        let place = Place {
+            east: east[i],
+            north: north[i],
+        };
+        if !grid::holds(grid, place) {
+            return false;
+        }
+        if Stand::SCORE_MOST < score[i] {
+            return false;
+        }
+        i += 1;
+    }
+    true
+}

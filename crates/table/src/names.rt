@@ -1,0 +1,126 @@
+// Names as parts of a table's text: where a name lies, how it compares, and what is left of it after a typed text.
+// Nothing is asked of text and starts: a stand whose starts are broken has the empty name at the text's start.
+use rules::Stand;
+ghost use mathlib.Core.Path.{_≡_};
+ghost use denote.Ref.{ptr};
+ghost use Rattle.base.specs.Lists.{all, begins, sharedLength};
+ghost use Rattle.rules.specs.Names.{allowed, nameAllowed, inOrder, name};
+ghost use Rattle.table.specs.Parts.{Spans, Rest};
+
+// A part of the text: where it begins, and past its end.
+struct Span {
+    from: usize,
+    past: usize,
+}
+
+// Whether a byte is a to z, 0 to 9 or space.
+pub fn allowed(b: u8) -> bool
+    ensures { λ r. ⌜ r ≡ allowed b ⌝ }
+{
+    match b {
+        b'a'..=b'z' => true,
+        b'0'..=b'9' => true,
+        b' ' => true,
+        _ => false,
+    }
+}
+
+pub fn bytes_allowed(bytes: &[u8]) -> bool
+    ensures { λ r. ⌜ r ≡ all allowed (now (bytes .entry)) ⌝ }
+{
+    let mut i = 0;
+    while i < bytes.len() {
+        if !allowed(bytes[i]) {
+            return false;
+        }
+        i += 1;
+    }
+    true
+}
+
+pub fn name_allowed(name: &[u8]) -> bool
+    ensures { λ r. ⌜ r ≡ nameAllowed (now (name .entry)) ⌝ }
+{
+    if name.len() < 1 {
+        return false;
+    }
+    if Stand::NAME_MOST < name.len() {
+        return false;
+    }
+    bytes_allowed(name)
+}
+
+// How many bytes a and b have in common from their beginnings on.
+pub fn shared(a: &[u8], b: &[u8]) -> usize
+    ensures { λ r. ⌜ r ≡ sharedLength (now (a .entry)) (now (b .entry)) ⌝ }
+{
+    let mut i = 0;
+    while i < a.len() {
+        if b.len() <= i {
+            return i;
+        }
+        if a[i] != b[i] {
+            return i;
+        }
+        i += 1;
+    }
+    i
+}
+
+// Whether a name, or a part of one, begins with a typed text.
+pub fn begins(name: &[u8], typed: &[u8]) -> bool
+    ensures { λ r. ⌜ r ≡ begins (now (typed .entry)) (now (name .entry)) ⌝ }
+{
+    shared(typed, name) == typed.len()
+}
+
+// Whether name a may stand before name b: byte order, the shorter first, equal ones either way.
+pub fn in_order(a: &[u8], b: &[u8]) -> bool
+    ensures { λ r. ⌜ r ≡ inOrder (now (a .entry)) (now (b .entry)) ⌝ }
+{
+    let at = shared(a, b);
+    if at == a.len() {
+        true
+    } else if at == b.len() {
+        false
+    } else {
+        a[at] < b[at]
+    }
+}
+
+// Where a stand's name lies.
+fn name_span(text: &[u8], starts: &[u32], stand: Stand) -> Span
+    ensures { λ r. ⌜ Spans (now (text .entry)) (now (starts .entry)) (stand .0) r ⌝ }
+{
+    let i = stand.0 as usize;
+    if starts.len() <= i + 1 {
+        return Span { from: 0, past: 0 };
+    }
+    let from = starts[i] as usize;
+    let past = starts[i + 1] as usize;
+    if past < from {
+        return Span { from: 0, past: 0 };
+    }
+    if text.len() < past {
+        return Span { from: 0, past: 0 };
+    }
+    Span { from, past }
+}
+
+pub fn name_of<'a>(text: &'a [u8], starts: &[u32], stand: Stand) -> &'a [u8]
+    ensures { λ r. ⌜ now r ≡ name (now (text .entry)) (now (starts .entry)) (stand .0) ⌝ }
+{
+    let Span { from, past } = name_span(text, starts, stand);
+    &text[from..past]
+}
+
+// What is left of a stand's name after a typed text: nothing, where it doesn't begin so.
+pub fn rest_of_name<'a>(text: &'a [u8], starts: &[u32], stand: Stand, typed: &[u8]) -> &'a [u8]
+    ensures { λ r. ⌜ Rest (now (text .entry)) (now (starts .entry)) (stand .0) (now (typed .entry)) (ptr (text .entry)) (now r) (ptr r) ⌝ }
+{
+    let Span { from, past } = name_span(text, starts, stand);
+    if begins(&text[from..past], typed) {
+        return &text[from + typed.len()..past];
+    }
+    &text[0..0]
+}
