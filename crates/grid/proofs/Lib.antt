@@ -9,4 +9,5 @@ pub mod Values
 pub mod Spans
 pub mod Rows
 pub mod Sets
+pub mod Listed
 pub mod Covers
