@@ -99,6 +99,20 @@ pub length-each : {A B : Type 0} (g : A → B) (l : List A) → length (each g l
 length-each g [] = refl
 length-each g (x ∷ l) = ap suc (length-each g l)
 
+pub each-take : {A B : Type 0} (g : A → B) (k : ℕ) (l : List A) → each g (take k l) ≡ take k (each g l)
+each-take g zero l = refl
+each-take g (suc k) [] = refl
+each-take {A} {B} g (suc k) (x ∷ l) = ap {B = List B} (λ r. g x ∷ r) (each-take g k l)
+
+pub each-each : {A B C : Type 0} (f : B → C) (g : A → B) (l : List A) → each f (each g l) ≡ each (λ x. f (g x)) l
+each-each f g [] = refl
+each-each {A} {B} {C} f g (x ∷ l) = ap {B = List C} (λ r. f (g x) ∷ r) (each-each f g l)
+
+-- maps that agree on the members of a list
+pub each-same : {A B : Type 0} (f g : A → B) (l : List A) → ((x : A) → In x l → f x ≡ g x) → each f l ≡ each g l
+each-same f g [] h = refl
+each-same f g (x ∷ l) h = rw (h x (inl refl), each-same f g l (λ y k. h y (inr k)))
+
 pub in-each : {A B : Type 0} (g : A → B) (l : List A) (y : B) → In y (each g l) → (x : A) × In x l × (y ≡ g x)
 in-each g [] y h = absurd h
 in-each g (x ∷ l) y (inl e) = (x, inl refl, e)

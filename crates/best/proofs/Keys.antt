@@ -1,0 +1,59 @@
+-- Keys stand for hits: a larger key is a better hit, a key gives back its value and stand, and the k largest keys are those of the k best hits.
+-- Assumes nothing.
+use mathlib.Core.Path.{_≡_, sym, ap, _∙_}
+use mathlib.Core.Logic.{⊎-elim}
+use mathlib.Core.Bool.{true, false}
+use mathlib.Core.List.{List}
+use Prim.Native.Nat.{ℕ, _≤_, _<_}
+use native.Mathlib.Omega.{arith}
+use lib.ListN.{take}
+use borrow.Author.Tests.{ltb-true, ltb-false, lt-ltb, le-ltb}
+use Rattle.base.specs.Lists.{In, each, sortBy}
+use Rattle.base.proofs.Tests.{which}
+use Rattle.base.proofs.Members.{each-take, each-each, each-same}
+use Rattle.base.proofs.Sorts.{Linear, wins, loses, each-sort}
+use Rattle.rules.specs.declared.Hit.{Hit}
+use Rattle.rules.specs.Questions.{better}
+use Rattle.best.specs.Keys.{keyOf, valueIn, standIn, larger}
+
+pub larger-linear : Linear larger
+larger-linear =
+    record {
+      ordering = record {
+        asym = λ a b e. le-ltb a b (omega (arith, ltb-true b a e));
+        trans = λ a b c e d. lt-ltb c a (omega (arith, ltb-true b a e, ltb-true c b d));
+        not-trans = λ a b c e d. le-ltb c a (omega (arith, ltb-false b a e, ltb-false c b d));
+      };
+      equal = λ a b e d. omega (arith, ltb-false b a e, ltb-false a b d);
+    }
+
+pub better-larger : (a b : Hit) → a .stand < 1024 → b .stand < 1024 → better a b ≡ larger (keyOf a) (keyOf b)
+better-larger a b h k =
+    ⊎-elim
+    (λ (e : better a b ≡ true).
+    e ∙ sym (lt-ltb (keyOf b) (keyOf a) (⊎-elim (λ l. omega arith) (λ w. omega arith) (wins (λ h. h .value) (λ h. h .stand) a b e))))
+    (λ (e : better a b ≡ false).
+    e ∙ sym (le-ltb (keyOf b) (keyOf a) (⊎-elim (λ l. omega arith) (λ w. omega arith) (loses (λ h. h .value) (λ h. h .stand) a b e))))
+    (which (better a b))
+
+pub value-in : (h : Hit) → h .stand < 1024 → valueIn (keyOf h) ≡ h .value
+value-in h l = omega arith
+
+pub stand-in : (h : Hit) → h .stand < 1024 → standIn (keyOf h) ≡ h .stand
+stand-in h l = omega arith
+
+-- no hit of at most this value and at least this stand number has a larger key
+pub key-most : (h most : Hit) → h .value ≤ most .value → most .stand ≤ h .stand → keyOf h ≤ keyOf most
+key-most h most v s = omega arith
+
+module _ (hits : List Hit) (below : (h : Hit) → In h hits → h .stand < 1024) where
+  pub best-keys : (k : ℕ) → each keyOf (take k (sortBy better hits)) ≡ take k (sortBy larger (each keyOf hits))
+  best-keys k =
+      each-take keyOf k (sortBy better hits)
+      ∙ ap (take k) (each-sort keyOf better larger hits (λ a b h k. better-larger a b (below a h) (below b k)))
+
+  pub keys-values : each valueIn (each keyOf hits) ≡ each (λ h. h .value) hits
+  keys-values = each-each valueIn keyOf hits ∙ each-same (λ h. valueIn (keyOf h)) (λ h. h .value) hits (λ h k. value-in h (below h k))
+
+  pub keys-stands : each standIn (each keyOf hits) ≡ each (λ h. h .stand) hits
+  keys-stands = each-each standIn keyOf hits ∙ each-same (λ h. standIn (keyOf h)) (λ h. h .stand) hits (λ h k. stand-in h (below h k))
