@@ -11,8 +11,8 @@ use lib.Dec.{eqb, eqb·zero-suc, eqb·suc-suc}
 use lib.ListN.{length, take, drop, getD, drop-of-length-le}
 use lib.Seq.{drop-cons}
 use borrow.Author.Tests.{eqb-true, eqb-false, eq-eqb, ne-eqb}
-use Rattle.base.specs.Lists.{begins, sameList, sharedLength}
-use Rattle.base.proofs.Tests.{which, and-parts}
+use Rattle.base.specs.Lists.{begins, sameList, sharedLength, In}
+use Rattle.base.proofs.Tests.{which, never, and-parts}
 
 pub begins-cases : (a b : ℕ) (p n : List ℕ) → begins (a ∷ p) (b ∷ n) ≡ true → (a ≡ b) × (begins p n ≡ true)
 begins-cases a b p n e = let t = and-parts (eqb a b) (begins p n) e in (eqb-true a b (t .0), t .1)
@@ -65,6 +65,13 @@ begins-is-take [] n h = refl
 begins-is-take (a ∷ p) [] h = absurd (false≢true h)
 begins-is-take (a ∷ p) (b ∷ n) h = let t = begins-cases a b p n h in cc (t .0, begins-is-take p n (t .1))
 
+-- element by element
+pub begins-at : (p n : List ℕ) (i d : ℕ) → begins p n ≡ true → i < length p → getD n i d ≡ getD p i d
+begins-at [] n i d h l = absurd (omega arith)
+begins-at (a ∷ p) [] i d h l = absurd (false≢true h)
+begins-at (a ∷ p) (b ∷ n) zero d h l = sym (begins-cases a b p n h .0)
+begins-at (a ∷ p) (b ∷ n) (suc i) d h l = begins-at p n i d (begins-cases a b p n h .1) (omega arith)
+
 pub begins-append : (p q : List ℕ) → begins p (p ++ q) ≡ true
 begins-append [] q = refl
 begins-append (a ∷ p) q = begins-same a a p (p ++ q) refl (begins-append p q)
@@ -78,6 +85,20 @@ same-true (a ∷ p) (b ∷ q) h = let t = and-parts (eqb a b) (sameList p q) h i
 pub same-refl : (p : List ℕ) → sameList p p ≡ true
 same-refl [] = refl
 same-refl (a ∷ p) = rw (eq-eqb a a refl, same-refl p)
+
+-- a list is a member of a list of lists, or it is not
+pub in-or-out : (p : List ℕ) (B : List (List ℕ)) → In p B ⊎ (In p B → ⊥)
+in-or-out p [] = inr (λ h. h)
+in-or-out p (q ∷ B) = step (which (sameList p q)) (in-or-out p B)
+  where
+    neither : sameList p q ≡ false → (In p B → ⊥) → In p (q ∷ B) → ⊥
+    neither e h (inl s) = never (sameList p q) (rw s (same-refl q)) e
+    neither e h (inr k) = h k
+
+    step : (sameList p q ≡ true) ⊎ (sameList p q ≡ false) → In p B ⊎ (In p B → ⊥) → In p (q ∷ B) ⊎ (In p (q ∷ B) → ⊥)
+    step (inl e) r = inl (inl (same-true p q e))
+    step (inr e) (inl k) = inl (inr k)
+    step (inr e) (inr h) = inr (neither e h)
 
 pub record Sharing (a b : List ℕ) (i : ℕ) : Type 0 where
   pub within : i ≤ length a

@@ -5,6 +5,7 @@ pub mod Members
 pub mod Runs
 pub mod Begins
 pub mod Words
+pub mod Lowest
 pub mod Shuffles
 pub mod Sorts
 pub mod Machine

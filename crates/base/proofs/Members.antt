@@ -78,6 +78,15 @@ module _ {A : Type 0} (f : A → Bool) where
       step (inl q) r = rw (q, r)
       step (inr q) r = rw (q, r)
 
+-- tests that agree on the members keep the same
+pub keep-same : {A : Type 0} (f g : A → Bool) (l : List A) → ((x : A) → In x l → f x ≡ g x) → keep f l ≡ keep g l
+keep-same f g [] h = refl
+keep-same f g (x ∷ l) h = step (which (g x)) (keep-same f g l (λ y k. h y (inr k)))
+  where
+    step : (g x ≡ true) ⊎ (g x ≡ false) → keep f l ≡ keep g l → keep f (x ∷ l) ≡ keep g (x ∷ l)
+    step (inl q) r = let e : f x ≡ true = h x (inl refl) ∙ q in simp (e, q, r)
+    step (inr q) r = let e : f x ≡ false = h x (inl refl) ∙ q in simp (e, q, r)
+
 pub keep-each : {A B : Type 0} (f : B → Bool) (g : A → B) (l : List A) → keep f (each g l) ≡ each g (keep (λ x. f (g x)) l)
 keep-each f g [] = refl
 keep-each f g (x ∷ l) = step (which (f (g x))) (keep-each f g l)

@@ -1,4 +1,4 @@
--- Laws of the letter tree and of the words of an index. Meaning has the theorems for a reader of the rules.
+-- Laws of the letter tree and of the words of an index. Meaning has the one theorem for a reader of the rules.
 pub mod Blocks
 pub mod Fresh
 pub mod Tree
@@ -9,4 +9,8 @@ pub mod Walking
 pub mod Regions
 pub mod Words
 pub mod Sizes
+pub mod Listing
+pub mod Entries
+pub mod NodeWords
+pub mod Ranking
 pub mod Meaning

@@ -26,8 +26,8 @@ use Rattle.rules.proofs.Orders.{begins-order}
 use Rattle.trie.specs.Trees.{Sorted}
 use Rattle.trie.specs.Adding.{nodesBefore}
 use Rattle.trie.specs.Meaning.{SizesBounded}
-use Rattle.trie.proofs.Tables.{beginnings-tree, in-under}
-use Rattle.trie.proofs.Words.{entries-counted}
+use Rattle.trie.proofs.Tables.{beginnings-tree, root-first, in-under}
+use Rattle.trie.proofs.Words.{nodes-length, entries-counted, entry-words-length}
 use Rattle.trie.proofs.Adding.{nodes-step, nodes-all}
 use Rattle.trie.proofs.Regions.{by-region-shuffle}
 
@@ -97,6 +97,14 @@ module _ (t : Table) (g : Grid) (l : LawfulTable t g) where
   pub sizes-bounded : SizesBounded t g
   sizes-bounded =
       let nodes : nodeCount t ≤ 24 * stands t + 1 = rw (sym (nodes-all t)) (nodes-few (stands t) (omega arith)) in
-      let entries : entryCount t g ≤ 25 * stands t =
-      omega (arith, entries-counted t g (beginnings t), total-less (λ p. length (regionsUnder t g p)) (λ p. length (under t p)) (beginnings t) (λ p h. regions-few p), pairs-few) in
-      record { nodes = nodes; entries = entries; nodes-most = omega (arith, l .shaped .few); entries-most = omega (arith, l .shaped .few) }
+      let held = total-less (λ p. length (regionsUnder t g p)) (λ p. length (under t p)) (beginnings t) (λ p h. regions-few p) in
+      let entries : entryCount t g ≤ 25 * stands t = omega (arith, entries-counted t g (beginnings t), pairs-few) in
+      record {
+        node-words = nodes-length t g;
+        entry-words = entry-words-length t g;
+        nodes = nodes;
+        entries = entries;
+        nodes-most = omega (arith, l .shaped .few);
+        entries-most = omega (arith, l .shaped .few);
+        lone = λ e. (omega (arith, root-first t .0), omega arith);
+      }

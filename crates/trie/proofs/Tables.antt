@@ -14,9 +14,9 @@ use Rattle.base.proofs.Members.{in-each, each-in, keep-in, in-keep, keep-every}
 use Rattle.base.proofs.Runs.{in-from, from-in}
 use Rattle.rules.specs.Tables.{Table, stands, nameOf, Ordered}
 use Rattle.rules.specs.Questions.{under}
-use Rattle.rules.specs.Indexes.{newAt, beginnings, pastOf}
+use Rattle.rules.specs.Indexes.{newAt, beginnings, nodeCount, pastOf}
 use Rattle.rules.proofs.Orders.{rising}
-use Rattle.trie.specs.Trees.{Tree, namesOf, trieFrom, trieOf, Chain}
+use Rattle.trie.specs.Trees.{Tree, textOf, namesOf, trieFrom, trieOf, Chain}
 use Rattle.trie.proofs.Blocks.{block-run, block-in, block-out}
 use Rattle.trie.proofs.Fresh.{fresh-all}
 use Rattle.trie.proofs.Tree.{Beginning, tree-member, tree-every, tree-of}
@@ -67,7 +67,12 @@ module _ (t : Table) where
           let r = in-from 0 (stands t) (s .0) (s .1) in
           inr (s .0, omega arith, rw (s .2) at v)
 
-  -- the root's subtree is the whole tree
+  -- the root is there
+  pub root-first : (0 < nodeCount t) × (textOf t 0 ≡ [])
+  unfolding beginnings
+  root-first = (omega arith, refl)
+
+  -- and its subtree is the whole tree
   pub past-root : pastOf (beginnings t) 0 ≡ length (beginnings t)
   unfolding beginnings
   past-root = omega (arith, ap length (keep-every (begins []) (beginnings t) (λ x h. refl)))

@@ -3,10 +3,11 @@
 use mathlib.Core.Path.{_≡_}
 use mathlib.Core.Logic.{_⊎_}
 use mathlib.Core.Bool.{true}
-use mathlib.Core.List.{List, []}
+use mathlib.Core.List.{List, [], _∷_, _++_}
 use Prim.Native.Nat.{ℕ, _+_, _-_, _*_, _≤_, _<_, min}
 use lib.ListN.{length, take, drop, getD}
 use Rattle.base.specs.Lists.{keep, begins, In}
+use Rattle.base.specs.Bits.{bitAt}
 use Rattle.rules.specs.declared.Grid.{Grid}
 use Rattle.rules.specs.declared.Rect.{Rect}
 use Rattle.rules.specs.declared.Ranking.{Ranking}
@@ -14,13 +15,23 @@ use Rattle.rules.specs.declared.Hit.{Hit}
 use Rattle.rules.specs.Places.{inRect}
 use Rattle.rules.specs.Tables.{Table, stands, nameOf, placeOf, scoreOf}
 use Rattle.rules.specs.Questions.{under, regionOfStand, inRegion, rangeList, hitOf, rankedList}
-use Rattle.rules.specs.Indexes.{orderWords, beginnings, nodeCount, numberIn, lastByte, butLast, pastOf, Entry, entriesOf, entryCount}
+use Rattle.rules.specs.Indexes.{orderWords, beginnings, nodeCount, numberIn, lastByte, butLast, pastOf, nodeWords, Entry, entriesOf, entryRow, entryWords, entryCount}
+use Rattle.rules.specs.Sessions.{nodeOr0}
 use Rattle.trie.specs.Trees.{Child, OnWay, textOf}
 
 -- a stand of the table whose name begins with the text p
 pub record StandUnder (t : Table) (p : List ℕ) (i : ℕ) : Type 0 where
   pub stand : i < stands t
   pub named : begins p (nameOf t i) ≡ true
+
+-- the stands under a text, by number
+pub record UnderMeans (t : Table) (p : List ℕ) : Type 0 where
+  -- each is in the list
+  pub every : (i : ℕ) → StandUnder t p i → In i (under t p)
+  -- and nothing else is
+  pub only : (i : ℕ) → In i (under t p) → StandUnder t p i
+  -- the numbers rise
+  pub inTurn : (a b : ℕ) → a < b → b < length (under t p) → getD (under t p) a 0 < getD (under t p) b 0
 
 -- ---- the beginnings are the nodes of the letter tree, in pre-order, children by rising byte
 
@@ -47,6 +58,13 @@ pub record BeginningsMean (t : Table) : Type 0 where
   pub parents : (j c : ℕ) → j < nodeCount t → Child (beginnings t) j c → numberIn (butLast (textOf t c)) (beginnings t) ≡ j
   -- of two children of a node the one with the smaller number has the smaller last byte
   pub children : (j c k : ℕ) → j < nodeCount t → Child (beginnings t) j c → Child (beginnings t) j k → c < k → lastByte (textOf t c) < lastByte (textOf t k)
+
+-- the node of a typed text, as a session's path has it
+pub record NodeMeans (t : Table) (p : List ℕ) : Type 0 where
+  -- a text that begins a name has the node with that text
+  pub found : (i : ℕ) → StandUnder t p i → (nodeOr0 t p < nodeCount t) × (textOf t (nodeOr0 t p) ≡ p)
+  -- any other has none, which is told by 0
+  pub missing : 0 < length p → ((i : ℕ) → StandUnder t p i → ⊥) → nodeOr0 t p ≡ 0
 
 -- ---- lists of stands by region, then by number
 
@@ -99,6 +117,33 @@ pub record EntriesMean (t : Table) (g : Grid) (p : List ℕ) : Type 0 where
   pub inTurn : (a b : ℕ) → a < b → b < length (entriesOf t g p)
       → (entryAt t g p b .score < entryAt t g p a .score) ⊎ ((entryAt t g p a .score ≡ entryAt t g p b .score) × (entryAt t g p a .region < entryAt t g p b .region))
 
+-- ---- the eight words of a node
+
+-- a stand under p lies in region r
+abbrev pub RegionHeld : Table → Grid → List ℕ → ℕ → Type 0
+RegionHeld t g p r = (i : ℕ) × StandUnder t p i × (regionOfStand g t i ≡ r)
+
+-- of node j, where w 0 to w 7 are its words
+pub record RowMeans (t : Table) (g : Grid) (j : ℕ) (w : ℕ → ℕ) : Type 0 where
+  -- parent and last byte: 0 for the root
+  pub root : j ≡ 0 → (w 0 ≡ 0) × (w 1 ≡ 0)
+  -- any other node's text is its parent's and the last byte
+  pub parent : 0 < j → (w 0 < j) × (textOf t j ≡ textOf t (w 0) ++ (w 1 ∷ []))
+  -- the stands under the node are those from the first stand number on, short of the one past the last
+  pub stands-in : (i : ℕ) → StandUnder t (textOf t j) i → (w 2 ≤ i) × (i < w 3)
+  pub stands-only : (i : ℕ) → w 2 ≤ i → i < w 3 → StandUnder t (textOf t j) i
+  -- the nodes whose text begins with the node's are those from it on, short of the number past the subtree
+  pub nodes-in : (i : ℕ) → i < nodeCount t → begins (textOf t j) (textOf t i) ≡ true → (j ≤ i) × (i < w 4)
+  pub nodes-only : (i : ℕ) → j ≤ i → i < w 4 → (i < nodeCount t) × (begins (textOf t j) (textOf t i) ≡ true)
+  -- bit r is 1 exactly if region r, or region 32 + r, holds a stand under the node
+  pub low-held : (r : ℕ) → r < 32 → bitAt (w 5) r ≡ true → RegionHeld t g (textOf t j) r
+  pub held-low : (r : ℕ) → r < 32 → RegionHeld t g (textOf t j) r → bitAt (w 5) r ≡ true
+  pub high-held : (r : ℕ) → r < 32 → bitAt (w 6) r ≡ true → RegionHeld t g (textOf t j) (32 + r)
+  pub held-high : (r : ℕ) → r < 32 → RegionHeld t g (textOf t j) (32 + r) → bitAt (w 6) r ≡ true
+  -- the node's entries stand in the entry words from the number of its first entry on, four words each
+  pub entries : (e k : ℕ) → e < length (entriesOf t g (textOf t j)) → k < 4
+      → getD (entryWords t g) ((w 7 + e) * 4 + k) 0 ≡ getD (entryRow (entryAt t g (textOf t j) e)) k 0
+
 -- ---- a ranked answer
 
 -- a larger value is better; of equal values the smaller stand number
@@ -126,19 +171,29 @@ pub record RankedMeans (t : Table) (g : Grid) (p : List ℕ) (q : Ranking) : Typ
 -- ---- how large an index gets
 
 pub record SizesBounded (t : Table) (g : Grid) : Type 0 where
+  -- eight words for a node, four for an entry
+  pub node-words : length (nodeWords t g) ≡ nodeCount t * 8
+  pub entry-words : length (entryWords t g) ≡ entryCount t g * 4
   -- a root, and for each stand at most a node for each byte of its name
   pub nodes : nodeCount t ≤ 24 * stands t + 1
   -- each node has at most an entry for each stand under it, and a stand is under at most 25 nodes
   pub entries : entryCount t g ≤ 25 * stands t
+  -- for 1,024 stands
   pub nodes-most : nodeCount t ≤ 24577
   pub entries-most : entryCount t g ≤ 25600
+  -- and for none there is the root, without an entry
+  pub lone : stands t ≡ 0 → (nodeCount t ≡ 1) × (entryCount t g ≡ 0)
 
 -- ---- all of it
 
 pub record TableMeans (t : Table) (g : Grid) : Type 0 where
+  pub stands-under : (p : List ℕ) → UnderMeans t p
   pub tree : BeginningsMean t
+  pub nodes : (p : List ℕ) → NodeMeans t p
   pub order : OrderMeans t g
   pub entries : (p : List ℕ) → EntriesMean t g p
+  -- a node's words stand at eight times its number
+  pub rows : (j : ℕ) → j < nodeCount t → RowMeans t g j (λ k. getD (nodeWords t g) (j * 8 + k) 0)
   pub range : (p : List ℕ) (r : Rect) → RangeMeans t g p r
   pub ranked : (p : List ℕ) (q : Ranking) → RankedMeans t g p q
   pub sizes : SizesBounded t g

@@ -1,0 +1,79 @@
+-- The eight words of a node, where they stand in the node words, mean what the rules say.
+-- Assumes nothing.
+use mathlib.Core.Path.{_≡_, sym, ap, _∙_, subst}
+use mathlib.Core.Bool.{true}
+use mathlib.Core.List.{List, [], _∷_, _++_}
+use Prim.Native.Nat.{ℕ, _+_, _*_, _<_}
+use native.Mathlib.Omega.{arith}
+use native.Mathlib.Nat.{zero-add}
+use lib.Dec.{lit<}
+use lib.ListN.{getD}
+use Rattle.base.specs.Bits.{wordOf, bitAt}
+use Rattle.base.proofs.Words.{bit-asks}
+use Rattle.rules.specs.declared.Grid.{Grid}
+use Rattle.rules.specs.Tables.{Table, Ordered}
+use Rattle.rules.specs.Indexes.{beginnings, nodeCount, numberIn, lastByte, butLast, occupied, nodeRow, nodeWords, entryWords}
+use Rattle.trie.specs.Trees.{Tree, textOf}
+use Rattle.trie.specs.Meaning.{noEntry, RegionHeld, RowMeans}
+use Rattle.trie.proofs.Tree.{number-at}
+use Rattle.trie.proofs.Children.{subtree-in, subtree-only, child-text, parent-child}
+use Rattle.trie.proofs.Tables.{beginnings-tree, root-first, under-from, under-only}
+use Rattle.trie.proofs.Words.{node-word, entries-length, entry-word}
+use Rattle.trie.proofs.Listing.{occupied-held, held-occupied}
+
+module _ (t : Table) (g : Grid) (o : Ordered t) (j : ℕ) (lt : j < nodeCount t) where
+  abbrev B : List (List ℕ)
+  B = beginnings t
+
+  abbrev p : List ℕ
+  p = textOf t j
+
+  tree : Tree B
+  tree = beginnings-tree t o
+
+  -- for words that are those of the definition
+  module _ (w : ℕ → ℕ) (same : (k : ℕ) → k < 8 → w k ≡ getD (nodeRow t g j) k 0) where
+    root : j ≡ 0 → (w 0 ≡ 0) × (w 1 ≡ 0)
+    root e =
+        let empty : p ≡ [] = ap (textOf t) e ∙ root-first t .1 in
+        let first : numberIn [] B ≡ 0 = ap (λ (q : List ℕ). numberIn q B) (sym (root-first t .1)) ∙ number-at B (tree .sorted) 0 (root-first t .0) in
+        (same 0 (lit< tt) ∙ ap (λ (q : List ℕ). numberIn (butLast q) B) empty ∙ first, same 1 (lit< tt) ∙ ap lastByte empty)
+
+    parent : 0 < j → (w 0 < j) × (p ≡ textOf t (w 0) ++ (w 1 ∷ []))
+    parent h =
+        let c = parent-child B tree j h lt in
+        rw (same 0 (lit< tt), same 1 (lit< tt)) (c .1, child-text B tree (numberIn (butLast p) B) (omega arith) j (c .0))
+
+    -- bit r of a word of bits asks whether the region is occupied
+    module _ (k base : ℕ) (bits : w k ≡ wordOf (occupied t g p) base 32) (r : ℕ) (h : r < 32) where
+      asks : bitAt (w k) r ≡ occupied t g p (base + r)
+      asks = ap (λ (v : ℕ). bitAt v r) bits ∙ bit-asks (occupied t g p) base 32 r h
+
+      bit-held : bitAt (w k) r ≡ true → RegionHeld t g p (base + r)
+      bit-held b = occupied-held t g p (base + r) (sym asks ∙ b)
+
+      held-bit : RegionHeld t g p (base + r) → bitAt (w k) r ≡ true
+      held-bit u = asks ∙ held-occupied t g p (base + r) u
+
+    row-of : RowMeans t g j w
+    row-of =
+        record {
+          root = root;
+          parent = parent;
+          stands-in = λ i u. rw (same 2 (lit< tt), same 3 (lit< tt)) (under-from t o p i (u .stand) (u .named));
+          stands-only = λ i a b.
+              let s = under-only t o p i (omega (arith, same 2 (lit< tt))) (omega (arith, same 3 (lit< tt))) in
+              record { stand = s .0; named = s .1 };
+          nodes-in = λ i h b. rw (same 4 (lit< tt)) (subtree-in B (tree .sorted) j lt i h b);
+          nodes-only = λ i a b. subtree-only B (tree .sorted) j lt i a (omega (arith, same 4 (lit< tt)));
+          low-held = λ r h b. subst (RegionHeld t g p) (zero-add r) (bit-held 5 0 (same 5 (lit< tt)) r h b);
+          held-low = λ r h u. held-bit 5 0 (same 5 (lit< tt)) r h (subst (RegionHeld t g p) (sym (zero-add r)) u);
+          high-held = bit-held 6 32 (same 6 (lit< tt));
+          held-high = held-bit 6 32 (same 6 (lit< tt));
+          entries = λ e k a b.
+              let here = entry-word t g noEntry j e k lt (omega (arith, entries-length t g p)) b in
+              ap (λ (v : ℕ). getD (entryWords t g) ((v + e) * 4 + k) 0) (same 7 (lit< tt)) ∙ here;
+        }
+
+  pub row-means : RowMeans t g j (λ k. getD (nodeWords t g) (j * 8 + k) 0)
+  row-means = row-of (λ k. getD (nodeWords t g) (j * 8 + k) 0) (λ k h. node-word t g j k lt h)

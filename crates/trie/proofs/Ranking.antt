@@ -1,0 +1,68 @@
+-- A ranked answer means what the rules say: the best k stands under the text, best first.
+-- Assumes nothing.
+use mathlib.Core.Path.{_≡_, sym, ap, _∙_, subst}
+use mathlib.Core.Logic.{_⊎_, inl, inr}
+use mathlib.Core.List.{List, _++_}
+use Prim.Native.Nat.{ℕ, min}
+use native.Mathlib.Omega.{arith}
+use lib.ListN.{take, drop, length-take, take-append-drop}
+use Rattle.base.specs.Lists.{each, sortBy, In, Pairwise}
+use Rattle.base.proofs.Members.{in-either, length-each, in-each, each-in, in-take}
+use Rattle.base.proofs.Shuffles.{shuffle-sym, shuffle-in, sort-shuffle}
+use Rattle.base.proofs.Sorts.{length-sort}
+use Rattle.base.proofs.Pairs.{pairs-seam, pairs-take, pairs-at, pairs-each, pairs-weaken, Distinct, distinct-once, distinct-sort, Less, sort-wins}
+use Rattle.rules.specs.declared.Grid.{Grid}
+use Rattle.rules.specs.declared.Ranking.{Ranking}
+use Rattle.rules.specs.declared.Hit.{Hit}
+use Rattle.rules.specs.Tables.{Table}
+use Rattle.rules.specs.Questions.{under, better, hitOf}
+use Rattle.trie.specs.Meaning.{StandUnder, Better, noHit, RankedMeans}
+use Rattle.trie.proofs.Listing.{under-rises, stand-under, under-stand}
+
+module _ (t : Table) (g : Grid) (p : List ℕ) (q : Ranking) where
+  hits : List Hit
+  hits = each (hitOf t g q) (under t p)
+
+  sorted : List Hit
+  sorted = sortBy better hits
+
+  stands-differ : Distinct (λ h. h .stand) hits
+  unfolding hits
+  stands-differ =
+      pairs-each (λ h k. h .stand ≡ k .stand → ⊥) (hitOf t g q) (under t p)
+      (pairs-weaken Less (λ i j. i ≡ j → ⊥) (under t p) (λ i j u v h e. omega arith) (under-rises t p))
+
+  hits-turn : Pairwise Better sorted
+  unfolding sorted
+  hits-turn = sort-wins (λ h. h .value) (λ h. h .stand) hits stands-differ
+
+  left-out : (h : Hit) → In h (take (q .k) sorted) → (i : ℕ) → StandUnder t p i → (In (hitOf t g q i) (take (q .k) sorted) → ⊥) → Better h (hitOf t g q i)
+  unfolding hits sorted
+  left-out h k i u out = step (in-either (hitOf t g q i) (take (q .k) sorted) (drop (q .k) sorted) there)
+    where
+      parts : sorted ≡ take (q .k) sorted ++ drop (q .k) sorted
+      parts = sym (take-append-drop (q .k) sorted)
+
+      there : In (hitOf t g q i) (take (q .k) sorted ++ drop (q .k) sorted)
+      there =
+          subst (λ (l : List Hit). In (hitOf t g q i) l) parts
+          (shuffle-in (shuffle-sym (sort-shuffle better hits)) (hitOf t g q i) (each-in (hitOf t g q) (under t p) i (under-stand t p i u)))
+
+      step : In (hitOf t g q i) (take (q .k) sorted) ⊎ In (hitOf t g q i) (drop (q .k) sorted) → Better h (hitOf t g q i)
+      step (inl m) = absurd (out m)
+      step (inr m) = pairs-seam Better (take (q .k) sorted) (drop (q .k) sorted) (subst (Pairwise Better) parts hits-turn) h (hitOf t g q i) k m
+
+  pub ranked-means : RankedMeans t g p q
+  unfolding hits sorted
+  ranked-means =
+      record {
+        many = length-take (q .k) sorted ∙ ap (min (q .k)) (length-sort better hits ∙ length-each (hitOf t g q) (under t p));
+        only = λ h k.
+            let s = in-each (hitOf t g q) (under t p) h (shuffle-in (sort-shuffle better hits) h (in-take (q .k) sorted h k)) in
+            (s .0, stand-under t p (s .0) (s .1), s .2);
+        once =
+            distinct-once (λ h. h .stand) noHit (take (q .k) sorted)
+            (pairs-take (λ h k. h .stand ≡ k .stand → ⊥) (q .k) sorted (distinct-sort (λ h. h .stand) better hits stands-differ));
+        inTurn = pairs-at Better noHit (take (q .k) sorted) (pairs-take Better (q .k) sorted hits-turn);
+        best = left-out;
+      }

@@ -1,0 +1,66 @@
+// From a text to its node, by the nodes' words. The words may be anything: a walk always ends and reads nothing outside them.
+// Where they are what building writes, the node found is the text's.
+ghost use mathlib.Core.Path.{_≡_};
+ghost use Rattle.walk.specs.Walks.{childIn, nodeIn};
+use rules::Node;
+
+// How many words a node has, and which of them, counted from 0, are its last byte and the number past its subtree.
+const WORDS: usize = 8;
+
+const LAST_BYTE: usize = 1;
+
+const PAST: usize = 4;
+
+// Where a walk comes to.
+pub enum Child {
+    At(Node),
+    // There is no such node.
+    Nowhere,
+    // These are not the words of a tree.
+    Broken,
+}
+
+// The child of a node with this last byte. A node's first child comes right after it, and the next one past that one's subtree.
+pub fn child_of(nodes: &[u32], above: Node, byte: u8) -> Child
+    ensures { λ r. ⌜ r ≡ childIn (now (nodes .entry)) (above .0) byte ⌝ }
+{
+    let all = nodes.len() / WORDS;
+    let p = above.0 as usize;
+    if all <= p {
+        return Child::Broken;
+    }
+    let past = nodes[p * WORDS + PAST] as usize;
+    if all < past {
+        return Child::Broken;
+    }
+    let wanted = byte as u32;
+    let mut c = p + 1;
+    while c < past {
+        if nodes[c * WORDS + LAST_BYTE] == wanted {
+            return Child::At(Node(c as u32));
+        }
+        let next = nodes[c * WORDS + PAST] as usize;
+        if next <= c {
+            return Child::Broken;
+        }
+        c = next;
+    }
+    Child::Nowhere
+}
+
+// The node of a typed text, from the root letter by letter.
+pub fn node_of(nodes: &[u32], typed: &[u8]) -> Child
+    ensures { λ r. ⌜ r ≡ nodeIn (now (nodes .entry)) (now (typed .entry)) ⌝ }
+{
+    let mut at = Node(0);
+    let mut i = 0;
+    while i < typed.len() {
+        match child_of(nodes, at, typed[i]) {
+            Child::At(below) => at = below,
+            Child::Nowhere => return Child::Nowhere,
+            Child::Broken => return Child::Broken,
+        }
+        i += 1;
+    }
+    Child::At(at)
+}
