@@ -3,12 +3,11 @@
 use mathlib.Core.Path.{_≡_}
 use mathlib.Core.Bool.{Bool, true, false, cond, _&&_}
 use mathlib.Core.List.{List, [], _∷_}
-use Prim.Native.Nat.{ℕ, zero, suc, _+_, _-_, _*_, _/_, _≤_}
+use Prim.Native.Nat.{ℕ, zero, suc, _-_, _*_, _+_, _/_, _≤_}
 use lib.IntN.{ℤ}
 use lib.Dec.{ltb, leb}
 use lib.ListN.{length, take, getD}
 use lib.Seq.{slice}
-use lib.Count.{ones}
 use Rattle.base.specs.Lists.{every, each, insertBy, written}
 use Rattle.rules.specs.declared.Grid.{Grid}
 use Rattle.rules.specs.declared.Ranking.{Ranking}
@@ -19,6 +18,10 @@ use Rattle.rules.specs.Places.{gridLawful, inGrid}
 use Rattle.rules.specs.Worth.{valueOf, boundOf}
 use Rattle.rules.specs.Tables.{placeIn}
 use Rattle.rules.specs.Questions.{rankingLawful}
+use Rattle.grid.specs.Cells.{regionsIn}
+use Rattle.walk.specs.declared.listing.Listing.{Listing}
+use Rattle.walk.specs.declared.listing.Listing.the-variants as listing
+use Rattle.walk.specs.Listings.{listingIn}
 use Rattle.best.specs.Keys.{keyOf, valueIn, standIn, larger}
 use Rattle.best.specs.Holds.{Holds}
 use Rattle.ranked.specs.declared.Kept.{Kept}
@@ -114,12 +117,13 @@ entriesTaken c g q order entries (suc n) e held =
     (andThen (entryTaken c g q order (entryIn entries e) held) (λ more. entriesTaken c g q order entries n (suc e) more))
     broken
 
--- all of node j's, of which it has one for each region bit
-unfoldable pub bestUnder : Columns → Grid → Ranking → List ℕ → List ℕ → List ℕ → ℕ → Search
-bestUnder c g q order nodes entries j =
-    cond (ltb j (length nodes / 8))
-    (entriesTaken c g q order entries (ones (getD nodes (j * 8 + 5) 0) + ones (getD nodes (j * 8 + 6) 0)) (getD nodes (j * 8 + 7) 0) [])
-    broken
+-- all that a node lists
+abbrev pub listedTaken : Columns → Grid → Ranking → List ℕ → List ℕ → Listing → Search
+listedTaken c g q order entries (listing.Entries regions first) = entriesTaken c g q order entries (length (regionsIn regions)) first []
+listedTaken c g q order entries listing.Broken = broken
+
+abbrev pub bestUnder : Columns → Grid → Ranking → List ℕ → List ℕ → List ℕ → ℕ → Search
+bestUnder c g q order nodes entries j = listedTaken c g q order entries (listingIn nodes j)
 
 -- ---- what the calls promise
 

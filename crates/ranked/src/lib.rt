@@ -19,6 +19,8 @@ use rules::Node;
 use rules::RankedAnswer;
 use rules::Ranking;
 use rules::Refusal;
+use walk::listing::Listing;
+use walk::listing::listing_of;
 
 // How many keys are held after a step of the search.
 pub enum Kept {
@@ -26,15 +28,6 @@ pub enum Kept {
     // These are not the words of an index.
     Broken,
 }
-
-// How many words a node has, and which of them, counted from 0, are its region bits and the number of its first entry.
-const NODE_WORDS: usize = 8;
-
-const REGIONS_LOW: usize = 5;
-
-const REGIONS_HIGH: usize = 6;
-
-const FIRST_ENTRY: usize = 7;
 
 // The stands and values of the len keys held, best first; the rest of the rooms stays.
 fn write_held(held: &Held, len: usize, found: &mut [u32], values: &mut [u64])
@@ -50,7 +43,7 @@ fn write_held(held: &Held, len: usize, found: &mut [u32], values: &mut [u64])
     }
 }
 
-// The k best stands under a node. It has an entry for each of its region bits.
+// The k best stands under a node, best first.
 pub fn best_under(
     east: &[i32],
     north: &[i32],
@@ -67,14 +60,9 @@ pub fn best_under(
     requires { ⌜ (Asks grid asked) × (asked .k ≤ length (now found)) × (asked .k ≤ length (now values)) ⌝ }
     ensures { λ r. ⌜ Answered (bestUnder (columns (now (east .entry)) (now (north .entry)) (now (score .entry))) grid asked (now (order .entry)) (now (nodes .entry)) (now (entries .entry)) (node .0)) (asked .k) r (now (found .entry)) (now (values .entry)) (now (found .exit)) (now (values .exit)) ⌝ }
 {
-    let j = node.0 as usize;
-    if nodes.len() / NODE_WORDS <= j {
+    let Listing::Entries(regions, first) = listing_of(nodes, node) else {
         return RankedAnswer::Refused(Refusal::NotLawful);
-    }
-    let at = j * NODE_WORDS;
-    let count = u32::count_ones(nodes[at + REGIONS_LOW])
-        + u32::count_ones(nodes[at + REGIONS_HIGH]);
-    let first = nodes[at + FIRST_ENTRY];
+    };
     let mut held: Held = [0; Ranking::K_MOST as usize];
     match take_entries(
         east,
@@ -84,7 +72,7 @@ pub fn best_under(
         order,
         entries,
         first,
-        count,
+        regions.count(),
         asked,
         &mut held,
     ) {

@@ -4,6 +4,8 @@ ghost use mathlib.Core.Path.{_≡_};
 ghost use Rattle.walk.specs.Walks.{childIn, nodeIn};
 use rules::Node;
 
+pub mod listing;
+
 // How many words a node has, and which of them, counted from 0, are its last byte and the number past its subtree.
 const WORDS: usize = 8;
 

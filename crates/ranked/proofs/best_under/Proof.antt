@@ -1,53 +1,26 @@
 -- `ranked::best_under` meets its contract: its ways out are the laws of proofs/Answering.antt. Assumes nothing.
 use borrow.Author.Needs.{needs}
 use native.Mathlib.Omega.{arith}
-use Prim.Native.Nat.{_+_, _*_}
-use Rattle.ranked.proofs.Asking.{few-asked}
+use mathlib.Core.Path.{sym, _∙_}
 use Rattle.ranked.proofs.Keeping.{held-is}
-use Rattle.ranked.proofs.Answering.{few-bits, no-node, broken-words, found-best}
+use Rattle.ranked.proofs.Answering.{no-node, broken-words, found-best}
 use Rattle.ranked.proofs.best_under.Statement.{statement}
 use Rattle.ranked.proofs.best_under.Tie as tie
 
-cast-j : tie.Need-cast-j
-cast-j c = search needs
+listing-of-requires : tie.Need-listing-of-requires
+listing-of-requires c κs = search needs
+
+enum-known-regions : tie.Need-enum-known-regions
+enum-known-regions c = search needs
+
+enum-told : tie.Need-enum-told
+enum-told c = search needs
 
 returns : tie.Need-returns
-returns c = no-node _ _ _ _ _ _ _ _ _ (c .if1 .taken)
+returns c = no-node _ _ _ _ _ _ _ _ (sym (c .before .before .listing-of .ensures) ∙ c .enum-told .given .1)
 
-mul-at : tie.Need-mul-at
-mul-at c = search needs
-
-add-count : tie.Need-add-count
-add-count c = search needs
-
-mul-count : tie.Need-mul-count
-mul-count c = search needs
-
-shared-slice-read-count : tie.Need-shared-slice-read-count
-shared-slice-read-count c = search needs
-
-add-count-2 : tie.Need-add-count-2
-add-count-2 c = search needs
-
-mul-count-2 : tie.Need-mul-count-2
-mul-count-2 c = search needs
-
-shared-slice-read-count-2 : tie.Need-shared-slice-read-count-2
-shared-slice-read-count-2 c = search needs
-
-add-count-3 : tie.Need-add-count-3
-add-count-3 c =
-    let at = c .before .before .before .before .before .before .before .before .before .before .args .node .0 * 8 in
-    few-bits _ _ (omega (arith, c .before .shared-slice-known5 .given (at + 5))) (omega (arith, c .shared-slice-known6 .given (at + 6)))
-
-add-first : tie.Need-add-first
-add-first c = search needs
-
-mul-first : tie.Need-mul-first
-mul-first c = search needs
-
-shared-slice-read-first : tie.Need-shared-slice-read-first
-shared-slice-read-first c = search needs
+count-requires : tie.Need-count-requires
+count-requires c κs = search needs
 
 take-entries-requires : tie.Need-take-entries-requires
 take-entries-requires c κs = search needs
@@ -61,11 +34,11 @@ write-held-requires c κs =
     let p = c .before .before .before .before .before .before .before .before .before .before .before .before .before .before .before .before .before .before .before .pre in
     (h .size, omega (arith, h .within, h .fits), omega (arith, h .within, p .1), omega (arith, h .within, p .2))
 
-cast-t40 : tie.Need-cast-t40
-cast-t40 c = let h = held-is _ _ _ _ (c .before .before .before .before .before .before .before .before .before .before .before .take-entries .ensures) _ (c .before .before .before .before .before .before .before .before .before .len .given .1) .1 in omega (arith, h .within, h .fits)
+cast-t28 : tie.Need-cast-t28
+cast-t28 c = let h = held-is _ _ _ _ (c .before .before .before .before .before .before .before .before .before .before .before .take-entries .ensures) _ (c .before .before .before .before .before .before .before .before .before .len .given .1) .1 in omega (arith, h .within, h .fits)
 
-enum-told : tie.Need-enum-told
-enum-told c = search needs
+enum-told-2 : tie.Need-enum-told-2
+enum-told-2 c = search needs
 
 same-length : tie.Need-same-length
 same-length c = search needs
@@ -74,33 +47,29 @@ same-length-2 : tie.Need-same-length-2
 same-length-2 c = search needs
 
 returns-2 : tie.Need-returns-2
-returns-2 c = found-best _ _ _ _ _ _ _ _ _ (c .before .before .before .before .before .before .before .before .before .before .before .before .before .before .before .before .if1 .left) _ _ (c .before .before .before .before .before .before .before .before .before .before .before .take-entries .ensures) _ _ _ (c .before .before .before .before .before .before .before .before .before .len .given .1) (c .before .before .before .before .write-held .ensures)
+returns-2 c =
+    found-best _ _ _ _ _ _ _ _ _ _ (sym (c .before .before .before .before .before .before .before .before .before .before .before .before .before .before .before .before .before .listing-of .ensures) ∙ c .before .before .before .before .before .before .before .before .before .before .before .before .before .before .before .regions .given .1) _ (c .before .before .before .before .before .before .before .before .before .before .before .before .before .count .ensures)
+    _ _ (c .before .before .before .before .before .before .before .before .before .before .before .take-entries .ensures) _ _ _ (c .before .before .before .before .before .before .before .before .before .len .given .1) (c .before .before .before .before .write-held .ensures)
 
 returns-3 : tie.Need-returns-3
-returns-3 c = broken-words _ _ _ _ _ _ _ _ _ (c .before .before .before .before .before .before .before .if1 .left) _ _ (c .before .before .take-entries .ensures) (c .enum-told .given .1)
+returns-3 c =
+    broken-words _ _ _ _ _ _ _ _ _ _ (sym (c .before .before .before .before .before .before .before .before .listing-of .ensures) ∙ c .before .before .before .before .before .before .regions .given .1) _ (c .before .before .before .before .count .ensures)
+    _ _ (c .before .before .take-entries .ensures) (c .enum-told2 .given .1)
 
 pub best-under-spec : {M : Type 1} → statement M
 best-under-spec =
     tie.close
     (tie.spec
-    cast-j
+    listing-of-requires
+    enum-known-regions
+    enum-told
     returns
-    mul-at
-    add-count
-    mul-count
-    shared-slice-read-count
-    add-count-2
-    mul-count-2
-    shared-slice-read-count-2
-    add-count-3
-    add-first
-    mul-first
-    shared-slice-read-first
+    count-requires
     take-entries-requires
     enum-known-len
     write-held-requires
-    cast-t40
-    enum-told
+    cast-t28
+    enum-told-2
     same-length
     same-length-2
     returns-2
