@@ -4,7 +4,7 @@ use native.Mathlib.Omega.{arith}
 use mathlib.Core.Path.{refl}
 use mathlib.Core.List.{[]}
 use Rattle.base.proofs.Tests.{breaks, holds}
-use Rattle.best.proofs.Streams.{none-seen}
+use Rattle.best.proofs.Streams.{nothing-held}
 use Rattle.ranked.specs.Searches.{columns, entriesTaken}
 use Rattle.ranked.proofs.Asking.{some-asked, few-asked}
 use Rattle.ranked.proofs.Taking.{Taking, take-done, outside, unreadable, take-next, take-stop}
@@ -20,7 +20,7 @@ abbrev μ-loop : tie.MeasureT-loop
 loop-holds : tie.Need-loop-holds Inv-loop μ-loop
 loop-holds c =
     let p = c .before .before .before .pre in
-    record { asks = p .0; holds = none-seen _ _ (p .1) (some-asked _ _ (p .0)) (few-asked _ _ (p .0)) .holds; rest = refl }
+    record { asks = p .0; holds = nothing-held _ _ (p .1) (some-asked _ _ (p .0)) (few-asked _ _ (p .0)); rest = refl }
 
 returns : tie.Need-returns Inv-loop μ-loop
 returns c = outside _ _ _ _ _ _ _ _ _ _ (c .before .before .loop .inv) (c .before .loop-test .taken) (c .if1 .taken)
