@@ -8,7 +8,7 @@ use native.Mathlib.Numerals.{add-one}
 use lib.ListN.{length, take, drop, getD, set, length-append, length-drop}
 use lib.Seq.{drop-cons, take-suc, set-at, length-take-le}
 use Rattle.base.specs.Lists.{each, written}
-use Rattle.base.proofs.Members.{length-each}
+use Rattle.base.proofs.Members.{length-each, each-append}
 use Rattle.best.specs.Keys.{valueIn, standIn}
 use Rattle.ranked.specs.Searches.{Written}
 
@@ -23,10 +23,6 @@ written-next words room x h =
 
 length-written : (words room : List ℕ) → length words ≤ length room → length (written words room) ≡ length room
 length-written words room h = omega (arith, length-append words (drop (length words) room), length-drop (length words) room)
-
-each-append : {A B : Type 0} (f : A → B) (l m : List A) → each f (l ++ m) ≡ each f l ++ each f m
-each-append f [] m = refl
-each-append {A} {B} f (x ∷ l) m = ap (λ (r : List B). f x ∷ r) (each-append f l m)
 
 -- of the first i keys f is written
 module _ (f : ℕ → ℕ) (held room : List ℕ) (i : ℕ) (there : i < length held) where

@@ -76,14 +76,17 @@ standsOffered c g q (s ∷ ss) held = andThen (standOffered c g q s held) (λ mo
 
 -- ---- entries
 
--- entry e's words
+-- word k of entry e, counted from 0; 0 outside
+abbrev pub entryWord : List ℕ → ℕ → ℕ → ℕ
+entryWord entries e k = getD entries (e * 4 + k) 0
+
 abbrev pub entryIn : List ℕ → ℕ → Entry
 entryIn entries e =
     record {
-      region = getD entries (e * 4) 0;
-      score = getD entries (e * 4 + 1) 0;
-      first = record { 0 = getD entries (e * 4 + 2) 0 };
-      past = record { 0 = getD entries (e * 4 + 3) 0 };
+      region = entryWord entries e 0;
+      score = entryWord entries e 1;
+      first = record { 0 = entryWord entries e 2 };
+      past = record { 0 = entryWord entries e 3 };
     }
 
 unfoldable pub readableEntry : List ℕ → Entry → Bool

@@ -16,9 +16,11 @@ use rules::Grid;
 use rules::OrderPlace;
 use rules::Ranking;
 use rules::Stand;
-
-// How many words an entry has.
-const WORDS: usize = 4;
+use rules::layout::BEST_SCORE;
+use rules::layout::ENTRY_WORDS;
+use rules::layout::FIRST_PLACE;
+use rules::layout::PAST_PLACE;
+use rules::layout::REGION;
 
 // An entry's words: a region, the largest score there, and the places of its stands in the order.
 pub(crate) struct Entry {
@@ -32,12 +34,12 @@ fn entry_at(entries: &[u32], e: usize) -> Entry
     requires { ⌜ e < length (now entries) / 4 ⌝ }
     ensures { λ r. ⌜ r ≡ entryIn (now (entries .entry)) e ⌝ }
 {
-    let at = e * WORDS;
+    let at = e * ENTRY_WORDS;
     Entry {
-        region: entries[at],
-        score: entries[at + 1],
-        first: OrderPlace(entries[at + 2]),
-        past: OrderPlace(entries[at + 3]),
+        region: entries[at + REGION],
+        score: entries[at + BEST_SCORE],
+        first: OrderPlace(entries[at + FIRST_PLACE]),
+        past: OrderPlace(entries[at + PAST_PLACE]),
     }
 }
 
@@ -128,7 +130,7 @@ pub(crate) fn take_entries(
     let mut left = count;
     let mut e = from as usize;
     while 0 < left {
-        if entries.len() / WORDS <= e {
+        if entries.len() / ENTRY_WORDS <= e {
             return Kept::Broken;
         }
         let entry = entry_at(entries, e);

@@ -1,16 +1,12 @@
 // Which entries a node has: one for each of its regions, from its first entry on. The words may be anything.
 ghost use mathlib.Core.Path.{_≡_};
 ghost use Rattle.walk.specs.Listings.{listingIn};
-use super::WORDS;
 use grid::cells::Cells;
 use rules::Node;
-
-// Which of a node's words, counted from 0, are its region bits and the number of its first entry.
-const REGIONS_LOW: usize = 5;
-
-const REGIONS_HIGH: usize = 6;
-
-const FIRST_ENTRY: usize = 7;
+use rules::layout::FIRST_ENTRY;
+use rules::layout::HIGH_REGIONS;
+use rules::layout::LOW_REGIONS;
+use rules::layout::NODE_WORDS;
 
 // A node's list of entries.
 pub enum Listing {
@@ -24,13 +20,13 @@ pub fn listing_of(nodes: &[u32], node: Node) -> Listing
     ensures { λ r. ⌜ r ≡ listingIn (now (nodes .entry)) (node .0) ⌝ }
 {
     let j = node.0 as usize;
-    if nodes.len() / WORDS <= j {
+    if nodes.len() / NODE_WORDS <= j {
         return Listing::Broken;
     }
-    let at = j * WORDS;
+    let at = j * NODE_WORDS;
     let regions = Cells {
-        low: nodes[at + REGIONS_LOW],
-        high: nodes[at + REGIONS_HIGH],
+        low: nodes[at + LOW_REGIONS],
+        high: nodes[at + HIGH_REGIONS],
     };
     Listing::Entries(regions, nodes[at + FIRST_ENTRY])
 }
