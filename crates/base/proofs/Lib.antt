@@ -12,3 +12,4 @@ pub mod Machine
 pub mod Pairs
 pub mod Counts
 pub mod Rows
+pub mod Rooms

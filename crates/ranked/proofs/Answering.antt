@@ -17,7 +17,7 @@ use Rattle.walk.specs.declared.listing.Listing.{Listing}
 use Rattle.walk.specs.declared.listing.Listing.the-variants as listing
 use Rattle.ranked.specs.declared.Kept.{Kept}
 use Rattle.ranked.specs.declared.Kept.the-variants as kept
-use Rattle.ranked.specs.Searches.{Columns, Search, broken, entriesTaken, listedTaken, Keeps, Written, Answered}
+use Rattle.ranked.specs.Searches.{Columns, broken, entriesTaken, listedTaken, Keeps, Written, Answered}
 use Rattle.ranked.proofs.Keeping.{held-is, broken-is}
 
 module _ (c : Columns) (g : Grid) (q : Ranking) (order entries : List ℕ) (l : Listing) (room values : List ℕ) where

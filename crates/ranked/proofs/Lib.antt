@@ -6,3 +6,4 @@ pub mod Offering
 pub mod Taking
 pub mod Writing
 pub mod Answering
+pub mod PassingOver

@@ -1,8 +1,8 @@
 -- One stand offered, and the loop that offers the stands of an entry: what is left of them gives what all of them give.
 -- Assumes nothing.
-use mathlib.Core.Path.{_≡_, refl, sym, ap, _∙_}
+use mathlib.Core.Path.{_≡_, sym, ap, _∙_}
 use mathlib.Core.Bool.{true, false}
-use mathlib.Core.List.{List, [], _∷_}
+use mathlib.Core.List.{List, []}
 use Prim.Native.Nat.{ℕ, suc, _+_, _≤_, _<_}
 use native.Mathlib.Omega.{arith}
 use native.Mathlib.Numerals.{add-one}
@@ -15,7 +15,7 @@ use Rattle.best.specs.Keys.{keyOf, larger}
 use Rattle.best.specs.Holds.{Holds, Offered}
 use Rattle.ranked.specs.declared.Kept.{Kept}
 use Rattle.ranked.specs.declared.Kept.the-variants as kept
-use Rattle.ranked.specs.Searches.{Asks, Columns, Search, broken, keys, andThen, readableStand, hitIn, standOffered, standsOffered, Keeps}
+use Rattle.ranked.specs.Searches.{Asks, Columns, Search, keys, andThen, readableStand, hitIn, standOffered, standsOffered, Keeps}
 use Rattle.ranked.proofs.Keeping.{held-is, broken-is}
 
 module _ (c : Columns) (g : Grid) (q : Ranking) where

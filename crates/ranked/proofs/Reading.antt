@@ -1,6 +1,6 @@
 -- What it says that a stand or an entry can be read, both ways.
 -- Assumes nothing.
-use mathlib.Core.Path.{_≡_, sym, _∙_}
+use mathlib.Core.Path.{_≡_, sym}
 use mathlib.Core.Bool.{true, false}
 use mathlib.Core.List.{List}
 use Prim.Native.Nat.{ℕ, _≤_, _<_}
@@ -12,7 +12,7 @@ use Rattle.base.proofs.Tests.{and-true, every-at, every-of, every-not}
 use Rattle.rules.specs.declared.Grid.{Grid}
 use Rattle.rules.specs.Places.{inGrid}
 use Rattle.rules.specs.Tables.{placeIn}
-use Rattle.ranked.specs.declared.entries.Entry.{Entry}
+use Rattle.ranked.specs.declared.Entry.{Entry}
 use Rattle.ranked.specs.Searches.{Columns, readableStand, readableEntry}
 
 -- ---- a stand

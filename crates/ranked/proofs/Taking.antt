@@ -1,9 +1,9 @@
 -- One entry passed over or taken, and the loop over a node's entries: those that are left give what all of them give.
 -- Assumes nothing.
-use mathlib.Core.Path.{_≡_, refl, sym, ap, _∙_}
-use mathlib.Core.Bool.{Bool, true, false, cond}
-use mathlib.Core.List.{List, []}
-use Prim.Native.Nat.{ℕ, zero, suc, _+_, _-_, _/_, _≤_, _<_}
+use mathlib.Core.Path.{_≡_, sym, ap, _∙_}
+use mathlib.Core.Bool.{true, false}
+use mathlib.Core.List.{List}
+use Prim.Native.Nat.{ℕ, suc, _+_, _-_, _/_, _≤_, _<_}
 use native.Mathlib.Omega.{arith}
 use native.Mathlib.Numerals.{add-one}
 use lib.ListN.{length, take}
@@ -15,8 +15,8 @@ use Rattle.best.specs.Keys.{keyOf}
 use Rattle.best.specs.Holds.{Holds}
 use Rattle.ranked.specs.declared.Kept.{Kept}
 use Rattle.ranked.specs.declared.Kept.the-variants as kept
-use Rattle.ranked.specs.declared.entries.Entry.{Entry}
-use Rattle.ranked.specs.Searches.{Asks, Columns, Search, broken, keys, andThen, standsOffered, entryIn, readableEntry, boundHit, passedOver, entryTaken, entriesTaken, Keeps}
+use Rattle.ranked.specs.declared.Entry.{Entry}
+use Rattle.ranked.specs.Searches.{Asks, Columns, Search, andThen, standsOffered, entryIn, readableEntry, boundHit, passedOver, entryTaken, entriesTaken, Keeps}
 use Rattle.ranked.proofs.Keeping.{held-is, broken-is}
 
 module _ (c : Columns) (g : Grid) (q : Ranking) (order : List ℕ) (x : Entry) where

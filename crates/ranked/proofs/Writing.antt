@@ -1,28 +1,17 @@
 -- The loop that writes stands and values of the keys held to the two rooms.
 -- Assumes nothing.
 use mathlib.Core.Path.{_≡_, refl, sym, ap, _∙_}
-use mathlib.Core.List.{List, [], _∷_, _++_, append-assoc}
-use Prim.Native.Nat.{ℕ, suc, _+_, _≤_, _<_}
+use mathlib.Core.List.{List, [], _∷_, _++_}
+use Prim.Native.Nat.{ℕ, _+_, _≤_, _<_}
 use native.Mathlib.Omega.{arith}
 use native.Mathlib.Numerals.{add-one}
-use lib.ListN.{length, take, drop, getD, set, length-append, length-drop}
-use lib.Seq.{drop-cons, take-suc, set-at, length-take-le}
+use lib.ListN.{length, take, getD, set}
+use lib.Seq.{take-suc, length-take-le}
 use Rattle.base.specs.Lists.{each, written}
 use Rattle.base.proofs.Members.{length-each, each-append}
+use Rattle.base.proofs.Rooms.{length-written, written-next}
 use Rattle.best.specs.Keys.{valueIn, standIn}
 use Rattle.ranked.specs.Searches.{Written}
-
--- one word more at the start of a room
-written-next : (words room : List ℕ) (x : ℕ) → length words < length room → set (written words room) (length words) x ≡ written (words ++ (x ∷ [])) room
-written-next words room x h =
-    let n : length (words ++ (x ∷ [])) ≡ suc (length words) = length-append words (x ∷ []) ∙ add-one (length words) in
-    ap (λ (l : List ℕ). set (words ++ l) (length words) x) (drop-cons room (length words) 0 h)
-    ∙ set-at words (getD room (length words) 0) (drop (suc (length words)) room) x (length words) refl
-    ∙ sym (append-assoc words (x ∷ []) (drop (suc (length words)) room))
-    ∙ ap (λ (m : ℕ). (words ++ (x ∷ [])) ++ drop m room) (sym n)
-
-length-written : (words room : List ℕ) → length words ≤ length room → length (written words room) ≡ length room
-length-written words room h = omega (arith, length-append words (drop (length words) room), length-drop (length words) room)
 
 -- of the first i keys f is written
 module _ (f : ℕ → ℕ) (held room : List ℕ) (i : ℕ) (there : i < length held) where

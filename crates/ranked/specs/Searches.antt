@@ -1,7 +1,7 @@
 -- The search as the code goes it: the keys held, largest first, or words that are broken.
 -- Nobody has to believe these definitions: the crate `ranked_means` proves them right on lawful sets.
 use mathlib.Core.Path.{_≡_}
-use mathlib.Core.Bool.{Bool, true, false, cond, _&&_}
+use mathlib.Core.Bool.{Bool, true, cond, _&&_}
 use mathlib.Core.List.{List, [], _∷_}
 use Prim.Native.Nat.{ℕ, zero, suc, _-_, _*_, _+_, _/_, _≤_}
 use lib.IntN.{ℤ}
@@ -26,7 +26,7 @@ use Rattle.best.specs.Keys.{keyOf, valueIn, standIn, larger}
 use Rattle.best.specs.Holds.{Holds}
 use Rattle.ranked.specs.declared.Kept.{Kept}
 use Rattle.ranked.specs.declared.Kept.the-variants as kept
-use Rattle.ranked.specs.declared.entries.Entry.{Entry}
+use Rattle.ranked.specs.declared.Entry.{Entry}
 
 -- what a search takes for granted: its callers have tested it
 pub record Asks (g : Grid) (q : Ranking) : Type 0 where

@@ -7,6 +7,7 @@ ghost use Prim.Native.Nat.{_<_, _/_};
 ghost use lib.ListN.{length, take};
 ghost use Rattle.best.specs.Holds.{Holds};
 ghost use Rattle.ranked.specs.Searches.{columns, Asks, entryIn, readableEntry, passedOver, entryTaken, entriesTaken, Keeps};
+use super::Entry;
 use super::Kept;
 use crate::stands::offer_places;
 use best::Held;
@@ -21,14 +22,6 @@ use rules::layout::ENTRY_WORDS;
 use rules::layout::FIRST_PLACE;
 use rules::layout::PAST_PLACE;
 use rules::layout::REGION;
-
-// An entry's words: a region, the largest score there, and the places of its stands in the order.
-pub(crate) struct Entry {
-    region: u32,
-    score: u32,
-    first: OrderPlace,
-    past: OrderPlace,
-}
 
 fn entry_at(entries: &[u32], e: usize) -> Entry
     requires { ⌜ e < length (now entries) / 4 ⌝ }

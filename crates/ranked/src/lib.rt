@@ -16,11 +16,20 @@ use best::value_of;
 use entries::take_entries;
 use rules::Grid;
 use rules::Node;
+use rules::OrderPlace;
 use rules::RankedAnswer;
 use rules::Ranking;
 use rules::Refusal;
 use walk::listing::Listing;
 use walk::listing::listing_of;
+
+// An entry's words: a region, the largest score there, and the places of its stands in the order.
+pub struct Entry {
+    pub region: u32,
+    pub score: u32,
+    pub first: OrderPlace,
+    pub past: OrderPlace,
+}
 
 // How many keys are held after a step of the search.
 pub enum Kept {

@@ -7,7 +7,7 @@ use lib.ListN.{take, getD}
 use Rattle.best.specs.Keys.{keyOf}
 use Rattle.ranked.specs.Searches.{passedOver, boundHit}
 use Rattle.ranked.proofs.Asking.{asked-inside, weighable, bound-most}
-use Rattle.ranked.proofs.Reading.{EntryFacts, entry-facts}
+use Rattle.ranked.proofs.Reading.{entry-facts}
 use Rattle.ranked.proofs.Taking.{passed, not-passed}
 use Rattle.ranked.proofs.entries.take_entry.Statement.{statement}
 use Rattle.ranked.proofs.entries.take_entry.Tie as tie

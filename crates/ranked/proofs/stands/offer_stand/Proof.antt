@@ -9,7 +9,6 @@ use Rattle.base.proofs.Tests.{breaks, holds}
 use Rattle.base.proofs.Machine.{arrive}
 use Rattle.rules.specs.Places.{inGrid}
 use Rattle.rules.specs.Worth.{valueOf}
-use Rattle.rules.specs.Tables.{placeIn}
 use Rattle.best.specs.Keys.{keyOf}
 use Rattle.ranked.specs.Searches.{columns}
 use Rattle.ranked.proofs.Asking.{asked-inside, weighable, value-most}
