@@ -4,3 +4,5 @@ pub mod Entries
 pub mod Under
 pub mod Told
 pub mod Ways
+pub mod Limits
+pub mod Outcomes

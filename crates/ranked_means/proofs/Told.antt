@@ -61,15 +61,25 @@ module _ (t : Table) (g : Grid) (p : List ℕ) (q : Ranking) (room values : List
   unfolding rankedTold
   told-list e s = rw (e, s)
 
+  abbrev found-words : List ℕ
+  found-words = each (λ h. h .stand) (rankedList t g p q)
+
+  abbrev worth-words : List ℕ
+  worth-words = each (λ h. h .value) (rankedList t g p q)
+
   pub exact-refused : (n : ℕ) (a : RankedAnswer) → 0 < n → rankedTold t g p q room values ≡ refusing n → rankedNumbers a ≡ refusing n → Exact t g p q a room values room values
-  exact-refused n a h e told = record { told = told ∙ sym e; found = room-kept _ n _ room h e; worths = room-kept _ n _ values h e }
+  exact-refused n a h e told =
+      record { told = told ∙ sym e; found = room-kept (rankedTold t g p q room values) n found-words room h e; worths = room-kept (rankedTold t g p q room values) n worth-words values h e }
 
   pub exact-list : (a : RankedAnswer) (room′ values′ : List ℕ) → rankedTold t g p q room values ≡ telling (length (rankedList t g p q))
       → rankedNumbers a ≡ telling (length (rankedList t g p q))
       → room′ ≡ written (each (λ h. h .stand) (rankedList t g p q)) room
       → values′ ≡ written (each (λ h. h .value) (rankedList t g p q)) values
       → Exact t g p q a room values room′ values′
-  exact-list a room′ values′ e told found worths = record { told = told ∙ sym e; found = found ∙ room-filled _ _ _ room e; worths = worths ∙ room-filled _ _ _ values e }
+  exact-list a room′ values′ e told found worths =
+      let told₀ = rankedTold t g p q room values in
+      let n = length (rankedList t g p q) in
+      record { told = told ∙ sym e; found = found ∙ room-filled told₀ n found-words room e; worths = worths ∙ room-filled told₀ n worth-words values e }
 
 -- a text without a node has no stand under it, so its list is empty
 module _ (t : Table) (p : List ℕ) (out : In p (beginnings t) → ⊥) where

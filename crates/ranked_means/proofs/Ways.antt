@@ -2,7 +2,7 @@
 -- Assumes nothing.
 use mathlib.Core.Path.{_≡_, refl, sym, ap, _∙_, subst}
 use mathlib.Core.Logic.{inl, inr}
-use mathlib.Core.Bool.{true, false}
+use mathlib.Core.Bool.{true, false, cond}
 use mathlib.Core.List.{List, []}
 use Prim.Native.Nat.{ℕ, _≤_, _<_}
 use native.Mathlib.Omega.{arith}
@@ -21,13 +21,14 @@ use Rattle.rules.specs.declared.Refusal.{Refusal}
 use Rattle.rules.specs.declared.Refusal.the-variants.{NotLawful, QuestionOutsideLimits, RoomTooSmall}
 use Rattle.rules.specs.declared.RankedAnswer.{RankedAnswer}
 use Rattle.rules.specs.declared.RankedAnswer.the-variants.{Found, Refused}
-use Rattle.rules.specs.Numbers.{firstGiven, telling, refusing, rankedNumbers}
+use Rattle.rules.specs.Numbers.{refusalNumber, firstGiven, telling, rankedNumbers}
 use Rattle.rules.specs.Places.{gridLawful}
 use Rattle.rules.specs.Names.{textRefusal}
 use Rattle.rules.specs.Tables.{Table, tableOf}
 use Rattle.rules.specs.Questions.{under, hitOf, rankedList, rankingLawful, rankedRefusal, rankedTold}
 use Rattle.rules.specs.Indexes.{Index, beginnings, numberIn, setLawful}
 use Rattle.rules.proofs.Lawful.{SetParts, set-parts}
+use Rattle.rules.proofs.Outcomes.{refusal-some}
 use Rattle.trie.specs.Trees.{textOf}
 use Rattle.trie.proofs.Tree.{number-in}
 use Rattle.trie.proofs.Tables.{in-under}
@@ -49,10 +50,10 @@ use Rattle.ranked_means.proofs.Told.{first-given, refusal-12, refusal-0
 -- ---- rooms
 
 module _ (k : ℕ) (room values : List ℕ) where
-  pub short-found : length room < k → tooShort k room values ≡ true
+  short-found : length room < k → tooShort k room values ≡ true
   short-found h = rw (lt-ltb _ _ h)
 
-  pub short-values : k ≤ length room → length values < k → tooShort k room values ≡ true
+  short-values : k ≤ length room → length values < k → tooShort k room values ≡ true
   short-values h l = rw (le-ltb _ _ h, lt-ltb _ _ l)
 
   long : k ≤ length room → k ≤ length values → tooShort k room values ≡ false
@@ -112,12 +113,18 @@ module _ (c : Columns) (g : Grid) (x : Index) (at : Child) (q : Ranking) (room v
       }
 
   module _ (asked : rankingLawful g q ≡ true) where
-    pub from-13 : tooShort (q .k) room values ≡ true → FromPromise c g x at q (Refused RoomTooSmall) room values room values
+    from-13 : tooShort (q .k) room values ≡ true → FromPromise c g x at q (Refused RoomTooSmall) room values room values
     from-13 s =
         record {
           lawful = λ text starts p law fine same. exact-refused (set text starts) g p q room values 13 _ (lit< tt) (told-short (set text starts) g p q room values (refusal-0 g p q fine asked) s) refl;
           harmless = λ p fine. inr (falls-short g p q _ room values room values (refusal-0 g p q fine asked) s (record { told = refl; found = refl; worths = refl }));
         }
+
+    pub from-short-found : length room < q .k → FromPromise c g x at q (Refused RoomTooSmall) room values room values
+    from-short-found h = from-13 (short-found (q .k) room values h)
+
+    pub from-short-values : q .k ≤ length room → length values < q .k → FromPromise c g x at q (Refused RoomTooSmall) room values room values
+    from-short-values h l = from-13 (short-values (q .k) room values h l)
 
   -- only a set that is not lawful is refused 7
   refused-7 : ((text starts p : List ℕ) → setLawful (set text starts) g x ≡ true → at ≡ nodeOf (set text starts) p → ⊥)
@@ -193,23 +200,25 @@ module _ (c : Columns) (g : Grid) (x : Index) (at : Child) (q : Ranking) (asks :
             listed t g x parts p q _ a room values room′ values′ (node-best t g x parts p q (some-asked g q asks) (node .0) (sym same ∙ e))
             (told-list t g p q room values (refusal-0 g p q fine (asks .ranking)) (long (q .k) room values r v))
             w;
-        harmless = λ p fine. searched g p q a room values room′ values′ _ w (refusal-0 g p q fine (asks .ranking)) r v;
+        harmless = λ p fine. searched g p q a room values room′ values′ (bestUnder c g q (x .order) (x .nodes) (x .entries) (node .0)) w (refusal-0 g p q fine (asks .ranking)) r v;
       }
 
 -- ---- from a text
 
-module _ (t : Table) (g : Grid) (x : Index) (p : List ℕ) (q : Ranking) (a : RankedAnswer) (room values : List ℕ) where
-  pub text-refused : (n : ℕ) → 0 < n → n ≡ textRefusal p → rankedNumbers a ≡ refusing n → RankedPromise t g x p q a room values room values
-  text-refused n h e told =
-      let given : rankedRefusal g p q ≡ n = ap (λ (m : ℕ). firstGiven m _) (sym e) ∙ first-given n _ h in
+module _ (t : Table) (g : Grid) (x : Index) (p : List ℕ) (q : Ranking) (room values : List ℕ) where
+  pub text-refused : (why : Refusal) → refusalNumber why ≡ textRefusal p → RankedPromise t g x p q (Refused why) room values room values
+  text-refused why e =
+      let n : ℕ = refusalNumber why in
+      let some : 0 < n = omega (arith, refusal-some why) in
+      let given : rankedRefusal g p q ≡ n = ap (λ (m : ℕ). firstGiven m (cond (rankingLawful g q) 0 12)) (sym e) ∙ first-given n (cond (rankingLawful g q) 0 12) some in
       record {
-        lawful = λ law. exact-refused t g p q room values n a h (told-refused t g p q room values n h given) told;
-        harmless = inr (refuses g p q a room values room values n h given (record { told = told; found = refl; worths = refl }));
+        lawful = λ law. exact-refused t g p q room values n (Refused why) some (told-refused t g p q room values n some given) refl;
+        harmless = inr (refuses g p q (Refused why) room values room values n some given (record { told = refl; found = refl; worths = refl }));
       }
 
-  pub text-walked : (room′ values′ : List ℕ) (at : Child) → textRefusal p ≡ 0 → at ≡ nodeIn (x .nodes) p → FromPromise (columnsOf t) g x at q a room values room′ values′
-      → RankedPromise t g x p q a room values room′ values′
-  text-walked room′ values′ at fine walked w =
+  pub text-walked : (a : RankedAnswer) (room′ values′ : List ℕ) (at : Child) → textRefusal p ≡ 0 → at ≡ nodeIn (x .nodes) p
+      → FromPromise (columnsOf t) g x at q a room values room′ values′ → RankedPromise t g x p q a room values room′ values′
+  text-walked a room′ values′ at fine walked w =
       record {
         lawful = λ law.
             let parts = set-parts t g x law in

@@ -1,46 +1,38 @@
+-- `ranked_means::ranked` meets its promise: the text is refused, or the walk along it goes before. Assumes nothing.
 use borrow.Author.Needs.{needs}
+use mathlib.Core.Path.{sym, ap, _∙_}
+use Rattle.rules.specs.Numbers.{verdictNumber}
+use Rattle.ranked_means.proofs.Ways.{text-refused, text-walked}
 use Rattle.ranked_means.proofs.ranked.Statement.{statement}
 use Rattle.ranked_means.proofs.ranked.Tie as tie
-use Rattle.ranked_means.proofs.ranked.Reads as reads
-use Rattle.ranked_means.proofs.ranked.Lts as lts
-use Rattle.ranked_means.proofs.ranked_from.Reads as ranked-from-reads
-use Rattle.table.proofs.typed.text_verdict.Reads as text-verdict-reads
-use Rattle.walk.proofs.node_of.Reads as node-of-reads
 
--- src/lib.rt:101:36
 text-verdict-requires : tie.Need-text-verdict-requires
 text-verdict-requires c κs = search needs
 
--- src/lib.rt:101:29
 enum-known-why : tie.Need-enum-known-why
 enum-known-why c = search needs
 
--- src/lib.rt:102:9
 returns : tie.Need-returns
-returns c = search needs
+returns c = text-refused _ _ _ _ _ _ _ _ (ap verdictNumber (sym (c .before .why .given .1)) ∙ c .before .before .before .text-verdict .ensures)
 
 enum-told : tie.Need-enum-told
 enum-told c = search needs
 
--- src/lib.rt:104:9
 node-of-requires : tie.Need-node-of-requires
 node-of-requires c κs = search needs
 
--- src/lib.rt:105:5
 ranked-from-requires : tie.Need-ranked-from-requires
 ranked-from-requires c κs = search needs
 
--- src/lib.rt:84:1
 same-length : tie.Need-same-length
 same-length c = search needs
 
--- src/lib.rt:84:1
 same-length-2 : tie.Need-same-length-2
 same-length-2 c = search needs
 
--- src/lib.rt:84:1
 returns-2 : tie.Need-returns-2
-returns-2 c = search needs
+returns-2 c =
+    text-walked _ _ _ _ _ _ _ _ _ _ _ (sym (c .before .before .before .before .before .before .before .before .before .before .text-verdict .ensures) ∙ ap verdictNumber (c .before .before .before .before .before .before .before .before .enum-told .given .1)) (c .before .before .before .before .before .before .before .node-of .ensures) (c .before .before .before .before .ranked-from .ensures)
 
 pub ranked-spec : {M : Type 1} → statement M
 ranked-spec =
