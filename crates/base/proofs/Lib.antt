@@ -5,6 +5,7 @@ pub mod Members
 pub mod Runs
 pub mod Begins
 pub mod Words
+pub mod Lowest
 pub mod Shuffles
 pub mod Sorts
 pub mod Machine
@@ -13,3 +14,4 @@ pub mod Counts
 pub mod Rows
 pub mod Sums
 pub mod Settling
+pub mod Rooms

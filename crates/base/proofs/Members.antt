@@ -79,6 +79,15 @@ module _ {A : Type 0} (f : A → Bool) where
       step (inl q) r = rw (q, r)
       step (inr q) r = rw (q, r)
 
+-- tests that agree on the members keep the same
+pub keep-same : {A : Type 0} (f g : A → Bool) (l : List A) → ((x : A) → In x l → f x ≡ g x) → keep f l ≡ keep g l
+keep-same f g [] h = refl
+keep-same f g (x ∷ l) h = step (which (g x)) (keep-same f g l (λ y k. h y (inr k)))
+  where
+    step : (g x ≡ true) ⊎ (g x ≡ false) → keep f l ≡ keep g l → keep f (x ∷ l) ≡ keep g (x ∷ l)
+    step (inl q) r = let e : f x ≡ true = h x (inl refl) ∙ q in simp (e, q, r)
+    step (inr q) r = let e : f x ≡ false = h x (inl refl) ∙ q in simp (e, q, r)
+
 pub keep-each : {A B : Type 0} (f : B → Bool) (g : A → B) (l : List A) → keep f (each g l) ≡ each g (keep (λ x. f (g x)) l)
 keep-each f g [] = refl
 keep-each f g (x ∷ l) = step (which (f (g x))) (keep-each f g l)
@@ -100,6 +109,23 @@ each-take {A} {B} g (suc k) (x ∷ l) = ap {B = List B} (λ r. g x ∷ r) (each-
 pub each-same : {A B : Type 0} (f g : A → B) (l : List A) → ((x : A) → In x l → f x ≡ g x) → each f l ≡ each g l
 each-same f g [] h = refl
 each-same f g (x ∷ l) h = rw (h x (inl refl), each-same f g l (λ y k. h y (inr k)))
+
+pub each-append : {A B : Type 0} (f : A → B) (s t : List A) → each f (s ++ t) ≡ each f s ++ each f t
+each-append f [] t = refl
+each-append f (x ∷ s) t = rw (each-append f s t)
+
+pub eachList-each : {A B C : Type 0} (f : B → List C) (g : A → B) (l : List A) → eachList f (each g l) ≡ eachList (λ x. f (g x)) l
+eachList-each f g [] = refl
+eachList-each f g (x ∷ l) = rw (eachList-each f g l)
+
+pub each-eachList : {A B C : Type 0} (f : B → C) (g : A → List B) (l : List A) → each f (eachList g l) ≡ eachList (λ x. each f (g x)) l
+each-eachList f g [] = refl
+each-eachList f g (x ∷ l) = rw (each-append f (g x) (eachList g l), each-eachList f g l)
+
+pub getD-each : {A B : Type 0} (f : A → B) (l : List A) (i : ℕ) (d : A) (z : B) → i < length l → getD (each f l) i z ≡ f (getD l i d)
+getD-each f [] i d z h = absurd (omega arith)
+getD-each f (x ∷ l) zero d z h = refl
+getD-each f (x ∷ l) (suc i) d z h = getD-each f l i d z (omega arith)
 
 pub in-each : {A B : Type 0} (g : A → B) (l : List A) (y : B) → In y (each g l) → (x : A) × In x l × (y ≡ g x)
 in-each g [] y h = absurd h

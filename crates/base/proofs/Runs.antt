@@ -13,7 +13,7 @@ use lib.Seq.{getD-set-same, getD-set-other, ext-getD, getD-append-seam}
 use borrow.Author.Tests.{eqb-true, eqb-false}
 use Rattle.base.specs.Lists.{fromOn, upTo, keep, each, firstOf, In}
 use Rattle.base.proofs.Tests.{which, never, le-or-lt}
-use Rattle.base.proofs.Members.{keep-none, length-each, keep-append}
+use Rattle.base.proofs.Members.{keep-none, length-each, keep-append, keep-each}
 
 pub length-from : (a n : ℕ) → length (fromOn a n) ≡ n
 length-from a zero = refl
@@ -41,6 +41,10 @@ pub each-shift : {B : Type 0} (g : ℕ → B) (a n : ℕ) → each g (fromOn (su
 each-shift g a zero = refl
 each-shift {B} g a (suc n) = ap (λ (l : List B). g (suc a) ∷ l) (each-shift g (suc a) n)
 
+pub from-shift : (a n : ℕ) → fromOn (suc a) n ≡ each suc (fromOn a n)
+from-shift a zero = refl
+from-shift a (suc n) = ap (λ (l : List ℕ). suc a ∷ l) (from-shift (suc a) n)
+
 -- the list by its places
 pub each-getD : {A : Type 0} (d : A) (l : List A) → l ≡ each (λ i. getD l i d) (upTo (length l))
 each-getD d [] = refl
@@ -49,6 +53,20 @@ each-getD {A} d (x ∷ l) = ap (λ (r : List A). x ∷ r) (each-getD d l ∙ sym
 pub from-split : (a n m : ℕ) → fromOn a (n + m) ≡ fromOn a n ++ fromOn (a + n) m
 from-split a zero m = rw (zero-add, add-zero)
 from-split a (suc n) m = rw (suc-add, add-suc) (ap (λ (l : List ℕ). a ∷ l) (rw suc-add at (from-split (suc a) n m)))
+
+pub from-each : (a b n : ℕ) → fromOn (a + b) n ≡ each (λ k. a + k) (fromOn b n)
+from-each a b zero = refl
+from-each a b (suc n) = rw (← add-suc a b) (ap (λ (l : List ℕ). (a + b) ∷ l) (from-each a (suc b) n))
+
+-- what a test keeps of the first a numbers, and of the b above
+pub keep-halves : (f : ℕ → Bool) (a b : ℕ) → keep f (upTo (a + b)) ≡ keep f (upTo a) ++ each (λ k. a + k) (keep (λ k. f (a + k)) (upTo b))
+keep-halves f a b =
+    let z : 0 + a ≡ a + 0 = omega arith in
+    ap (keep f) (from-split 0 a b)
+    ∙ keep-append f (upTo a) (fromOn (0 + a) b)
+    ∙ ap (λ (k : ℕ). keep f (upTo a) ++ keep f (fromOn k b)) z
+    ∙ ap (λ (l : List ℕ). keep f (upTo a) ++ keep f l) (from-each a 0 b)
+    ∙ ap (λ (l : List ℕ). keep f (upTo a) ++ l) (keep-each f (λ k. a + k) (upTo b))
 
 pub upTo-split : (i n : ℕ) → i < n → upTo n ≡ upTo i ++ (i ∷ fromOn (suc i) (n - suc i))
 upTo-split i n h =

@@ -1,10 +1,12 @@
 -- Laws of signed metres, places, distances, values and sets of regions; and what the rectangle's regions and the bounds are good for.
 pub mod Signed
 pub mod Floors
+pub mod Compared
 pub mod Squares
 pub mod Distances
 pub mod Values
 pub mod Spans
 pub mod Rows
 pub mod Sets
+pub mod Listed
 pub mod Covers

@@ -1,15 +1,17 @@
 -- The regions that a rectangle touches, as bits, and sets of regions put together: what the code computes.
 -- A region is touched if its column and its row lie between the floored edges; proofs/Covers.antt says what that is good for.
 use mathlib.Core.Bool.{Bool, cond, _&&_}
+use mathlib.Core.List.{List}
 use Prim.Native.Nat.{ℕ, zero, suc, _+_, _-_, _*_, _/_, _%_, _^_}
 use lib.IntN.{ℤ, pos, negsuc}
 use lib.Signed.{ltZ}
 use lib.Dec.{ltb, leb}
 use lib.Bits.{bitAnd}
+use Rattle.base.specs.Lists.{upTo, keep}
 use Rattle.base.specs.Bits.{wordOf, bitAt}
 use Rattle.rules.specs.declared.Grid.{Grid}
 use Rattle.rules.specs.declared.Rect.{Rect}
-use Rattle.rules.specs.Places.{edgeStrip}
+use Rattle.rules.specs.Places.{edgeStrip, regions}
 use Rattle.grid.specs.declared.cells.Span.{Span}
 use Rattle.grid.specs.declared.cells.Cells.{Cells}
 
@@ -59,6 +61,10 @@ cellsOf g r = cellsBy (touched (columnsOf g r) (rowsOf g r))
 -- whether the region's bit is 1
 unfoldable pub hasCell : Cells → ℕ → Bool
 hasCell c r = cond (ltb r 32) (bitAt (c .low) r) (bitAt (c .high) (r - 32))
+
+-- the regions of a set, rising
+abbrev pub regionsIn : Cells → List ℕ
+regionsIn c = keep (hasCell c) (upTo regions)
 
 -- the regions of both
 unfoldable pub bothCells : Cells → Cells → Cells

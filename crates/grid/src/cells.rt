@@ -1,11 +1,13 @@
 // Sets of regions, as bits of two words: regions 0 to 31 in `low`, 32 to 63 in `high`; and those that a rectangle touches.
 // An edge's column is floored and clipped to 0..7; a rectangle wholly beside the grid has an empty span.
 ghost use mathlib.Core.Path.{_≡_};
-ghost use mathlib.Core.Bool.{true};
+ghost use mathlib.Core.Bool.{true, false};
 ghost use Prim.Native.Nat.{_≤_, _<_};
+ghost use lib.ListN.{length, drop};
+ghost use Rattle.base.specs.Lists.{isEmpty, firstOf};
 ghost use Rattle.base.specs.Bits.{wordOf, bitAt};
 ghost use Rattle.rules.specs.Places.{gridLawful};
-ghost use Rattle.grid.specs.Cells.{clip, spanOf, edgesSpan, inSpan, laid, cellsOf, cellsBy, hasCell, bothCells};
+ghost use Rattle.grid.specs.Cells.{clip, spanOf, edgesSpan, inSpan, laid, cellsOf, cellsBy, hasCell, bothCells, regionsIn};
 use super::metres::edge_strip;
 use rules::Grid;
 use rules::Rect;
@@ -35,6 +37,53 @@ impl Cells {
         Cells {
             low: self.low & other.low,
             high: self.high & other.high,
+        }
+    }
+
+    pub fn is_empty(self) -> bool
+        ensures { λ r. ⌜ r ≡ isEmpty (regionsIn self) ⌝ }
+    {
+        if self.low != 0 {
+            return false;
+        }
+        self.high == 0
+    }
+
+    // How many regions there are.
+    pub fn count(self) -> u32
+        ensures { λ r. ⌜ r ≡ length (regionsIn self) ⌝ }
+    {
+        u32::count_ones(self.low) + u32::count_ones(self.high)
+    }
+
+    // The smallest region.
+    pub fn least(self) -> u32
+        requires { ⌜ isEmpty (regionsIn self) ≡ false ⌝ }
+        ensures { λ r. ⌜ r ≡ firstOf (regionsIn self) ⌝ }
+    {
+        let low = self.low;
+        if low != 0 {
+            return u32::trailing_zeros(low);
+        }
+        32 + u32::trailing_zeros(self.high)
+    }
+
+    // All but the smallest.
+    pub fn but_least(self) -> Cells
+        requires { ⌜ isEmpty (regionsIn self) ≡ false ⌝ }
+        ensures { λ r. ⌜ regionsIn r ≡ drop 1 (regionsIn self) ⌝ }
+    {
+        let low = self.low;
+        let high = self.high;
+        if low != 0 {
+            return Cells {
+                low: low & (low - 1),
+                high,
+            };
+        }
+        Cells {
+            low,
+            high: high & (high - 1),
         }
     }
 }

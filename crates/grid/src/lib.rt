@@ -4,7 +4,7 @@ ghost use mathlib.Core.Path.{_≡_};
 ghost use mathlib.Core.Bool.{true};
 ghost use Prim.Native.Nat.{_<_};
 ghost use Rattle.rules.specs.Numbers.{locatedNumbers};
-ghost use Rattle.rules.specs.Places.{edgeLawful, gridLawful, within, inGrid, strip, regionOf, regionTold};
+ghost use Rattle.rules.specs.Places.{edgeLawful, gridLawful, within, inGrid, strip, regionOf, regionTold, rectLawful, inRect};
 
 pub mod cells;
 mod metres;
@@ -14,6 +14,7 @@ use metres::lift;
 use rules::Grid;
 use rules::Located;
 use rules::Place;
+use rules::Rect;
 use rules::Refusal;
 
 // Refusal 2 is for a grid that is not lawful.
@@ -64,6 +65,32 @@ pub fn locate(grid: Grid, place: Place) -> Located
         return Located::Refused(Refusal::QuestionOutsideLimits);
     }
     Located::In(region_of(grid, place))
+}
+
+// Refusal 11 is for a rectangle that is not lawful: west over east, or south over north.
+pub fn rect_lawful(rect: Rect) -> bool
+    ensures { λ r. ⌜ r ≡ rectLawful rect ⌝ }
+{
+    if rect.east < rect.west {
+        return false;
+    }
+    rect.south <= rect.north
+}
+
+// Whether a place is in a rectangle, to which all four edges belong.
+pub fn in_rect(rect: Rect, place: Place) -> bool
+    ensures { λ r. ⌜ r ≡ inRect rect place ⌝ }
+{
+    if place.east < rect.west {
+        return false;
+    }
+    if rect.east < place.east {
+        return false;
+    }
+    if place.north < rect.south {
+        return false;
+    }
+    place.north <= rect.north
 }
 
 fn edge_lawful(edge: i32) -> bool

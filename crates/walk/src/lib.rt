@@ -7,6 +7,8 @@ use rules::layout::LAST_BYTE;
 use rules::layout::NODE_WORDS;
 use rules::layout::PAST_NODE;
 
+pub mod listing;
+
 // Where a walk comes to.
 pub enum Child {
     At(Node),

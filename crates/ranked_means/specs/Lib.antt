@@ -1,0 +1,2 @@
+-- What the ranked question promises.
+pub mod Promises

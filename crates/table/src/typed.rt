@@ -1,0 +1,21 @@
+// A typed text before anything is asked with it. Every text that is typed or given goes through here.
+use crate::names::bytes_allowed;
+use rules::Refusal;
+use rules::Stand;
+use rules::Verdict;
+ghost use mathlib.Core.Path.{_≡_};
+ghost use Rattle.rules.specs.Numbers.{verdictNumber};
+ghost use Rattle.rules.specs.Names.{textRefusal};
+
+// The first of refusals 9 and 8 that holds.
+pub fn text_verdict(typed: &[u8]) -> Verdict
+    ensures { λ r. ⌜ verdictNumber r ≡ textRefusal (now (typed .entry)) ⌝ }
+{
+    if Stand::NAME_MOST < typed.len() {
+        return Verdict::Refused(Refusal::TextTooLong);
+    }
+    if !bytes_allowed(typed) {
+        return Verdict::Refused(Refusal::TextByteNotAllowed);
+    }
+    Verdict::Passed
+}
