@@ -7,9 +7,9 @@ use mathlib.Core.List.{List, [], _∷_, _++_, append-assoc}
 use Prim.Native.Nat.{ℕ, zero, suc, _≤_, _<_}
 use native.Mathlib.Omega.{arith}
 use lib.Dec.{ltb}
-use lib.ListN.{length, take, getD}
+use lib.ListN.{length, take, drop, getD}
 use borrow.Author.Tests.{ltb-true, ltb-false, eq-eqb, ne-eqb}
-use Rattle.base.specs.Lists.{keep, each, eachList, largest, isEmpty, positionIn, In}
+use Rattle.base.specs.Lists.{keep, each, eachList, largest, firstOf, isEmpty, positionIn, In}
 use Rattle.base.proofs.Tests.{which}
 
 pub in-left : {A : Type 0} (x : A) (s t : List A) → In x s → In x (s ++ t)
@@ -86,6 +86,14 @@ keep-same f g (x ∷ l) h = step (which (g x)) (keep-same f g l (λ y k. h y (in
     step : (g x ≡ true) ⊎ (g x ≡ false) → keep f l ≡ keep g l → keep f (x ∷ l) ≡ keep g (x ∷ l)
     step (inl q) r = let e : f x ≡ true = h x (inl refl) ∙ q in simp (e, q, r)
     step (inr q) r = let e : f x ≡ false = h x (inl refl) ∙ q in simp (e, q, r)
+
+pub keep-short : {A : Type 0} (f : A → Bool) (l : List A) → length (keep f l) ≤ length l
+keep-short f [] = omega arith
+keep-short f (x ∷ l) = step (which (f x)) (keep-short f l)
+  where
+    step : (f x ≡ true) ⊎ (f x ≡ false) → length (keep f l) ≤ length l → length (keep f (x ∷ l)) ≤ length (x ∷ l)
+    step (inl q) r = rw q (omega arith)
+    step (inr q) r = rw q (omega arith)
 
 pub keep-each : {A B : Type 0} (f : B → Bool) (g : A → B) (l : List A) → keep f (each g l) ≡ each g (keep (λ x. f (g x)) l)
 keep-each f g [] = refl
@@ -177,6 +185,11 @@ some-in (x ∷ l) h = (x, inl refl)
 pub some-length : {A : Type 0} (l : List A) → not (isEmpty l) ≡ true → 1 ≤ length l
 some-length [] h = absurd (false≢true h)
 some-length (x ∷ l) h = omega arith
+
+-- such a list is its first member, which is one of them, and the rest
+pub first-rest : (l : List ℕ) → isEmpty l ≡ false → (l ≡ firstOf l ∷ drop 1 l) × In (firstOf l) l
+first-rest [] h = absurd (true≢false h)
+first-rest (x ∷ l) h = (refl, inl refl)
 
 pub in-take : {A : Type 0} (k : ℕ) (l : List A) (x : A) → In x (take k l) → In x l
 in-take zero l x h = absurd h

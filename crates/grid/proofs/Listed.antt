@@ -14,8 +14,8 @@ use borrow.Author.Tests.{lt-ltb, le-ltb, eqb-false, eq-eqb, ne-eqb}
 use Rattle.base.specs.Lists.{upTo, keep, each, isEmpty, In}
 use Rattle.base.specs.Bits.{bitAt}
 use Rattle.base.proofs.Tests.{le-or-lt}
-use Rattle.base.proofs.Members.{keep-in, keep-same, length-each}
-use Rattle.base.proofs.Runs.{in-from, keep-halves}
+use Rattle.base.proofs.Members.{keep-in, keep-same, keep-short, length-each}
+use Rattle.base.proofs.Runs.{length-from, in-from, keep-halves}
 use Rattle.base.proofs.Lowest.{setBits, bits-none, bits-lowest, bits-count}
 use Rattle.rules.specs.Places.{regions}
 use Rattle.grid.specs.declared.cells.Cells.{Cells}
@@ -110,3 +110,7 @@ listed-less c r h = all-regions r (keep-in (hasCell c) (upTo regions) r h .0)
 -- of a test's words they are those that pass it
 pub listed-by : (test : ℕ → Bool) → regionsIn (cellsBy test) ≡ keep test (upTo regions)
 listed-by test = keep-same (hasCell (cellsBy test)) test (upTo regions) (λ r h. has-by test r (all-regions r h))
+
+-- and there are at most 64
+pub listed-few : (c : Cells) → length (regionsIn c) ≤ 64
+listed-few c = omega (arith, keep-short (hasCell c) (upTo regions), length-from 0 regions, regions-is, half-is)
