@@ -7,7 +7,7 @@ use mathlib.Core.List.{List, [], _∷_, _++_, append-assoc}
 use Prim.Native.Nat.{ℕ, zero, suc, _≤_, _<_}
 use native.Mathlib.Omega.{arith}
 use lib.Dec.{ltb}
-use lib.ListN.{length, take, drop, getD}
+use lib.ListN.{length, take, drop, getD, set, replicate}
 use borrow.Author.Tests.{ltb-true, ltb-false, eq-eqb, ne-eqb}
 use Rattle.base.specs.Lists.{keep, each, eachList, largest, firstOf, isEmpty, positionIn, In}
 use Rattle.base.proofs.Tests.{which}
@@ -39,6 +39,20 @@ pub in-at : {A : Type 0} (d x : A) (l : List A) → In x l → (i : ℕ) × (i <
 in-at d x [] h = absurd h
 in-at d x (y ∷ l) (inl e) = (0, omega arith, sym e)
 in-at d x (y ∷ l) (inr h) = let t = in-at d x l h in (suc (t .0), omega arith, t .2)
+
+-- what stands at a place after a store is the value or what stood there
+pub set-either : {A : Type 0} (l : List A) (i r : ℕ) (v d : A) → (getD (set l i v) r d ≡ v) ⊎ (getD (set l i v) r d ≡ getD l r d)
+set-either [] i r v d = inr refl
+set-either (x ∷ l) zero zero v d = inl refl
+set-either (x ∷ l) zero (suc r) v d = inr refl
+set-either (x ∷ l) (suc i) zero v d = inr refl
+set-either (x ∷ l) (suc i) (suc r) v d = set-either l i r v d
+
+-- the same everywhere, within the list or past its end
+pub replicate-at : {A : Type 0} (n r : ℕ) (d : A) → getD (replicate n d) r d ≡ d
+replicate-at zero r d = refl
+replicate-at (suc n) zero d = refl
+replicate-at (suc n) (suc r) d = replicate-at n r d
 
 module _ {A : Type 0} (f : A → Bool) where
   pub in-keep : (l : List A) (x : A) → In x l → f x ≡ true → In x (keep f l)

@@ -1,3 +1,5 @@
 -- Laws of the range question: the walk through the stands, its loops, the answer, and what it means on a lawful set.
 pub mod Gathers
 pub mod Turns
+pub mod Fills
+pub mod Fetching

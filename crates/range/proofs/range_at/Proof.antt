@@ -1,101 +1,84 @@
+-- `range_at` meets its contract: by the tests on the way, and what the notes and the walk leave.
+-- Assumes nothing.
+use mathlib.Core.Path.{sym, _∙_}
+use native.Mathlib.Omega.{arith}
+use borrow.Author.Tests.{not-true, not-false}
+use Rattle.base.proofs.Tests.{breaks, holds, every-not}
+use Rattle.range.specs.Fetches.{blank}
+use Rattle.range.proofs.Turns.{stands-few}
+use Rattle.range.proofs.Fetching.{listing-breaks, fetch-breaks, fetch-torn, notes-ready, fetch-answers}
 use borrow.Author.Needs.{needs}
 use Rattle.range.proofs.range_at.Statement.{statement}
 use Rattle.range.proofs.range_at.Tie as tie
-use Rattle.range.proofs.range_at.Reads as reads
-use Rattle.range.proofs.range_at.Lts as lts
-use Rattle.grid.proofs.cells.Cells.both.Reads as both-reads
-use Rattle.grid.proofs.cells.Cells.count.Reads as count-reads
-use Rattle.grid.proofs.cells.cells_of.Reads as cells-of-reads
-use Rattle.grid.proofs.lawful.Reads as lawful-reads
-use Rattle.range.proofs.agree.Reads as agree-reads
-use Rattle.range.proofs.fill.Reads as fill-reads
-use Rattle.range.proofs.runs.listing_of.Reads as listing-of-reads
-use Rattle.range.proofs.runs.note.Reads as note-reads
-use Rattle.range.proofs.unlawful.Reads as unlawful-reads
 
--- src/lib.rt:99:9
 lawful-requires : tie.Need-lawful-requires
 lawful-requires c κs = search needs
 
--- src/lib.rt:100:9
 unlawful-requires : tie.Need-unlawful-requires
 unlawful-requires c κs = search needs
 
--- src/lib.rt:100:9
 returns : tie.Need-returns
-returns c = search needs
+returns c = fetch-breaks _ _ _ _ _ _ _ _ _ _ (c .unlawful .ensures) (every-not _ 0 (breaks _ _ (c .before .before .lawful .ensures) (c .before .if1 .taken)))
 
--- src/lib.rt:102:9
 agree-requires : tie.Need-agree-requires
 agree-requires c κs = search needs
 
--- src/lib.rt:103:9
 unlawful-requires-2 : tie.Need-unlawful-requires-2
 unlawful-requires-2 c κs = search needs
 
--- src/lib.rt:103:9
 returns-2 : tie.Need-returns-2
-returns-2 c = search needs
+returns-2 c = fetch-breaks _ _ _ _ _ _ _ _ _ _ (c .unlawful2 .ensures) (every-not _ 1 (breaks _ _ (c .before .before .agree .ensures) (c .before .if2 .taken)))
 
--- src/lib.rt:105:44
 listing-of-requires : tie.Need-listing-of-requires
 listing-of-requires c κs = search needs
 
--- src/lib.rt:105:26
 enum-known-regions : tie.Need-enum-known-regions
 enum-known-regions c = search needs
 
--- src/lib.rt:106:9
 enum-told : tie.Need-enum-told
 enum-told c = search needs
 
--- src/lib.rt:106:9
 unlawful-requires-3 : tie.Need-unlawful-requires-3
 unlawful-requires-3 c κs = search needs
 
--- src/lib.rt:106:9
 returns-3 : tie.Need-returns-3
-returns-3 c = search needs
+returns-3 c = fetch-breaks _ _ _ _ _ _ _ _ _ _ (c .unlawful3 .ensures) (every-not _ 2 (listing-breaks _ _ (sym (c .before .enum-told .given .1) ∙ c .before .before .before .listing-of .ensures)))
 
--- src/lib.rt:108:18
 cast-stands : tie.Need-cast-stands
-cast-stands c = search needs
+cast-stands c = omega (arith, stands-few _ _ _ (holds _ _ (c .before .before .before .before .before .agree .ensures) (c .before .before .before .before .if2 .left)))
 
--- src/lib.rt:115:9
 count-requires : tie.Need-count-requires
 count-requires c κs = search needs
 
--- src/lib.rt:111:9
 note-requires : tie.Need-note-requires
 note-requires c κs = search needs
 
--- src/lib.rt:119:9
 unlawful-requires-4 : tie.Need-unlawful-requires-4
 unlawful-requires-4 c κs = search needs
 
--- src/lib.rt:119:9
 returns-4 : tie.Need-returns-4
-returns-4 c = search needs
+unfolding blank
+returns-4 c = fetch-torn _ _ _ _ _ _ _ _ _ _ _ _ (sym (c .before .before .before .before .before .before .before .regions .given .1) ∙ c .before .before .before .before .before .before .before .before .before .listing-of .ensures) (c .before .before .before .before .before .count .ensures) _ _ _ (c .before .before .note .ensures) _ (c .unlawful4 .ensures) (not-true _ (c .before .if3 .taken))
 
--- src/lib.rt:121:31
 cells-of-requires : tie.Need-cells-of-requires
-cells-of-requires c κs = search needs
+cells-of-requires c κs = holds _ _ (c .before .before .before .before .before .before .before .before .before .before .before .before .lawful .ensures) (c .before .before .before .before .before .before .before .before .before .before .before .if1 .left)
 
--- src/lib.rt:121:9
 both-requires : tie.Need-both-requires
 both-requires c κs = search needs
 
--- src/lib.rt:122:5
 fill-requires : tie.Need-fill-requires
-fill-requires c κs = search needs
+unfolding blank
+fill-requires c κs = notes-ready _ _ _ _ _ _ _ _ _ (c .before .before .before .before .before .before .note .ensures) (holds _ _ (c .before .before .before .before .before .before .before .before .before .before .before .before .before .before .before .agree .ensures) (c .before .before .before .before .before .before .before .before .before .before .before .before .before .before .if2 .left))
 
--- src/lib.rt:86:1
 same-length : tie.Need-same-length
 same-length c = search needs
 
--- src/lib.rt:86:1
 returns-5 : tie.Need-returns-5
-returns-5 c = search needs
+unfolding blank
+returns-5 c =
+    fetch-answers _ _ _ _ _ _ _ _ _ _ _ _ (sym (c .before .before .before .before .before .before .before .before .before .before .before .before .before .before .regions .given .1) ∙ c .before .before .before .before .before .before .before .before .before .before .before .before .before .before .before .before .listing-of .ensures) (c .before .before .before .before .before .before .before .before .before .before .before .before .count .ensures) _ _ _ (c .before .before .before .before .before .before .before .before .before .note .ensures)
+    (holds _ _ (c .before .before .before .before .before .before .before .before .before .before .before .before .before .before .before .before .before .before .before .before .lawful .ensures) (c .before .before .before .before .before .before .before .before .before .before .before .before .before .before .before .before .before .before .before .if1 .left)) (holds _ _ (c .before .before .before .before .before .before .before .before .before .before .before .before .before .before .before .before .before .before .agree .ensures) (c .before .before .before .before .before .before .before .before .before .before .before .before .before .before .before .before .before .if2 .left)) (not-false _ (c .before .before .before .before .before .before .before .before .if3 .left))
+    _ _ (c .before .before .before .before .before .before .before .cells-of .ensures) (c .before .before .before .before .before .before .both .ensures) _ _ (c .before .before .fill .ensures)
 
 pub range-at-spec : {M : Type 1} → statement M
 range-at-spec =

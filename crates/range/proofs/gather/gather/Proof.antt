@@ -58,7 +58,7 @@ element-copy-out-t17-2 : tie.Need-element-copy-out-t17-2 Inv-loop μ-loop
 element-copy-out-t17-2 c = small (c .before)
 
 gather-run-requires : tie.Need-gather-run-requires Inv-loop μ-loop
-gather-run-requires c κs = sweep-room _ _ _ _ _ _ _ _ _ _ _ (c .before .before .before .before .before .before .loop .inv) (some (c .before .before .before .before )) _ (c .before .before .before .least .ensures)
+gather-run-requires c κs = sweep-room _ _ _ _ _ _ _ _ _ _ _ (c .before .before .before .before .before .before .loop .inv) (some (c .before .before .before .before)) _ (c .before .before .before .least .ensures)
 
 enum-known-more : tie.Need-enum-known-more Inv-loop μ-loop
 enum-known-more c = search needs
@@ -70,10 +70,10 @@ same-length : tie.Need-same-length Inv-loop μ-loop
 same-length c = ap (λ (g : Gathered). length (g .room)) (c .before .before .before .before .gather-run .ensures) ∙ walk-size _ _ _ _ _ _ ∙ c .before .before .before .before .before .before .before .before .before .before .before .loop .inv .size
 
 returns : tie.Need-returns Inv-loop μ-loop
-returns c = sweep-breaks _ _ _ _ _ _ _ _ _ _ _ (c .before .before .before .before .before .before .before .before .before .before .before .loop .inv) (some (c .before .before .before .before .before .before .before .before .before )) _ (c .before .before .before .before .before .before .before .before .least .ensures) _ (rw (c .enum-told .given .1) at (c .before .before .before .before .gather-run .ensures))
+returns c = sweep-breaks _ _ _ _ _ _ _ _ _ _ _ (c .before .before .before .before .before .before .before .before .before .before .before .loop .inv) (some (c .before .before .before .before .before .before .before .before .before)) _ (c .before .before .before .before .before .before .before .before .least .ensures) _ (rw (c .enum-told .given .1) at (c .before .before .before .before .gather-run .ensures))
 
 but-least-requires : tie.Need-but-least-requires Inv-loop μ-loop
-but-least-requires c κs = some (c .before .before .before .before .before .before .before .before .before .before )
+but-least-requires c κs = some (c .before .before .before .before .before .before .before .before .before .before)
 
 loop-less : tie.Need-loop-less Inv-loop μ-loop
 loop-less c =
@@ -82,7 +82,7 @@ loop-less c =
     omega (arith, ap length (c .but-least .ensures))
 
 loop-again : tie.Need-loop-again Inv-loop μ-loop
-loop-again c = sweep-on _ _ _ _ _ _ _ _ _ _ _ (c .before .before .before .before .before .before .before .before .before .before .before .before .before .loop .inv) (some (c .before .before .before .before .before .before .before .before .before .before .before )) _ (c .before .before .before .before .before .before .before .before .before .before .least .ensures) _ _ _ (rw (c .before .before .more .given .1) at (c .before .before .before .before .before .before .gather-run .ensures)) (c .but-least .ensures)
+loop-again c = sweep-on _ _ _ _ _ _ _ _ _ _ _ (c .before .before .before .before .before .before .before .before .before .before .before .before .before .loop .inv) (some (c .before .before .before .before .before .before .before .before .before .before .before)) _ (c .before .before .before .before .before .before .before .before .before .before .least .ensures) _ _ _ (rw (c .before .before .more .given .1) at (c .before .before .before .before .before .before .gather-run .ensures)) (c .but-least .ensures)
 
 same-length-2 : tie.Need-same-length-2 Inv-loop μ-loop
 same-length-2 c = c .before .before .loop .inv .size
