@@ -9,7 +9,7 @@ use native.Mathlib.Numerals.{add-one}
 use native.Mathlib.Omega.{arith}
 use lib.Dec.{eqb, eqb·zero-suc, eqb·suc-suc}
 use lib.ListN.{length, take, drop, getD, drop-of-length-le}
-use lib.Seq.{drop-cons}
+use lib.Seq.{drop-cons, take-take}
 use borrow.Author.Tests.{eqb-true, eqb-false, eq-eqb, ne-eqb}
 use Rattle.base.specs.Lists.{begins, sameList, sharedLength, In}
 use Rattle.base.proofs.Tests.{which, never, and-parts}
@@ -71,6 +71,9 @@ begins-at [] n i d h l = absurd (omega arith)
 begins-at (a ∷ p) [] i d h l = absurd (false≢true h)
 begins-at (a ∷ p) (b ∷ n) zero d h l = sym (begins-cases a b p n h .0)
 begins-at (a ∷ p) (b ∷ n) (suc i) d h l = begins-at p n i d (begins-cases a b p n h .1) (omega arith)
+
+pub begins-part : (p n : List ℕ) (k : ℕ) → begins p n ≡ true → k ≤ length p → take k n ≡ take k p
+begins-part p n k h l = sym (ap (take k) (begins-is-take p n h) ∙ take-take k (length p) n l)
 
 pub begins-append : (p q : List ℕ) → begins p (p ++ q) ≡ true
 begins-append [] q = refl

@@ -18,6 +18,12 @@ total-suc f d [] j h = absurd (omega arith)
 total-suc f d (x ∷ l) zero h = omega arith
 total-suc f d (x ∷ l) (suc j) h = let r = total-suc f d l j (omega arith) in omega arith
 
+-- a sum with terms left out
+pub total-take : {A : Type 0} (f : A → ℕ) (l : List A) (j : ℕ) → total (each f (take j l)) ≤ total (each f l)
+total-take f l zero = omega arith
+total-take f [] (suc j) = omega arith
+total-take f (x ∷ l) (suc j) = omega (arith, total-take f l j)
+
 module _ {A : Type 0} where
   pub total-less : (f g : A → ℕ) (l : List A) → ((x : A) → In x l → f x ≤ g x) → total (each f l) ≤ total (each g l)
   total-less f g [] h = omega arith

@@ -135,6 +135,23 @@ pub each-same : {A B : Type 0} (f g : A → B) (l : List A) → ((x : A) → In 
 each-same f g [] h = refl
 each-same f g (x ∷ l) h = rw (h x (inl refl), each-same f g l (λ y k. h y (inr k)))
 
+pub each-append : {A B : Type 0} (f : A → B) (s t : List A) → each f (s ++ t) ≡ each f s ++ each f t
+each-append f [] t = refl
+each-append f (x ∷ s) t = rw (each-append f s t)
+
+pub eachList-each : {A B C : Type 0} (f : B → List C) (g : A → B) (l : List A) → eachList f (each g l) ≡ eachList (λ x. f (g x)) l
+eachList-each f g [] = refl
+eachList-each f g (x ∷ l) = rw (eachList-each f g l)
+
+pub each-eachList : {A B C : Type 0} (f : B → C) (g : A → List B) (l : List A) → each f (eachList g l) ≡ eachList (λ x. each f (g x)) l
+each-eachList f g [] = refl
+each-eachList f g (x ∷ l) = rw (each-append f (g x) (eachList g l), each-eachList f g l)
+
+pub getD-each : {A B : Type 0} (f : A → B) (l : List A) (i : ℕ) (d : A) (z : B) → i < length l → getD (each f l) i z ≡ f (getD l i d)
+getD-each f [] i d z h = absurd (omega arith)
+getD-each f (x ∷ l) zero d z h = refl
+getD-each f (x ∷ l) (suc i) d z h = getD-each f l i d z (omega arith)
+
 pub in-each : {A B : Type 0} (g : A → B) (l : List A) (y : B) → In y (each g l) → (x : A) × In x l × (y ≡ g x)
 in-each g [] y h = absurd h
 in-each g (x ∷ l) y (inl e) = (x, inl refl, e)

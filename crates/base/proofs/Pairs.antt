@@ -9,7 +9,7 @@ use native.Mathlib.Omega.{arith}
 use lib.Dec.{eqb, ltb}
 use lib.ListN.{length, take, getD}
 use borrow.Author.Tests.{eqb-true, ltb-true, ltb-false}
-use Rattle.base.specs.Lists.{fromOn, keep, each, eachList, leads, sortBy, In, Pairwise}
+use Rattle.base.specs.Lists.{fromOn, keep, each, eachList, firstOf, leads, sortBy, In, Pairwise}
 use Rattle.base.proofs.Tests.{which}
 use Rattle.base.proofs.Members.{in-right, in-either, getD-in, keep-in, in-take, in-each, in-eachList}
 use Rattle.base.proofs.Runs.{in-from}
@@ -109,6 +109,12 @@ Less x y = x < y
 pub less-from : (a n : ℕ) → Pairwise Less (fromOn a n)
 less-from a zero = tt
 less-from a (suc n) = ((λ y k. in-from (suc a) n y k .0), less-from (suc a) n)
+
+-- the first of numbers that rise is the least
+pub less-first : (l : List ℕ) → Pairwise Less l → (x : ℕ) → In x l → firstOf l ≤ x
+less-first [] h x k = absurd k
+less-first (y ∷ l) h x (inl e) = omega arith
+less-first (y ∷ l) h x (inr k) = omega (arith, h .0 x k)
 
 -- numbers that rise, from a on and below a + n, are at most n
 pub less-few : (l : List ℕ) (a n : ℕ) → Pairwise Less l → ((x : ℕ) → In x l → (a ≤ x) × (x < a + n)) → length l ≤ n

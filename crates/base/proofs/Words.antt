@@ -1,4 +1,4 @@
--- A word of bits: its size, what one more bit adds, what each bit says, and the words of tests put together.
+-- A word of bits: its size, what one more bit adds, what each bit says, the words of tests put together, of parts and of an interval.
 -- Assumes nothing.
 use mathlib.Core.Path.{_≡_, refl, ap, _∙_}
 use mathlib.Core.Bool.{Bool, true, false, _&&_, _||_}

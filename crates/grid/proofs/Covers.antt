@@ -18,7 +18,7 @@ use Rattle.rules.specs.declared.Rect.{Rect}
 use Rattle.rules.specs.Places.{lifted, edgeStrip, gridLawful, within, inGrid, strip, regionOf, inRect}
 use Rattle.grid.specs.Cells.{edgesSpan, touched, cellsOf, hasCell}
 use Rattle.grid.proofs.Signed.{ahead, behind}
-use Rattle.grid.proofs.Inside.{cell-some, west-fits, south-fits, from-edge, east-inside, north-inside, column-back, row-back, region-less}
+use Rattle.rules.proofs.Places.{cell-some, west-fits, south-fits, from-edge, east-inside, north-inside, column-back, row-back, region-less}
 use Rattle.grid.proofs.Spans.{span-exact}
 use Rattle.grid.proofs.Sets.{has-by}
 

@@ -13,7 +13,7 @@ use Rattle.rules.specs.declared.Grid.{Grid}
 use Rattle.rules.specs.declared.Place.{Place}
 use Rattle.rules.specs.Places.{lifted, within, inGrid, strip, regionOf}
 use Rattle.rules.specs.Worth.{apart, squared, distance², diagonal², nearest, nearestIn, regionDistance²}
-use Rattle.grid.proofs.Inside.{from-edge, before-end, east-inside, north-inside, column-back, row-back}
+use Rattle.rules.proofs.Places.{from-edge, before-end, east-inside, north-inside, column-back, row-back}
 use Rattle.grid.proofs.Squares.{square-less, square-most, side-squared}
 
 -- two legs that are each below the grid's side

@@ -15,7 +15,7 @@ use mir.Val.{SFits}
 use Rattle.base.proofs.Tests.{le-or-lt}
 use Rattle.rules.specs.Places.{lifted, floorDiv, edgeStrip, within, strip}
 use Rattle.grid.proofs.Signed.{one-up, ahead}
-use Rattle.grid.proofs.Inside.{from-edge}
+use Rattle.rules.proofs.Places.{from-edge}
 
 neg-below : (m n : ℕ) → n < m → negℤ (pos m) ≤ℤ negsuc n
 neg-below zero n h = absurd (omega arith)

@@ -2,7 +2,6 @@
 pub mod Signed
 pub mod Floors
 pub mod Compared
-pub mod Inside
 pub mod Squares
 pub mod Distances
 pub mod Values

@@ -10,7 +10,7 @@ use Rattle.rules.specs.declared.Place.{Place}
 use Rattle.rules.specs.Places.{gridLawful, inGrid, regionOf}
 use Rattle.rules.specs.Worth.{diagonal², valueAt, valueOf, boundOf}
 use Rattle.grid.specs.Weights.{Weighable}
-use Rattle.grid.proofs.Inside.{cell-some, cell-small}
+use Rattle.rules.proofs.Places.{cell-some, cell-small}
 use Rattle.grid.proofs.Squares.{cell-squared}
 use Rattle.grid.proofs.Distances.{cell-least}
 

@@ -6,7 +6,7 @@ use Prim.Native.Nat.{ℕ, zero, suc, _+_, _-_, _*_, _/_, _%_, _^_}
 use lib.IntN.{ℤ, pos, negsuc}
 use lib.Signed.{ltZ}
 use lib.Dec.{ltb, leb}
-use lib.Bits.{bitAnd, bitOr}
+use lib.Bits.{bitAnd}
 use Rattle.base.specs.Lists.{upTo, keep}
 use Rattle.base.specs.Bits.{wordOf, bitAt}
 use Rattle.rules.specs.declared.Grid.{Grid}
@@ -69,9 +69,3 @@ regionsIn c = keep (hasCell c) (upTo regions)
 -- the regions of both
 unfoldable pub bothCells : Cells → Cells → Cells
 bothCells c d = record { low = bitAnd (c .low) (d .low); high = bitAnd (c .high) (d .high) }
-
--- with one region more
-unfoldable pub withCell : Cells → ℕ → Cells
-withCell c r =
-    cond (ltb r 32) (record { low = bitOr (c .low) (2 ^ r); high = c .high })
-    (record { low = c .low; high = bitOr (c .high) (2 ^ (r - 32)) })

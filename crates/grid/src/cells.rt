@@ -1,13 +1,13 @@
 // Sets of regions, as bits of two words: regions 0 to 31 in `low`, 32 to 63 in `high`; and those that a rectangle touches.
 // An edge's column is floored and clipped to 0..7; a rectangle wholly beside the grid has an empty span.
 ghost use mathlib.Core.Path.{_≡_};
-ghost use mathlib.Core.Bool.{true, false};
+ghost use mathlib.Core.Bool.{true};
 ghost use Prim.Native.Nat.{_≤_, _<_};
 ghost use lib.ListN.{length, drop};
 ghost use Rattle.base.specs.Lists.{isEmpty, firstOf};
 ghost use Rattle.base.specs.Bits.{wordOf, bitAt};
 ghost use Rattle.rules.specs.Places.{gridLawful};
-ghost use Rattle.grid.specs.Cells.{clip, spanOf, edgesSpan, inSpan, laid, cellsOf, cellsBy, hasCell, bothCells, withCell, regionsIn};
+ghost use Rattle.grid.specs.Cells.{clip, spanOf, edgesSpan, inSpan, laid, cellsOf, cellsBy, hasCell, bothCells, regionsIn};
 use super::metres::edge_strip;
 use rules::Grid;
 use rules::Rect;
@@ -27,31 +27,6 @@ impl Cells {
             bit_at(self.low, region)
         } else {
             bit_at(self.high, region - 32)
-        }
-    }
-
-    // No region.
-    pub fn none() -> Cells
-        ensures { λ r. ⌜ r ≡ cellsBy (λ k. false) ⌝ }
-    {
-        Cells { low: 0, high: 0 }
-    }
-
-    // With one region more.
-    pub fn with(self, region: u32) -> Cells
-        requires { ⌜ region < 64 ⌝ }
-        ensures { λ r. ⌜ r ≡ withCell self region ⌝ }
-    {
-        if region < 32 {
-            Cells {
-                low: self.low | 1 << region,
-                high: self.high,
-            }
-        } else {
-            Cells {
-                low: self.low,
-                high: self.high | 1 << (region - 32),
-            }
         }
     }
 

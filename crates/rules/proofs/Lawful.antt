@@ -1,4 +1,4 @@
--- What a table and a grid have that no refusal meets, part by part, and each refusal by the first test that fails.
+-- What a table and a grid have that no refusal meets, part by part, and each refusal by the first test that fails; what a lawful set has.
 -- Assumes nothing.
 use Prim.Native.Nat.{ℕ, zero, suc, _+_, _-_, _≤_, _<_}
 use mathlib.Core.Path.{_≡_, refl, sym, ap, _∙_}
@@ -9,6 +9,7 @@ use lib.Dec.{ltb, leb, lit<}
 use lib.IntN.{ℤ}
 use lib.ListN.{length, getD, take, drop}
 use borrow.Author.Tests.{ltb-true, ltb-false, leb-true, eqb-true, lt-ltb, lt-leb, le-leb, eq-eqb}
+use Rattle.base.specs.Lists.{begins}
 use Rattle.base.proofs.Tests.{which, and-left, and-right, and-false, every-at, every-of}
 use Rattle.base.proofs.Scans.{all-at, all-of}
 use Rattle.rules.specs.declared.Grid.{Grid}
@@ -18,6 +19,7 @@ use Rattle.rules.specs.Numbers.{verdictNumber}
 use Rattle.rules.specs.Places.{gridLawful, inGrid}
 use Rattle.rules.specs.Names.{nameAllowed, inOrder, spanned, name}
 use Rattle.rules.specs.Tables.{Table, stands, startOf, nameOf, placeIn, placeOf, scoreOf, rising, shapeLawful, namesAllowed, namesInOrder, standLawful, standsLawful, tableRefusal, Shaped, LawfulTable}
+use Rattle.rules.specs.Indexes.{Index, orderWords, nodeWords, entryWords, setLawful}
 use Rattle.rules.proofs.Bytes.{name-bytes}
 
 -- where a stand's name lies, by its starts
@@ -159,3 +161,20 @@ module _ (t : Table) (g : Grid) where
     name-part i h =
         let two : i + 1 < length (t .starts) = omega (arith, l .shaped .bounds) in
         rw (by-starts (t .text) (t .starts) i two (l .shaped .forward i h) (start-inside (i + 1) (omega arith)))
+
+-- the parts of a lawful set
+pub record SetParts (t : Table) (g : Grid) (x : Index) : Type 0 where
+  pub table : LawfulTable t g
+  pub order : begins (orderWords t g) (x .order) ≡ true
+  pub nodes : begins (nodeWords t g) (x .nodes) ≡ true
+  pub entries : begins (entryWords t g) (x .entries) ≡ true
+
+pub set-parts : (t : Table) (g : Grid) (x : Index) → setLawful t g x ≡ true → SetParts t g x
+unfolding setLawful
+set-parts t g x e =
+    record {
+      table = lawful t g (eqb-true _ _ (every-at _ 0 e));
+      order = every-at _ 1 e;
+      nodes = every-at _ 2 e;
+      entries = every-at _ 3 e;
+    }

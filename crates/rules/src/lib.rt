@@ -1,7 +1,10 @@
 // What the finder's calls are given and what they answer: places, numberings, questions, the session, refusals.
 // Each limit stands here once, at the type that it belongs to. What the rules are is said in specs/.
 ghost use mathlib.Core.Path.{_≡_};
+ghost use Rattle.rules.specs.Numbers.{refusalNumber, verdictNumber};
 ghost use Rattle.rules.specs.Sessions.{freshSession};
+
+pub mod layout;
 
 // The number of a stand: its position in the table.
 pub struct Stand(pub u32);
@@ -116,10 +119,45 @@ pub enum Refusal {
     InputMalformed,
 }
 
+impl Refusal {
+    pub fn number(self) -> u32
+        ensures { λ r. ⌜ r ≡ refusalNumber self ⌝ }
+    {
+        match self {
+            Refusal::TableMisshapen => 1,
+            Refusal::GridOutsideLimits => 2,
+            Refusal::NameNotAllowed => 3,
+            Refusal::NamesOutOfOrder => 4,
+            Refusal::StandNotAllowed => 5,
+            Refusal::BufferTooSmall => 6,
+            Refusal::NotLawful => 7,
+            Refusal::TextByteNotAllowed => 8,
+            Refusal::TextTooLong => 9,
+            Refusal::NothingToRubOut => 10,
+            Refusal::RectReversed => 11,
+            Refusal::QuestionOutsideLimits => 12,
+            Refusal::RoomTooSmall => 13,
+            Refusal::InputMalformed => 14,
+        }
+    }
+}
+
 // Whether a table is taken, or a keystroke.
 pub enum Verdict {
     Passed,
     Refused(Refusal),
+}
+
+impl Verdict {
+    // The refusal's number, or 0.
+    pub fn number(self) -> u32
+        ensures { λ r. ⌜ r ≡ verdictNumber self ⌝ }
+    {
+        match self {
+            Verdict::Passed => 0,
+            Verdict::Refused(why) => why.number(),
+        }
+    }
 }
 
 // The region of a place.

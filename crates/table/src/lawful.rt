@@ -24,6 +24,7 @@ fn rising(starts: &[u32]) -> bool
     true
 }
 
+// Refusal 1. That there is one start more than stands comes first, so that the first and the last can be read.
 pub fn shape_lawful(text: &[u8], starts: &[u32], east: &[i32], north: &[i32], score: &[u32]) -> bool
     ensures { λ r. ⌜ r ≡ shapeLawful (tableOf (now (text .entry)) (now (starts .entry)) (now (east .entry)) (now (north .entry)) (now (score .entry))) ⌝ }
 {
@@ -52,6 +53,7 @@ pub fn shape_lawful(text: &[u8], starts: &[u32], east: &[i32], north: &[i32], sc
     true
 }
 
+// Refusal 3.
 pub fn names_allowed(text: &[u8], starts: &[u32], stands: u32) -> bool
     ensures { λ r. ⌜ r ≡ namesAllowed (now (text .entry)) (now (starts .entry)) stands ⌝ }
 {
@@ -65,6 +67,7 @@ pub fn names_allowed(text: &[u8], starts: &[u32], stands: u32) -> bool
     true
 }
 
+// Refusal 4. Neighbours are enough, since the byte order carries over a name between.
 pub fn names_in_order(text: &[u8], starts: &[u32], stands: u32) -> bool
     ensures { λ r. ⌜ r ≡ namesInOrder (now (text .entry)) (now (starts .entry)) stands ⌝ }
 {
@@ -80,6 +83,7 @@ pub fn names_in_order(text: &[u8], starts: &[u32], stands: u32) -> bool
     true
 }
 
+// Refusal 5.
 pub fn stands_lawful(east: &[i32], north: &[i32], score: &[u32], grid: Grid) -> bool
     requires { ⌜ (length (now east) ≡ length (now score)) × (length (now north) ≡ length (now score)) ⌝ }
     ensures { λ r. ⌜ r ≡ standsLawful (now (east .entry)) (now (north .entry)) (now (score .entry)) grid ⌝ }

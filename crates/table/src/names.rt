@@ -98,15 +98,13 @@ fn name_span(text: &[u8], starts: &[u32], stand: Stand) -> Span
     }
     let from = starts[i] as usize;
     let past = starts[i + 1] as usize;
-    if past < from {
-        return Span { from: 0, past: 0 };
-    }
-    if text.len() < past {
+    if past < from || text.len() < past {
         return Span { from: 0, past: 0 };
     }
     Span { from, past }
 }
 
+// A stand's name, as a part of the text.
 pub fn name_of<'a>(text: &'a [u8], starts: &[u32], stand: Stand) -> &'a [u8]
     ensures { λ r. ⌜ now r ≡ name (now (text .entry)) (now (starts .entry)) (stand .0) ⌝ }
 {
@@ -114,7 +112,8 @@ pub fn name_of<'a>(text: &'a [u8], starts: &[u32], stand: Stand) -> &'a [u8]
     &text[from..past]
 }
 
-// What is left of a stand's name after a typed text: nothing, where it doesn't begin so.
+// What is left of a stand's name after a typed text, for showing a hit; where the name doesn't begin so, the empty part at the
+// text's start. Bytes and place are promised, so that no caller has to look the part up in the text again.
 pub fn rest_of_name<'a>(text: &'a [u8], starts: &[u32], stand: Stand, typed: &[u8]) -> &'a [u8]
     ensures { λ r. ⌜ Rest (now (text .entry)) (now (starts .entry)) (stand .0) (now (typed .entry)) (ptr (text .entry)) (now r) (ptr r) ⌝ }
 {

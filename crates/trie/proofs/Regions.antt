@@ -20,7 +20,7 @@ use Rattle.rules.specs.Places.{inRect, regions}
 use Rattle.rules.specs.Tables.{Table, stands, placeOf, Ordered, LawfulTable}
 use Rattle.rules.specs.Questions.{under, regionOfStand, inRegion, byRegion, rangeList}
 use Rattle.rules.specs.Indexes.{orderWords, occupied, regionsUnder, entryOf}
-use Rattle.rules.proofs.Places.{region-less}
+use Rattle.rules.proofs.Places.{region-among}
 use Rattle.trie.proofs.Tables.{under-run, under-fits}
 
 -- ---- n stands put by region ρ, of which there are m; a run of c stands from f on, and those of it in region r
@@ -136,7 +136,7 @@ module _ (t : Table) (g : Grid) (o : Ordered t) (p : List ℕ) where
 module _ (t : Table) (g : Grid) (l : LawfulTable t g) where
   pub region-small : (i : ℕ) → i < stands t → regionOfStand g t i < regions
   unfolding regionOfStand
-  region-small i h = region-less g (placeOf t i) (l .gridded) (l .placed i h)
+  region-small i h = region-among g (placeOf t i) (l .gridded) (l .placed i h)
 
   -- so that putting them by region loses none and adds none
   pub by-region-shuffle : (s : List ℕ) → ((i : ℕ) → In i s → i < stands t) → Shuffle (byRegion g t s) s

@@ -2,12 +2,13 @@
 -- Assumes nothing.
 use mathlib.Core.Path.{_≡_, refl, ap, _∙_}
 use mathlib.Core.List.{List, [], _∷_}
-use Prim.Native.Nat.{ℕ, _+_, _*_, _<_}
+use Prim.Native.Nat.{ℕ, suc, _+_, _*_, _≤_, _<_}
 use native.Mathlib.Omega.{arith}
 use lib.ListN.{length, take, getD}
 use Rattle.base.specs.Lists.{upTo, each, eachList, total}
 use Rattle.base.proofs.Members.{length-each}
 use Rattle.base.proofs.Runs.{length-from, getD-from}
+use Rattle.base.proofs.Counts.{total-suc, total-take}
 use Rattle.base.proofs.Rows.{length-parts, getD-parts, length-rows, getD-rows}
 use Rattle.base.proofs.Sorts.{length-sort}
 use Rattle.rules.specs.declared.Grid.{Grid}
@@ -50,6 +51,17 @@ module _ (t : Table) (g : Grid) where
         length-parts (λ q. eachList entryRow (entriesOf t g q)) (beginnings t),
         entries-total (beginnings t),
         entries-counted (beginnings t),
+      )
+
+  -- a node's entries end within the entry words
+  pub entries-fit : (j : ℕ) → j < nodeCount t → getD (nodeRow t g j) 7 0 + length (entriesOf t g (getD (beginnings t) j [])) ≤ entryCount t g
+  entries-fit j h =
+      omega (
+        arith,
+        entries-length (getD (beginnings t) j []),
+        entries-counted (beginnings t),
+        total-suc (λ q. length (regionsUnder t g q)) [] (beginnings t) j h,
+        total-take (λ q. length (regionsUnder t g q)) (beginnings t) (suc j),
       )
 
   -- the words of node j's e-th entry stand at (its row's last word + e) * 4

@@ -3,13 +3,11 @@
 ghost use mathlib.Core.Path.{_≡_};
 ghost use Rattle.walk.specs.Walks.{childIn, nodeIn};
 use rules::Node;
+use rules::layout::LAST_BYTE;
+use rules::layout::NODE_WORDS;
+use rules::layout::PAST_NODE;
 
-// How many words a node has, and which of them, counted from 0, are its last byte and the number past its subtree.
-const WORDS: usize = 8;
-
-const LAST_BYTE: usize = 1;
-
-const PAST: usize = 4;
+pub mod listing;
 
 // Where a walk comes to.
 pub enum Child {
@@ -24,22 +22,22 @@ pub enum Child {
 pub fn child_of(nodes: &[u32], above: Node, byte: u8) -> Child
     ensures { λ r. ⌜ r ≡ childIn (now (nodes .entry)) (above .0) byte ⌝ }
 {
-    let all = nodes.len() / WORDS;
+    let all = nodes.len() / NODE_WORDS;
     let p = above.0 as usize;
     if all <= p {
         return Child::Broken;
     }
-    let past = nodes[p * WORDS + PAST] as usize;
+    let past = nodes[p * NODE_WORDS + PAST_NODE] as usize;
     if all < past {
         return Child::Broken;
     }
     let wanted = byte as u32;
     let mut c = p + 1;
     while c < past {
-        if nodes[c * WORDS + LAST_BYTE] == wanted {
+        if nodes[c * NODE_WORDS + LAST_BYTE] == wanted {
             return Child::At(Node(c as u32));
         }
-        let next = nodes[c * WORDS + PAST] as usize;
+        let next = nodes[c * NODE_WORDS + PAST_NODE] as usize;
         if next <= c {
             return Child::Broken;
         }

@@ -5,7 +5,7 @@ use native.Mathlib.Omega.{arith}
 use borrow.Author.Needs.{needs}
 use Rattle.base.proofs.Machine.{arrive}
 use Rattle.rules.specs.Places.{within, strip, regionOf}
-use Rattle.grid.proofs.Inside.{cell-some, east-inside, north-inside, strip-less}
+use Rattle.rules.proofs.Places.{cell-some, east-inside, north-inside, strip-less}
 use Rattle.grid.proofs.region_of.Statement.{statement}
 use Rattle.grid.proofs.region_of.Tie as tie
 

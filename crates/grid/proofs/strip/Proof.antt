@@ -5,7 +5,7 @@ use native.Mathlib.Omega.{arith}
 use borrow.Author.Needs.{needs}
 use Rattle.base.proofs.Machine.{arrives}
 use Rattle.rules.specs.Places.{lifted}
-use Rattle.grid.proofs.Inside.{from-edge, strip-less}
+use Rattle.rules.proofs.Places.{from-edge, strip-less}
 use Rattle.grid.proofs.strip.Statement.{statement}
 use Rattle.grid.proofs.strip.Tie as tie
 

@@ -7,7 +7,7 @@ use mir.Syntax.{w32}
 use mir.Facts.{toZ-ofZ}
 use Rattle.base.proofs.Words.{word-less}
 use Rattle.grid.specs.Cells.{cellsOf, cellsBy, columnsOf, rowsOf, edgesSpan}
-use Rattle.grid.proofs.Inside.{cell-some}
+use Rattle.rules.proofs.Places.{cell-some}
 use Rattle.grid.proofs.Spans.{past-most}
 use Rattle.grid.proofs.Rows.{laid-touched}
 use Rattle.grid.proofs.cells.cells_of.Statement.{statement}

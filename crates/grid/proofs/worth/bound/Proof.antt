@@ -4,7 +4,7 @@ use native.Mathlib.Nat.{le-of-lt}
 use borrow.Author.Needs.{needs}
 use Rattle.rules.specs.Worth.{boundOf}
 use Rattle.grid.proofs.Distances.{region-below-diagonal}
-use Rattle.grid.proofs.Inside.{cell-some}
+use Rattle.rules.proofs.Places.{cell-some}
 use Rattle.grid.proofs.worth.bound.Statement.{statement}
 use Rattle.grid.proofs.worth.bound.Tie as tie
 

@@ -4,7 +4,7 @@ use native.Mathlib.Omega.{arith}
 use borrow.Author.Needs.{needs}
 use Rattle.rules.specs.Worth.{diagonal²}
 use Rattle.grid.proofs.Squares.{cell-squared}
-use Rattle.grid.proofs.Inside.{cell-small}
+use Rattle.rules.proofs.Places.{cell-small}
 use Rattle.grid.proofs.worth.diagonal.Statement.{statement}
 use Rattle.grid.proofs.worth.diagonal.Tie as tie
 

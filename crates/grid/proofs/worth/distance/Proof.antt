@@ -6,7 +6,7 @@ use borrow.Author.Needs.{needs}
 use Rattle.base.proofs.Machine.{arrive}
 use Rattle.rules.specs.Places.{lifted}
 use Rattle.rules.specs.Worth.{apart, distance²}
-use Rattle.grid.proofs.Inside.{cell-small, east-inside, north-inside}
+use Rattle.rules.proofs.Places.{cell-small, east-inside, north-inside}
 use Rattle.grid.proofs.Distances.{legs-less}
 use Rattle.grid.proofs.worth.distance.Statement.{statement}
 use Rattle.grid.proofs.worth.distance.Tie as tie

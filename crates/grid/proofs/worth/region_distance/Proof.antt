@@ -7,7 +7,7 @@ use borrow.Author.Needs.{needs}
 use Rattle.base.proofs.Machine.{arrive}
 use Rattle.rules.specs.Places.{lifted}
 use Rattle.rules.specs.Worth.{apart, nearestIn, acrossTo, alongTo, regionDistance²}
-use Rattle.grid.proofs.Inside.{cell-some, cell-small, east-inside, north-inside}
+use Rattle.rules.proofs.Places.{cell-some, cell-small, east-inside, north-inside}
 use Rattle.grid.proofs.Distances.{gap-less}
 use Rattle.grid.proofs.worth.region_distance.Statement.{statement}
 use Rattle.grid.proofs.worth.region_distance.Tie as tie

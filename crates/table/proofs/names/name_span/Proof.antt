@@ -1,8 +1,10 @@
 -- `names::name_span` gives where a name lies, or the empty span at 0.
 -- Assumes nothing.
 use Prim.Native.Nat.{_+_}
+use mathlib.Core.Logic.{⊎-elim}
 use native.Mathlib.Omega.{arith}
-use borrow.Author.Tests.{le-ltb, lt-leb}
+use lib.ListN.{length, getD}
+use borrow.Author.Tests.{ltb-true, le-ltb, lt-leb}
 use borrow.Author.Needs.{needs}
 use Rattle.base.proofs.Tests.{every-not}
 use Rattle.rules.specs.Names.{spanned}
@@ -43,14 +45,17 @@ cast-past c = omega (arith, c .shared-slice-known2 .given (c .before .before .be
 
 returns-2 : tie.Need-returns-2
 unfolding spanned
-returns-2 c = nowhere _ _ _ (every-not _ 1 (lt-leb _ _ (c .if2 .taken)))
+returns-2 c =
+    let a = c .before .before .before .before .before .args in
+    let past = getD (a .starts .now) (a .stand .0 + 1) 0 in
+    nowhere _ _ _
+    (⊎-elim
+    (λ w. every-not _ 1 (lt-leb _ _ (w .taken)))
+    (λ w. every-not _ 2 (lt-leb _ _ (ltb-true (length (a .text .now)) past (w .1 .taken))))
+    (c .if2 .came))
 
 returns-3 : tie.Need-returns-3
-unfolding spanned
-returns-3 c = nowhere _ _ _ (every-not _ 2 (lt-leb _ _ (c .if3 .taken)))
-
-returns-4 : tie.Need-returns-4
-returns-4 c = found _ _ _ (search needs) (search needs) (search needs)
+returns-3 c = found _ _ _ (search needs) (search needs) (search needs)
 
 pub name-span-spec : {M : Type 1} → statement M
 name-span-spec =
@@ -67,5 +72,4 @@ name-span-spec =
     shared-slice-read-past
     cast-past
     returns-2
-    returns-3
-    returns-4)
+    returns-3)
