@@ -1,7 +1,7 @@
 // Sets of regions, as bits of two words: regions 0 to 31 in `low`, 32 to 63 in `high`; and those that a rectangle touches.
 // An edge's column is floored and clipped to 0..7; a rectangle wholly beside the grid has an empty span.
 ghost use mathlib.Core.Path.{_≡_};
-ghost use mathlib.Core.Bool.{true};
+ghost use mathlib.Core.Bool.{true, false};
 ghost use Prim.Native.Nat.{_≤_, _<_};
 ghost use lib.ListN.{length, drop};
 ghost use Rattle.base.specs.Lists.{isEmpty, firstOf};

@@ -14,7 +14,7 @@ use Rattle.base.proofs.Tests.{every-at}
 use Rattle.base.proofs.Members.{first-rest, empty-of, keep-short}
 use Rattle.rules.specs.declared.Rect.{Rect}
 use Rattle.range.specs.declared.gather.Tally.the-variants.{Count, Broken}
-use Rattle.range.specs.Fetches.{Notes, notesOf, readable, noteFrom, inside, Gathered, tallied, gathered, runOf, touched, agree, Ready}
+use Rattle.range.specs.Fetches.{notesOf, entryWord, readable, noteFrom, inside, Gathered, tallied, gathered, runOf, touched, agree, Ready}
 use Rattle.range.proofs.Gathers.{stand-off, stand-in, stand-out, walk-on, walk-breaks, walk-size, walk-counts, hits}
 
 -- ---- note: at entry e, which is left entries short of the end
@@ -38,12 +38,12 @@ module _ (words : List ℕ) (stands count from : ℕ) (firsts₀ pasts₀ : List
         go (suc f) z s = sym (s ∙ rw q)
 
     pub note-more : e < end → readable words stands e ≡ true
-        → Noting words stands count from firsts₀ pasts₀ end (set firsts (getD words (e * 4) 0) (getD words (e * 4 + 2) 0)) (set pasts (getD words (e * 4) 0) (getD words (e * 4 + 3) 0)) (e + 1)
+        → Noting words stands count from firsts₀ pasts₀ end (set firsts (entryWord words e 0) (entryWord words e 2)) (set pasts (entryWord words e 0) (entryWord words e 3)) (e + 1)
     unfolding noteFrom
     note-more l q = go (w .left) (w .ends) (w .same)
       where
         go : (f : ℕ) → e + f ≡ end → noteFrom words stands count from firsts₀ pasts₀ ≡ noteFrom words stands f e firsts pasts
-            → Noting words stands count from firsts₀ pasts₀ end (set firsts (getD words (e * 4) 0) (getD words (e * 4 + 2) 0)) (set pasts (getD words (e * 4) 0) (getD words (e * 4 + 3) 0)) (e + 1)
+            → Noting words stands count from firsts₀ pasts₀ end (set firsts (entryWord words e 0) (entryWord words e 2)) (set pasts (entryWord words e 0) (entryWord words e 3)) (e + 1)
         go zero z s = absurd (omega arith)
         go (suc f) z s = record { left = f; ends = omega arith; same = s ∙ rw (q, add-one e) }
 

@@ -17,21 +17,11 @@ use Rattle.rules.specs.Places.{gridLawful, inRect}
 use Rattle.rules.specs.Tables.{placeIn}
 use Rattle.grid.specs.declared.cells.Cells.{Cells}
 use Rattle.grid.specs.Cells.{cellsOf, bothCells, regionsIn}
-use Rattle.range.specs.declared.runs.Listing.{Listing}
-use Rattle.range.specs.declared.runs.Listing.the-variants as listings
+use Rattle.walk.specs.declared.listing.Listing.{Listing}
+use Rattle.walk.specs.declared.listing.Listing.the-variants as listings
+use Rattle.walk.specs.Listings.{listingIn}
 use Rattle.range.specs.declared.gather.Tally.{Tally}
 use Rattle.range.specs.declared.gather.Tally.the-variants as tallies
-
--- ---- a node's entries
-
-abbrev pub cellsAt : List ℕ → ℕ → Cells
-cellsAt nodes j = record { low = getD nodes (j * 8 + 5) 0; high = getD nodes (j * 8 + 6) 0 }
-
-abbrev pub firstEntry : List ℕ → ℕ → ℕ
-firstEntry nodes j = getD nodes (j * 8 + 7) 0
-
-unfoldable pub listingIn : List ℕ → ℕ → Listing
-listingIn nodes j = cond (leb (length nodes / 8) j) listings.Broken (listings.Entries (cellsAt nodes j) (firstEntry nodes j))
 
 -- ---- the runs that entries name
 
@@ -44,13 +34,17 @@ pub record Notes : Type 0 where
 abbrev pub notesOf : List ℕ → List ℕ → Bool → Notes
 notesOf firsts pasts whole = record { firsts = firsts; pasts = pasts; whole = whole }
 
+-- word k of entry e, counted from 0; 0 outside
+abbrev pub entryWord : List ℕ → ℕ → ℕ → ℕ
+entryWord words e k = getD words (e * 4 + k) 0
+
 -- whether entry e is there, of a region, and its run within the stands
 unfoldable pub readable : List ℕ → ℕ → ℕ → Bool
 readable words stands e =
     every
     (ltb e (length words / 4)
-    ∷ ltb (getD words (e * 4) 0) 64
-    ∷ leb (getD words (e * 4 + 3) 0) stands
+    ∷ ltb (entryWord words e 0) 64
+    ∷ leb (entryWord words e 3) stands
     ∷ [])
 
 -- those of count entries from e on, put over what is noted
@@ -58,7 +52,7 @@ unfoldable pub noteFrom : List ℕ → ℕ → ℕ → ℕ → List ℕ → List
 noteFrom words stands zero e firsts pasts = notesOf firsts pasts true
 noteFrom words stands (suc count) e firsts pasts =
     cond (readable words stands e)
-    (noteFrom words stands count (suc e) (set firsts (getD words (e * 4) 0) (getD words (e * 4 + 2) 0)) (set pasts (getD words (e * 4) 0) (getD words (e * 4 + 3) 0)))
+    (noteFrom words stands count (suc e) (set firsts (entryWord words e 0) (entryWord words e 2)) (set pasts (entryWord words e 0) (entryWord words e 3)))
     (notesOf firsts pasts false)
 
 -- ---- stands in the rectangle
@@ -123,26 +117,22 @@ filled east north order firsts pasts regions rect room =
 unfoldable pub blank : List ℕ
 blank = replicate 64 0
 
-abbrev pub notesIn : List ℕ → List ℕ → ℕ → ℕ → Notes
-notesIn nodes entries stands j = noteFrom entries stands (length (regionsIn (cellsAt nodes j))) (firstEntry nodes j) blank blank
+-- those of a node with these regions, from its first entry on
+abbrev pub notesIn : List ℕ → ℕ → Cells → ℕ → Notes
+notesIn entries stands cells first = noteFrom entries stands (length (regionsIn cells)) first blank blank
 
-abbrev pub wantedIn : List ℕ → Grid → Rect → ℕ → List ℕ
-wantedIn nodes grid rect j = regionsIn (bothCells (cellsAt nodes j) (cellsOf grid rect))
-
--- whether the words can be gone by
-abbrev pub usable : List ℤ → List ℤ → Grid → List ℕ → List ℕ → List ℕ → ℕ → Bool
-usable east north grid order nodes entries j =
-    every
-    (gridLawful grid
-    ∷ agree east north order
-    ∷ ltb j (length nodes / 8)
-    ∷ notesIn nodes entries (length east) j .whole
-    ∷ [])
+-- with the node's list of entries in hand
+abbrev pub fetchedBy : Listing → List ℤ → List ℤ → Grid → List ℕ → List ℕ → Rect → List ℕ → Outcome
+fetchedBy listings.Broken east north grid order entries rect room = outcome unlawful room
+fetchedBy (listings.Entries cells first) east north grid order entries rect room =
+    let notes : Notes = notesIn entries (length east) cells first in
+    cond (notes .whole)
+    (filled east north order (notes .firsts) (notes .pasts) (regionsIn (bothCells cells (cellsOf grid rect))) rect room)
+    (outcome unlawful room)
 
 -- past the node
 unfoldable pub fetched : List ℤ → List ℤ → Grid → List ℕ → List ℕ → List ℕ → ℕ → Rect → List ℕ → Outcome
 fetched east north grid order nodes entries j rect room =
-    let notes : Notes = notesIn nodes entries (length east) j in
-    cond (usable east north grid order nodes entries j)
-    (filled east north order (notes .firsts) (notes .pasts) (wantedIn nodes grid rect j) rect room)
+    cond (gridLawful grid && agree east north order)
+    (fetchedBy (listingIn nodes j) east north grid order entries rect room)
     (outcome unlawful room)

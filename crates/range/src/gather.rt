@@ -6,6 +6,7 @@ ghost use lib.ListN.{length, set};
 ghost use lib.Seq.{slice};
 ghost use Rattle.grid.specs.Cells.{regionsIn};
 ghost use Rattle.range.specs.Fetches.{tallied, gathered, touched, Ready};
+use crate::runs::Places;
 use grid::cells::Cells;
 use grid::in_rect;
 use rules::OrderPlace;
@@ -72,8 +73,8 @@ pub(crate) fn gather(
     north: &[i32],
     order: &[u32],
     regions: Cells,
-    firsts: &[u32; 64],
-    pasts: &[u32; 64],
+    firsts: &Places,
+    pasts: &Places,
     rect: Rect,
     found: &mut [u32],
 ) -> Tally

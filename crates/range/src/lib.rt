@@ -18,9 +18,11 @@ use rules::RangeAnswer;
 use rules::Rect;
 use rules::Refusal;
 use rules::Stand;
-use runs::Listing;
-use runs::listing_of;
+use runs::Places;
+use runs::REGIONS;
 use runs::note;
+use walk::listing::Listing;
+use walk::listing::listing_of;
 
 // The words cannot be those of a lawful set.
 fn unlawful() -> RangeAnswer
@@ -51,8 +53,8 @@ fn fill(
     north: &[i32],
     order: &[u32],
     regions: Cells,
-    firsts: &[u32; 64],
-    pasts: &[u32; 64],
+    firsts: &Places,
+    pasts: &Places,
     rect: Rect,
     found: &mut [u32],
 ) -> RangeAnswer
@@ -106,8 +108,8 @@ pub fn range_at(
         return unlawful();
     };
     let stands = east.len() as u32;
-    let mut firsts = [0u32; 64];
-    let mut pasts = [0u32; 64];
+    let mut firsts: Places = [0; REGIONS];
+    let mut pasts: Places = [0; REGIONS];
     if !note(
         entries,
         stands,

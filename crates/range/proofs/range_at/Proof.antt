@@ -1,12 +1,11 @@
 -- `range_at` meets its contract: by the tests on the way, and what the notes and the walk leave.
 -- Assumes nothing.
-use mathlib.Core.Path.{sym, _∙_}
 use native.Mathlib.Omega.{arith}
 use borrow.Author.Tests.{not-true, not-false}
-use Rattle.base.proofs.Tests.{breaks, holds, every-not}
+use Rattle.base.proofs.Tests.{breaks, holds}
 use Rattle.range.specs.Fetches.{blank}
 use Rattle.range.proofs.Turns.{stands-few}
-use Rattle.range.proofs.Fetching.{listing-breaks, fetch-breaks, fetch-torn, notes-ready, fetch-answers}
+use Rattle.range.proofs.Fetching.{notes-ready, grid-breaks, parts-break, node-breaks, notes-break, all-answers}
 use borrow.Author.Needs.{needs}
 use Rattle.range.proofs.range_at.Statement.{statement}
 use Rattle.range.proofs.range_at.Tie as tie
@@ -18,7 +17,7 @@ unlawful-requires : tie.Need-unlawful-requires
 unlawful-requires c κs = search needs
 
 returns : tie.Need-returns
-returns c = fetch-breaks _ _ _ _ _ _ _ _ _ _ (c .unlawful .ensures) (every-not _ 0 (breaks _ _ (c .before .before .lawful .ensures) (c .before .if1 .taken)))
+returns c = grid-breaks _ _ _ _ _ _ _ _ _ _ (c .unlawful .ensures) (breaks _ _ (c .before .before .lawful .ensures) (c .before .if1 .taken))
 
 agree-requires : tie.Need-agree-requires
 agree-requires c κs = search needs
@@ -27,7 +26,7 @@ unlawful-requires-2 : tie.Need-unlawful-requires-2
 unlawful-requires-2 c κs = search needs
 
 returns-2 : tie.Need-returns-2
-returns-2 c = fetch-breaks _ _ _ _ _ _ _ _ _ _ (c .unlawful2 .ensures) (every-not _ 1 (breaks _ _ (c .before .before .agree .ensures) (c .before .if2 .taken)))
+returns-2 c = parts-break _ _ _ _ _ _ _ _ _ (holds _ _ (c .before .before .before .before .lawful .ensures) (c .before .before .before .if1 .left)) _ (c .unlawful2 .ensures) (breaks _ _ (c .before .before .agree .ensures) (c .before .if2 .taken))
 
 listing-of-requires : tie.Need-listing-of-requires
 listing-of-requires c κs = search needs
@@ -42,7 +41,7 @@ unlawful-requires-3 : tie.Need-unlawful-requires-3
 unlawful-requires-3 c κs = search needs
 
 returns-3 : tie.Need-returns-3
-returns-3 c = fetch-breaks _ _ _ _ _ _ _ _ _ _ (c .unlawful3 .ensures) (every-not _ 2 (listing-breaks _ _ (sym (c .before .enum-told .given .1) ∙ c .before .before .before .listing-of .ensures)))
+returns-3 c = node-breaks _ _ _ _ _ _ _ _ _ (holds _ _ (c .before .before .before .before .before .before .before .lawful .ensures) (c .before .before .before .before .before .before .if1 .left)) (holds _ _ (c .before .before .before .before .before .agree .ensures) (c .before .before .before .before .if2 .left)) _ (c .unlawful3 .ensures) _ (c .before .before .before .listing-of .ensures) (c .before .enum-told .given .1)
 
 cast-stands : tie.Need-cast-stands
 cast-stands c = omega (arith, stands-few _ _ _ (holds _ _ (c .before .before .before .before .before .agree .ensures) (c .before .before .before .before .if2 .left)))
@@ -58,7 +57,9 @@ unlawful-requires-4 c κs = search needs
 
 returns-4 : tie.Need-returns-4
 unfolding blank
-returns-4 c = fetch-torn _ _ _ _ _ _ _ _ _ _ _ _ (sym (c .before .before .before .before .before .before .before .regions .given .1) ∙ c .before .before .before .before .before .before .before .before .before .listing-of .ensures) (c .before .before .before .before .before .count .ensures) _ _ _ (c .before .before .note .ensures) _ (c .unlawful4 .ensures) (not-true _ (c .before .if3 .taken))
+returns-4 c =
+    notes-break _ _ _ _ _ _ _ _ _ (holds _ _ (c .before .before .before .before .before .before .before .before .before .before .before .before .before .lawful .ensures) (c .before .before .before .before .before .before .before .before .before .before .before .before .if1 .left)) (holds _ _ (c .before .before .before .before .before .before .before .before .before .before .before .agree .ensures) (c .before .before .before .before .before .before .before .before .before .before .if2 .left))
+    _ (c .before .before .before .before .before .before .before .before .before .listing-of .ensures) _ _ _ (c .before .before .before .before .before .before .before .regions .given .1) (c .before .before .before .before .before .count .ensures) _ _ _ (c .before .before .note .ensures) _ (c .unlawful4 .ensures) (not-true _ (c .before .if3 .taken))
 
 cells-of-requires : tie.Need-cells-of-requires
 cells-of-requires c κs = holds _ _ (c .before .before .before .before .before .before .before .before .before .before .before .before .lawful .ensures) (c .before .before .before .before .before .before .before .before .before .before .before .if1 .left)
@@ -76,8 +77,8 @@ same-length c = search needs
 returns-5 : tie.Need-returns-5
 unfolding blank
 returns-5 c =
-    fetch-answers _ _ _ _ _ _ _ _ _ _ _ _ (sym (c .before .before .before .before .before .before .before .before .before .before .before .before .before .before .regions .given .1) ∙ c .before .before .before .before .before .before .before .before .before .before .before .before .before .before .before .before .listing-of .ensures) (c .before .before .before .before .before .before .before .before .before .before .before .before .count .ensures) _ _ _ (c .before .before .before .before .before .before .before .before .before .note .ensures)
-    (holds _ _ (c .before .before .before .before .before .before .before .before .before .before .before .before .before .before .before .before .before .before .before .before .lawful .ensures) (c .before .before .before .before .before .before .before .before .before .before .before .before .before .before .before .before .before .before .before .if1 .left)) (holds _ _ (c .before .before .before .before .before .before .before .before .before .before .before .before .before .before .before .before .before .before .agree .ensures) (c .before .before .before .before .before .before .before .before .before .before .before .before .before .before .before .before .before .if2 .left)) (not-false _ (c .before .before .before .before .before .before .before .before .if3 .left))
+    all-answers _ _ _ _ _ _ _ _ _ (holds _ _ (c .before .before .before .before .before .before .before .before .before .before .before .before .before .before .before .before .before .before .before .before .lawful .ensures) (c .before .before .before .before .before .before .before .before .before .before .before .before .before .before .before .before .before .before .before .if1 .left)) (holds _ _ (c .before .before .before .before .before .before .before .before .before .before .before .before .before .before .before .before .before .before .agree .ensures) (c .before .before .before .before .before .before .before .before .before .before .before .before .before .before .before .before .before .if2 .left))
+    _ (c .before .before .before .before .before .before .before .before .before .before .before .before .before .before .before .before .listing-of .ensures) _ _ _ (c .before .before .before .before .before .before .before .before .before .before .before .before .before .before .regions .given .1) (c .before .before .before .before .before .before .before .before .before .before .before .before .count .ensures) _ _ _ (c .before .before .before .before .before .before .before .before .before .note .ensures) (not-false _ (c .before .before .before .before .before .before .before .before .if3 .left))
     _ _ (c .before .before .before .before .before .before .before .cells-of .ensures) (c .before .before .before .before .before .before .both .ensures) _ _ (c .before .before .fill .ensures)
 
 pub range-at-spec : {M : Type 1} → statement M

@@ -1,6 +1,6 @@
 -- `runs::note` meets its contract: the loop's invariant is Noting, by the entries that are left.
 -- Assumes nothing.
-use Prim.Native.Nat.{_-_, _*_}
+use Prim.Native.Nat.{_+_, _-_, _*_}
 use native.Mathlib.Omega.{arith}
 use borrow.Author.Tests.{lt-ltb, le-ltb, lt-leb, le-leb}
 use Rattle.base.proofs.Tests.{every-not, every-of}
@@ -29,6 +29,9 @@ returns c = note-breaks _ _ _ _ _ _ _ _ _ _ (c .before .before .loop .inv) (c .b
 mul-at : tie.Need-mul-at Inv-loop μ-loop
 mul-at c = search needs
 
+add-region : tie.Need-add-region Inv-loop μ-loop
+add-region c = search needs
+
 mul-region : tie.Need-mul-region Inv-loop μ-loop
 mul-region c = search needs
 
@@ -36,7 +39,7 @@ shared-slice-read-region : tie.Need-shared-slice-read-region Inv-loop μ-loop
 shared-slice-read-region c = search needs
 
 cast-region : tie.Need-cast-region Inv-loop μ-loop
-cast-region c = omega (arith, c .shared-slice-known .given (c .before .before .before .loop .e * 4))
+cast-region c = omega (arith, c .shared-slice-known .given (c .before .before .before .loop .e * 4 + 0))
 
 add-past : tie.Need-add-past Inv-loop μ-loop
 add-past c = search needs
@@ -99,6 +102,7 @@ note-spec =
     loop-holds
     returns
     mul-at
+    add-region
     mul-region
     shared-slice-read-region
     cast-region
