@@ -2,12 +2,13 @@
 -- Assumes nothing.
 use mathlib.Core.Path.{_≡_, refl, sym, ap, _∙_}
 use mathlib.Core.Logic.{_⊎_, inl, inr}
-use mathlib.Core.Bool.{Bool, true, false, not, true≢false, false≢true}
+use mathlib.Core.Bool.{Bool, true, false, not, _&&_, true≢false, false≢true}
 use mathlib.Core.List.{List, [], _∷_, _++_, append-assoc}
-use Prim.Native.Nat.{ℕ, zero, suc, _≤_, _<_}
+use Prim.Native.Nat.{ℕ, zero, suc, _-_, _≤_, _<_}
 use native.Mathlib.Omega.{arith}
 use lib.Dec.{ltb}
 use lib.ListN.{length, take, drop, getD, set, replicate}
+use lib.Seq.{take-nil}
 use borrow.Author.Tests.{ltb-true, ltb-false, eq-eqb, ne-eqb}
 use Rattle.base.specs.Lists.{keep, each, eachList, largest, firstOf, isEmpty, positionIn, In}
 use Rattle.base.proofs.Tests.{which}
@@ -39,6 +40,13 @@ pub in-at : {A : Type 0} (d x : A) (l : List A) → In x l → (i : ℕ) × (i <
 in-at d x [] h = absurd h
 in-at d x (y ∷ l) (inl e) = (0, omega arith, sym e)
 in-at d x (y ∷ l) (inr h) = let t = in-at d x l h in (suc (t .0), omega arith, t .2)
+
+-- a part of a beginning
+pub drop-take : {A : Type 0} (k n : ℕ) (l : List A) → drop k (take n l) ≡ take (n - k) (drop k l)
+drop-take zero n l = let e : n - 0 ≡ n = omega arith in rw e
+drop-take (suc k) zero l = let e : 0 - suc k ≡ 0 = omega arith in rw e
+drop-take (suc k) (suc n) [] = sym (take-nil (suc n - suc k))
+drop-take (suc k) (suc n) (x ∷ l) = let e : suc n - suc k ≡ n - k = omega arith in rw e (drop-take k n l)
 
 -- what stands at a place after a store is the value or what stood there
 pub set-either : {A : Type 0} (l : List A) (i r : ℕ) (v d : A) → (getD (set l i v) r d ≡ v) ⊎ (getD (set l i v) r d ≡ getD l r d)
@@ -174,6 +182,14 @@ in-eachList {A} {B} f (x ∷ l) y h = step (in-eachList f l y) (in-either y (f x
     step below (inl k) = (x, inl refl, k)
     step below (inr k) = let r = below k in (r .0, inr (r .1), r .2)
 
+pub keep-both : {A : Type 0} (f g : A → Bool) (l : List A) → keep (λ x. f x && g x) l ≡ keep g (keep f l)
+keep-both f g [] = refl
+keep-both f g (x ∷ l) = step (which (f x)) (keep-both f g l)
+  where
+    step : (f x ≡ true) ⊎ (f x ≡ false) → keep (λ x. f x && g x) l ≡ keep g (keep f l) → keep (λ x. f x && g x) (x ∷ l) ≡ keep g (keep f (x ∷ l))
+    step (inl q) r = simp (q, r)
+    step (inr q) r = simp (q, r)
+
 pub keep-comm : {A : Type 0} (f g : A → Bool) (l : List A) → keep f (keep g l) ≡ keep g (keep f l)
 keep-comm f g [] = refl
 keep-comm f g (x ∷ l) = step (which (f x)) (which (g x)) (keep-comm f g l)
@@ -195,6 +211,14 @@ eachList-keep f g (x ∷ l) h = step (which (g x)) (eachList-keep f g l h)
 pub eachList-same : {A B : Type 0} (f g : A → List B) (l : List A) → ((x : A) → f x ≡ g x) → eachList f l ≡ eachList g l
 eachList-same f g [] h = refl
 eachList-same f g (x ∷ l) h = rw (h x, eachList-same f g l h)
+
+pub eachList-in : {A B : Type 0} (f g : A → List B) (l : List A) → ((x : A) → In x l → f x ≡ g x) → eachList f l ≡ eachList g l
+eachList-in f g [] h = refl
+eachList-in f g (x ∷ l) h = rw (h x (inl refl), eachList-in f g l (λ y k. h y (inr k)))
+
+pub keep-eachList : {A B : Type 0} (f : B → Bool) (g : A → List B) (l : List A) → keep f (eachList g l) ≡ eachList (λ x. keep f (g x)) l
+keep-eachList f g [] = refl
+keep-eachList f g (x ∷ l) = rw (keep-append f (g x) (eachList g l), keep-eachList f g l)
 
 pub eachList-append : {A B : Type 0} (f : A → List B) (s u : List A) → eachList f (s ++ u) ≡ eachList f s ++ eachList f u
 eachList-append f [] u = refl

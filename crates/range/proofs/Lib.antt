@@ -3,3 +3,5 @@ pub mod Gathers
 pub mod Turns
 pub mod Fills
 pub mod Fetching
+pub mod Noted
+pub mod Meaning

@@ -1,2 +1,3 @@
--- What the fetch of a range question computes, on any words.
+-- Promises has what the range question promises; Fetches what the code computes past the text's node, on any words.
 pub mod Fetches
+pub mod Promises
