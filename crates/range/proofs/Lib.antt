@@ -5,3 +5,5 @@ pub mod Fills
 pub mod Fetching
 pub mod Noted
 pub mod Meaning
+pub mod Harmless
+pub mod Promises

@@ -26,7 +26,7 @@ fitted matches room =
 
 -- on any set: 7, or what the rules say of text and rectangle; past those 13 or some answer, which writes no more than it tells
 pub data Harmless (p : List ℕ) (r : Rect) (room after : List ℕ) (a : RangeAnswer) : Type 0 where
-  unlawful : rangeNumbers a ≡ refusing 7 → after ≡ room → Harmless p r room after a
+  noticed : rangeNumbers a ≡ refusing 7 → after ≡ room → Harmless p r room after a
   refused : (rangeRefusal p r ≡ 0 → ⊥) → rangeNumbers a ≡ refusing (rangeRefusal p r) → after ≡ room → Harmless p r room after a
   over : rangeRefusal p r ≡ 0 → (matches : ℕ) → length room < matches → rangeNumbers a ≡ record { refusal = 13; number = matches } → after ≡ room → Harmless p r room after a
   found : rangeRefusal p r ≡ 0 → (count : ℕ) → count ≤ length room → rangeNumbers a ≡ telling count → length after ≡ length room → drop count after ≡ drop count room

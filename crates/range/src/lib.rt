@@ -3,6 +3,9 @@
 ghost use mathlib.Core.Path.{_≡_};
 ghost use lib.ListN.{length};
 ghost use Rattle.grid.specs.Cells.{regionsIn};
+ghost use Rattle.rules.specs.Tables.{tableOf};
+ghost use Rattle.rules.specs.Indexes.{indexOf};
+ghost use Rattle.range.specs.Promises.{RangePromise};
 ghost use Rattle.range.specs.Fetches.{agree, outcome, unlawful, Ready, filled, fetched};
 
 mod gather;
@@ -18,11 +21,15 @@ use rules::RangeAnswer;
 use rules::Rect;
 use rules::Refusal;
 use rules::Stand;
+use rules::Verdict;
 use runs::Places;
 use runs::REGIONS;
 use runs::note;
+use table::typed::text_verdict;
+use walk::Child;
 use walk::listing::Listing;
 use walk::listing::listing_of;
+use walk::node_of;
 
 // The words cannot be those of a lawful set.
 fn unlawful() -> RangeAnswer
@@ -122,4 +129,38 @@ pub fn range_at(
     }
     let wanted = regions.both(cells_of(grid, rect));
     fill(east, north, order, wanted, &firsts, &pasts, rect, found)
+}
+
+// The stands whose name begins with a typed text and which are in a rectangle, by region and then by number.
+// A set that is not lawful is refused where that shows; where it doesn't, the answer is of no worth, and no harm is done.
+pub fn range(
+    text: &[u8],
+    starts: &[u32],
+    east: &[i32],
+    north: &[i32],
+    score: &[u32],
+    grid: Grid,
+    order: &[u32],
+    nodes: &[u32],
+    entries: &[u32],
+    typed: &[u8],
+    rect: Rect,
+    found: &mut [u32],
+) -> RangeAnswer
+    ensures { λ a. ⌜ RangePromise (tableOf (now (text .entry)) (now (starts .entry)) (now (east .entry)) (now (north .entry)) (now (score .entry))) grid (indexOf (now (order .entry)) (now (nodes .entry)) (now (entries .entry))) (now (typed .entry)) rect (now (found .entry)) (now (found .exit)) a ⌝ }
+{
+    if let Verdict::Refused(why) = text_verdict(typed) {
+        return RangeAnswer::Refused { why, matches: 0 };
+    }
+    if !grid::rect_lawful(rect) {
+        return RangeAnswer::Refused {
+            why: Refusal::RectReversed,
+            matches: 0,
+        };
+    }
+    match node_of(nodes, typed) {
+        Child::At(node) => { range_at(east, north, grid, order, nodes, entries, node, rect, found) }
+        Child::Nowhere => RangeAnswer::Found(0),
+        Child::Broken => unlawful(),
+    }
 }

@@ -6,6 +6,7 @@ use mathlib.Core.List.{List, [], _∷_}
 use Prim.Native.Nat.{ℕ, _-_}
 use lib.Dec.{eqb}
 use lib.ListN.{getD}
+use borrow.Author.Tests.{eqb-false}
 use Rattle.rules.specs.declared.Refusal.{Refusal}
 use Rattle.rules.specs.declared.Refusal.the-variants.{TableMisshapen, GridOutsideLimits, NameNotAllowed, NamesOutOfOrder, StandNotAllowed, BufferTooSmall, NotLawful, TextByteNotAllowed, TextTooLong, NothingToRubOut, RectReversed, QuestionOutsideLimits, RoomTooSmall, InputMalformed}
 use Rattle.rules.specs.declared.Verdict.{Verdict}
@@ -61,6 +62,9 @@ refusal-back RectReversed = (refl, refl)
 refusal-back QuestionOutsideLimits = (refl, refl)
 refusal-back RoomTooSmall = (refl, refl)
 refusal-back InputMalformed = (refl, refl)
+
+pub refusal-some : (r : Refusal) → refusalNumber r ≡ 0 → ⊥
+refusal-some r e = eqb-false (refusalNumber r) 0 (refusal-back r .1) e
 
 -- what is read back from its numbers is told apart by them
 told-apart : {A B : Type 0} (numbers : A → B) (back : B → A) → ((a : A) → back (numbers a) ≡ a) → (a b : A) → numbers a ≡ numbers b → a ≡ b
