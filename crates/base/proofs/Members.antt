@@ -2,15 +2,15 @@
 -- Assumes nothing.
 use mathlib.Core.Path.{_≡_, refl, sym, ap, _∙_}
 use mathlib.Core.Logic.{_⊎_, inl, inr}
-use mathlib.Core.Bool.{Bool, true, false, not, true≢false, false≢true}
+use mathlib.Core.Bool.{Bool, true, false, not, _&&_, true≢false, false≢true}
 use mathlib.Core.List.{List, [], _∷_, _++_, append-assoc}
-use Prim.Native.Nat.{ℕ, zero, suc, _≤_, _<_, _+_}
+use Prim.Native.Nat.{ℕ, zero, suc, _≤_, _<_, _+_, _-_}
 use native.Mathlib.Omega.{arith}
 use lib.Dec.{ltb}
-use lib.ListN.{length, take, drop, getD, length-drop}
-use lib.Seq.{drop-cons}
+use lib.ListN.{length, take, drop, getD, length-drop, set, replicate}
+use lib.Seq.{drop-cons, take-nil}
 use borrow.Author.Tests.{ltb-true, ltb-false, eq-eqb, ne-eqb}
-use Rattle.base.specs.Lists.{keep, each, eachList, largest, isEmpty, positionIn, In}
+use Rattle.base.specs.Lists.{keep, each, eachList, largest, firstOf, isEmpty, positionIn, In}
 use Rattle.base.proofs.Tests.{which}
 
 pub in-left : {A : Type 0} (x : A) (s t : List A) → In x s → In x (s ++ t)
@@ -40,6 +40,27 @@ pub in-at : {A : Type 0} (d x : A) (l : List A) → In x l → (i : ℕ) × (i <
 in-at d x [] h = absurd h
 in-at d x (y ∷ l) (inl e) = (0, omega arith, sym e)
 in-at d x (y ∷ l) (inr h) = let t = in-at d x l h in (suc (t .0), omega arith, t .2)
+
+-- a part of a beginning
+pub drop-take : {A : Type 0} (k n : ℕ) (l : List A) → drop k (take n l) ≡ take (n - k) (drop k l)
+drop-take zero n l = let e : n - 0 ≡ n = omega arith in rw e
+drop-take (suc k) zero l = let e : 0 - suc k ≡ 0 = omega arith in rw e
+drop-take (suc k) (suc n) [] = sym (take-nil (suc n - suc k))
+drop-take (suc k) (suc n) (x ∷ l) = let e : suc n - suc k ≡ n - k = omega arith in rw e (drop-take k n l)
+
+-- what stands at a place after a store is the value or what stood there
+pub set-either : {A : Type 0} (l : List A) (i r : ℕ) (v d : A) → (getD (set l i v) r d ≡ v) ⊎ (getD (set l i v) r d ≡ getD l r d)
+set-either [] i r v d = inr refl
+set-either (x ∷ l) zero zero v d = inl refl
+set-either (x ∷ l) zero (suc r) v d = inr refl
+set-either (x ∷ l) (suc i) zero v d = inr refl
+set-either (x ∷ l) (suc i) (suc r) v d = set-either l i r v d
+
+-- the same everywhere, within the list or past its end
+pub replicate-at : {A : Type 0} (n r : ℕ) (d : A) → getD (replicate n d) r d ≡ d
+replicate-at zero r d = refl
+replicate-at (suc n) zero d = refl
+replicate-at (suc n) (suc r) d = replicate-at n r d
 
 module _ {A : Type 0} (f : A → Bool) where
   pub in-keep : (l : List A) (x : A) → In x l → f x ≡ true → In x (keep f l)
@@ -87,6 +108,14 @@ keep-same f g (x ∷ l) h = step (which (g x)) (keep-same f g l (λ y k. h y (in
     step : (g x ≡ true) ⊎ (g x ≡ false) → keep f l ≡ keep g l → keep f (x ∷ l) ≡ keep g (x ∷ l)
     step (inl q) r = let e : f x ≡ true = h x (inl refl) ∙ q in simp (e, q, r)
     step (inr q) r = let e : f x ≡ false = h x (inl refl) ∙ q in simp (e, q, r)
+
+pub keep-short : {A : Type 0} (f : A → Bool) (l : List A) → length (keep f l) ≤ length l
+keep-short f [] = omega arith
+keep-short f (x ∷ l) = step (which (f x)) (keep-short f l)
+  where
+    step : (f x ≡ true) ⊎ (f x ≡ false) → length (keep f l) ≤ length l → length (keep f (x ∷ l)) ≤ length (x ∷ l)
+    step (inl q) r = rw q (omega arith)
+    step (inr q) r = rw q (omega arith)
 
 pub keep-each : {A B : Type 0} (f : B → Bool) (g : A → B) (l : List A) → keep f (each g l) ≡ each g (keep (λ x. f (g x)) l)
 keep-each f g [] = refl
@@ -149,6 +178,14 @@ in-eachList {A} {B} f (x ∷ l) y h = step (in-eachList f l y) (in-either y (f x
     step below (inl k) = (x, inl refl, k)
     step below (inr k) = let r = below k in (r .0, inr (r .1), r .2)
 
+pub keep-both : {A : Type 0} (f g : A → Bool) (l : List A) → keep (λ x. f x && g x) l ≡ keep g (keep f l)
+keep-both f g [] = refl
+keep-both f g (x ∷ l) = step (which (f x)) (keep-both f g l)
+  where
+    step : (f x ≡ true) ⊎ (f x ≡ false) → keep (λ x. f x && g x) l ≡ keep g (keep f l) → keep (λ x. f x && g x) (x ∷ l) ≡ keep g (keep f (x ∷ l))
+    step (inl q) r = simp (q, r)
+    step (inr q) r = simp (q, r)
+
 pub keep-comm : {A : Type 0} (f g : A → Bool) (l : List A) → keep f (keep g l) ≡ keep g (keep f l)
 keep-comm f g [] = refl
 keep-comm f g (x ∷ l) = step (which (f x)) (which (g x)) (keep-comm f g l)
@@ -171,6 +208,14 @@ pub eachList-same : {A B : Type 0} (f g : A → List B) (l : List A) → ((x : A
 eachList-same f g [] h = refl
 eachList-same f g (x ∷ l) h = rw (h x, eachList-same f g l h)
 
+pub eachList-in : {A B : Type 0} (f g : A → List B) (l : List A) → ((x : A) → In x l → f x ≡ g x) → eachList f l ≡ eachList g l
+eachList-in f g [] h = refl
+eachList-in f g (x ∷ l) h = rw (h x (inl refl), eachList-in f g l (λ y k. h y (inr k)))
+
+pub keep-eachList : {A B : Type 0} (f : B → Bool) (g : A → List B) (l : List A) → keep f (eachList g l) ≡ eachList (λ x. keep f (g x)) l
+keep-eachList f g [] = refl
+keep-eachList f g (x ∷ l) = rw (keep-append f (g x) (eachList g l), keep-eachList f g l)
+
 pub eachList-append : {A B : Type 0} (f : A → List B) (s u : List A) → eachList f (s ++ u) ≡ eachList f s ++ eachList f u
 eachList-append f [] u = refl
 eachList-append f (x ∷ s) u = rw (eachList-append f s u) (sym (append-assoc (f x) (eachList f s) (eachList f u)))
@@ -191,6 +236,11 @@ some-in (x ∷ l) h = (x, inl refl)
 pub some-length : {A : Type 0} (l : List A) → not (isEmpty l) ≡ true → 1 ≤ length l
 some-length [] h = absurd (false≢true h)
 some-length (x ∷ l) h = omega arith
+
+-- such a list is its first member, which is one of them, and the rest
+pub first-rest : (l : List ℕ) → isEmpty l ≡ false → (l ≡ firstOf l ∷ drop 1 l) × In (firstOf l) l
+first-rest [] h = absurd (true≢false h)
+first-rest (x ∷ l) h = (refl, inl refl)
 
 pub in-take : {A : Type 0} (k : ℕ) (l : List A) (x : A) → In x (take k l) → In x l
 in-take zero l x h = absurd h
@@ -240,20 +290,6 @@ keep-apart f g (y ∷ l) h = step (which (f y)) (which (g y)) (keep-apart f g l 
     step (inr a) (inl b) r = rw (a, b) (omega arith)
     step (inr a) (inr b) r = rw (a, b) (omega arith)
 
--- tests and maps that agree on a list's members
-pub keep-same : {A : Type 0} (f g : A → Bool) (l : List A) → ((x : A) → In x l → f x ≡ g x) → keep f l ≡ keep g l
-keep-same f g [] h = refl
-keep-same f g (y ∷ l) h = rw (h y (inl refl), keep-same f g l (λ x k. h x (inr k)))
-
-pub each-append : {A B : Type 0} (f : A → B) (s t : List A) → each f (s ++ t) ≡ each f s ++ each f t
-each-append f [] t = refl
-each-append f (x ∷ s) t = rw (each-append f s t)
-
-pub getD-each : {A B : Type 0} (f : A → B) (l : List A) (i : ℕ) (d : A) (z : B) → i < length l → getD (each f l) i z ≡ f (getD l i d)
-getD-each f [] i d z h = absurd (omega arith)
-getD-each f (x ∷ l) zero d z h = refl
-getD-each f (x ∷ l) (suc i) d z h = getD-each f l i d z (omega arith)
-
 pub eachList-agree : {A B : Type 0} (f g : A → List B) (l : List A) → ((x : A) → In x l → f x ≡ g x) → eachList f l ≡ eachList g l
 eachList-agree f g [] h = refl
 eachList-agree f g (x ∷ l) h = rw (h x (inl refl), eachList-agree f g l (λ y k. h y (inr k)))
@@ -262,14 +298,6 @@ eachList-agree f g (x ∷ l) h = rw (h x (inl refl), eachList-agree f g l (λ y 
 pub each-each : {A B C : Type 0} (f : B → C) (g : A → B) (l : List A) → each f (each g l) ≡ each (λ x. f (g x)) l
 each-each f g [] = refl
 each-each f g (x ∷ l) = rw (each-each f g l)
-
-pub eachList-each : {A B C : Type 0} (f : B → List C) (g : A → B) (l : List A) → eachList f (each g l) ≡ eachList (λ x. f (g x)) l
-eachList-each f g [] = refl
-eachList-each f g (x ∷ l) = rw (eachList-each f g l)
-
-pub each-eachList : {A B C : Type 0} (f : B → C) (g : A → List B) (l : List A) → each f (eachList g l) ≡ eachList (λ x. each f (g x)) l
-each-eachList f g [] = refl
-each-eachList f g (x ∷ l) = rw (each-append f (g x) (eachList g l), each-eachList f g l)
 
 -- what is left of a list from place j on begins with what stands there
 pub drop-head : {A : Type 0} (d x : A) (l m : List A) (j : ℕ) → drop j l ≡ x ∷ m → (j < length l) × (getD l j d ≡ x) × (drop (suc j) l ≡ m)

@@ -2,7 +2,7 @@
 -- The calls that take the smallest region away, until none is left, go by this list. Assumes nothing.
 use mathlib.Core.Path.{_≡_, refl, sym, ap, ap₂, _∙_}
 use mathlib.Core.Logic.{_⊎_, inl, inr}
-use mathlib.Core.Bool.{Bool, false}
+use mathlib.Core.Bool.{Bool, false, _&&_}
 use mathlib.Core.List.{List, [], _∷_, _++_}
 use Prim.Native.Nat.{ℕ, _+_, _-_, _≤_, _<_}
 use native.Mathlib.Omega.{arith}
@@ -14,13 +14,13 @@ use borrow.Author.Tests.{lt-ltb, le-ltb, eqb-false, eq-eqb, ne-eqb}
 use Rattle.base.specs.Lists.{upTo, keep, each, isEmpty, In}
 use Rattle.base.specs.Bits.{bitAt}
 use Rattle.base.proofs.Tests.{le-or-lt}
-use Rattle.base.proofs.Members.{keep-in, keep-same, length-each}
-use Rattle.base.proofs.Runs.{in-from, keep-halves}
+use Rattle.base.proofs.Members.{keep-in, keep-same, keep-short, keep-both, length-each}
+use Rattle.base.proofs.Runs.{length-from, in-from, keep-halves}
 use Rattle.base.proofs.Lowest.{setBits, bits-none, bits-lowest, bits-count}
 use Rattle.rules.specs.Places.{regions}
 use Rattle.grid.specs.declared.cells.Cells.{Cells}
-use Rattle.grid.specs.Cells.{cellsBy, hasCell, regionsIn}
-use Rattle.grid.proofs.Sets.{has-by}
+use Rattle.grid.specs.Cells.{cellsBy, hasCell, bothCells, regionsIn}
+use Rattle.grid.proofs.Sets.{has-by, both-by}
 
 -- the bits of a word; shut, so that a run of them stays a call
 half : ℕ
@@ -110,3 +110,15 @@ listed-less c r h = all-regions r (keep-in (hasCell c) (upTo regions) r h .0)
 -- of a test's words they are those that pass it
 pub listed-by : (test : ℕ → Bool) → regionsIn (cellsBy test) ≡ keep test (upTo regions)
 listed-by test = keep-same (hasCell (cellsBy test)) test (upTo regions) (λ r h. has-by test r (all-regions r h))
+
+-- of those of both sets, the ones of the first are kept that the second has
+pub both-listed : (f h : ℕ → Bool) → regionsIn (bothCells (cellsBy f) (cellsBy h)) ≡ keep (hasCell (cellsBy h)) (keep f (upTo regions))
+both-listed f h =
+    ap regionsIn (both-by f h)
+    ∙ listed-by (λ k. f k && h k)
+    ∙ keep-both f h (upTo regions)
+    ∙ keep-same h (hasCell (cellsBy h)) (keep f (upTo regions)) (λ r k. sym (has-by h r (all-regions r (keep-in f (upTo regions) r k .0))))
+
+-- there are at most 64
+pub listed-few : (c : Cells) → length (regionsIn c) ≤ 64
+listed-few c = omega (arith, keep-short (hasCell c) (upTo regions), length-from 0 regions, regions-is, half-is)

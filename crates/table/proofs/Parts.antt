@@ -1,24 +1,19 @@
 -- A part of a part of a text is a part of the text; a stand's name by its span, and the rest of it behind a typed text.
 -- Assumes nothing.
-use Prim.Native.Nat.{ℕ, zero, suc, _+_, _-_, _≤_, _<_}
+use Prim.Native.Nat.{ℕ, _+_, _-_, _≤_, _<_}
 use mathlib.Core.Path.{_≡_, refl, sym, ap, _∙_}
 use mathlib.Core.Bool.{Bool, true, false}
-use mathlib.Core.List.{List, [], _∷_}
+use mathlib.Core.List.{List, []}
 use native.Mathlib.Omega.{arith}
 use lib.ListN.{length, getD, take, drop, length-drop}
-use lib.Seq.{take-nil, drop-drop, length-take-le}
+use lib.Seq.{drop-drop, length-take-le}
 use Rattle.base.specs.Lists.{begins}
+use Rattle.base.proofs.Members.{drop-take}
 use Rattle.base.proofs.Begins.{begins-length}
 use Rattle.rules.specs.Names.{spanned, name, nameAt, restOf, restAt}
 use Rattle.rules.proofs.Lawful.{by-starts}
 use Rattle.table.specs.declared.names.Span.{Span}
 use Rattle.table.specs.Parts.{Spans, Rest}
-
-drop-take : (k n : ℕ) (l : List ℕ) → drop k (take n l) ≡ take (n - k) (drop k l)
-drop-take zero n l = let e : n - 0 ≡ n = omega arith in rw e
-drop-take (suc k) zero l = let e : 0 - suc k ≡ 0 = omega arith in rw e
-drop-take (suc k) (suc n) [] = sym (take-nil (suc n - suc k))
-drop-take (suc k) (suc n) (x ∷ xs) = let e : suc n - suc k ≡ n - k = omega arith in rw e (drop-take k n xs)
 
 module _ (text : List ℕ) (a b : ℕ) where
   drop-part : (k : ℕ) → drop k (take (b - a) (drop a text)) ≡ take (b - (a + k)) (drop (a + k) text)

@@ -1,0 +1,172 @@
+-- One turn of each loop, by what is left to do. Assumes nothing.
+use mathlib.Core.Path.{_≡_, refl, sym, ap, _∙_}
+use mathlib.Core.Bool.{Bool, true, false, not}
+use mathlib.Core.List.{List, [], _∷_, _++_}
+use Prim.Native.Nat.{ℕ, zero, suc, _+_, _-_, _*_, _≤_, _<_}
+use native.Mathlib.Omega.{arith}
+use native.Mathlib.Numerals.{add-one}
+use lib.IntN.{ℤ}
+use lib.ListN.{length, getD, set, take, drop, length-set, length-take, length-drop, drop-of-length-le}
+use lib.Seq.{slice, slice-cons}
+use Rattle.base.specs.Lists.{isEmpty, firstOf, keep, eachList, In}
+use borrow.Author.Tests.{leb-true}
+use Rattle.base.proofs.Tests.{every-at}
+use Rattle.base.proofs.Members.{first-rest, empty-of, keep-short}
+use Rattle.rules.specs.declared.Rect.{Rect}
+use Rattle.range.specs.declared.gather.Tally.the-variants.{Count, Broken}
+use Rattle.range.specs.Fetches.{notesOf, entryWord, readable, noteFrom, inside, Gathered, tallied, gathered, runOf, touched, agree, Ready}
+use Rattle.range.proofs.Gathers.{stand-off, stand-in, stand-out, walk-on, walk-breaks, walk-size, walk-counts, hits}
+
+-- ---- note: at entry e, which is left entries short of the end
+
+pub record Noting (words : List ℕ) (stands count from : ℕ) (firsts₀ pasts₀ : List ℕ) (end : ℕ) (firsts pasts : List ℕ) (e : ℕ) : Type 0 where
+  pub left : ℕ
+  pub ends : e + left ≡ end
+  pub same : noteFrom words stands count from firsts₀ pasts₀ ≡ noteFrom words stands left e firsts pasts
+
+module _ (words : List ℕ) (stands count from : ℕ) (firsts₀ pasts₀ : List ℕ) where
+  pub note-begins : Noting words stands count from firsts₀ pasts₀ (from + count) firsts₀ pasts₀ from
+  note-begins = record { left = count; ends = refl; same = refl }
+
+  module _ (end : ℕ) (firsts pasts : List ℕ) (e : ℕ) (w : Noting words stands count from firsts₀ pasts₀ end firsts pasts e) where
+    pub note-breaks : e < end → readable words stands e ≡ false → notesOf firsts pasts false ≡ noteFrom words stands count from firsts₀ pasts₀
+    unfolding noteFrom
+    note-breaks l q = go (w .left) (w .ends) (w .same)
+      where
+        go : (f : ℕ) → e + f ≡ end → noteFrom words stands count from firsts₀ pasts₀ ≡ noteFrom words stands f e firsts pasts → notesOf firsts pasts false ≡ noteFrom words stands count from firsts₀ pasts₀
+        go zero z s = absurd (omega arith)
+        go (suc f) z s = sym (s ∙ rw q)
+
+    pub note-more : e < end → readable words stands e ≡ true
+        → Noting words stands count from firsts₀ pasts₀ end (set firsts (entryWord words e 0) (entryWord words e 2)) (set pasts (entryWord words e 0) (entryWord words e 3)) (e + 1)
+    unfolding noteFrom
+    note-more l q = go (w .left) (w .ends) (w .same)
+      where
+        go : (f : ℕ) → e + f ≡ end → noteFrom words stands count from firsts₀ pasts₀ ≡ noteFrom words stands f e firsts pasts
+            → Noting words stands count from firsts₀ pasts₀ end (set firsts (entryWord words e 0) (entryWord words e 2)) (set pasts (entryWord words e 0) (entryWord words e 3)) (e + 1)
+        go zero z s = absurd (omega arith)
+        go (suc f) z s = record { left = f; ends = omega arith; same = s ∙ rw (q, add-one e) }
+
+    pub note-ends : end ≤ e → notesOf firsts pasts true ≡ noteFrom words stands count from firsts₀ pasts₀
+    unfolding noteFrom
+    note-ends l = go (w .left) (w .ends) (w .same)
+      where
+        go : (f : ℕ) → e + f ≡ end → noteFrom words stands count from firsts₀ pasts₀ ≡ noteFrom words stands f e firsts pasts → notesOf firsts pasts true ≡ noteFrom words stands count from firsts₀ pasts₀
+        go zero z s = sym s
+        go (suc f) z s = absurd (omega arith)
+
+-- ---- gather_run: at place i of a run, with n found
+
+slice-none : (i end : ℕ) (l : List ℕ) → end ≤ i → slice i end l ≡ []
+slice-none i end l h = drop-of-length-le (take end l) {i = i} (omega (arith, length-take end l))
+
+slice-short : (i end : ℕ) (l : List ℕ) → length (slice i end l) ≤ end
+slice-short i end l = omega (arith, length-drop i (take end l), length-take end l)
+
+pub record Gathering (east north : List ℤ) (order : List ℕ) (rect : Rect) (found₀ : List ℕ) (before end first : ℕ) (found : List ℕ) (i n : ℕ) : Type 0 where
+  pub wide : length east ≤ length north
+  pub fits : end ≤ length order
+  pub room : before + end < 4294967296
+  pub few : n + first ≤ before + i
+  pub size : length found ≡ length found₀
+  pub same : gathered east north rect found₀ before (slice first end order) ≡ gathered east north rect found n (slice i end order)
+
+module _ (east north : List ℤ) (order : List ℕ) (rect : Rect) (found₀ : List ℕ) (before end first : ℕ) (found : List ℕ) (i n : ℕ)
+    (w : Gathering east north order rect found₀ before end first found i n) where
+  module _ (l : i < end) where
+    here : slice i end order ≡ getD order i 0 ∷ slice (i + 1) end order
+    here = slice-cons i end order 0 l (w .fits) ∙ rw (add-one i)
+
+    pub run-breaks : length east ≤ getD order i 0 → tallied Broken found ≡ gathered east north rect found₀ before (slice first end order)
+    run-breaks h = sym (w .same ∙ ap (gathered east north rect found n) here ∙ stand-off east north rect (getD order i 0) (slice (i + 1) end order) found n h)
+
+    module _ (k : getD order i 0 < length east) where
+      pub run-hit : (found′ : List ℕ) (n′ : ℕ) → inside east north rect (getD order i 0) ≡ true → found′ ≡ set found n (getD order i 0) → n′ ≡ n + 1
+          → Gathering east north order rect found₀ before end first found′ (i + 1) n′
+      run-hit found′ n′ q f m = rw (f, m) (record {
+        wide = w .wide;
+        fits = w .fits;
+        room = w .room;
+        few = omega (arith, w .few);
+        size = length-set found n (getD order i 0) ∙ w .size;
+        same = w .same ∙ ap (gathered east north rect found n) here ∙ stand-in east north rect (getD order i 0) (slice (i + 1) end order) found n k q ∙ rw (add-one n);
+      })
+
+      pub run-miss : (found′ : List ℕ) (n′ : ℕ) → inside east north rect (getD order i 0) ≡ false → found′ ≡ found → n′ ≡ n
+          → Gathering east north order rect found₀ before end first found′ (i + 1) n′
+      run-miss found′ n′ q f m = rw (f, m) (record {
+        wide = w .wide;
+        fits = w .fits;
+        room = w .room;
+        few = omega (arith, w .few);
+        size = w .size;
+        same = w .same ∙ ap (gathered east north rect found n) here ∙ stand-out east north rect (getD order i 0) (slice (i + 1) end order) found n k q;
+      })
+
+  pub run-ends : end ≤ i → tallied (Count n) found ≡ gathered east north rect found₀ before (slice first end order)
+  unfolding gathered
+  run-ends h = sym (w .same ∙ rw (slice-none i end order h))
+
+-- ---- gather: before the regions that are left, with n found
+
+module _ (east north : List ℤ) (order : List ℕ) (h : agree east north order ≡ true) where
+  pub stands-few : length east ≤ 1024
+  unfolding agree
+  stands-few = leb-true _ _ (every-at _ 0 h)
+
+  pub norths-enough : length east ≤ length north
+  unfolding agree
+  norths-enough = leb-true _ _ (every-at _ 1 h)
+
+  pub places-enough : length east ≤ length order
+  unfolding agree
+  places-enough = leb-true _ _ (every-at _ 2 h)
+
+pub record Sweeping (east north : List ℤ) (order firsts pasts : List ℕ) (rect : Rect) (regions found₀ found : List ℕ) (n : ℕ) (left : List ℕ) : Type 0 where
+  pub ready : Ready east north order pasts
+  pub few : n + 1024 * length left ≤ 65536
+  pub size : length found ≡ length found₀
+  pub same : gathered east north rect found₀ 0 (touched order firsts pasts regions) ≡ gathered east north rect found n (touched order firsts pasts left)
+
+module _ (east north : List ℤ) (order firsts pasts : List ℕ) (rect : Rect) (regions found₀ : List ℕ) where
+  pub sweep-begins : Ready east north order pasts → length regions ≤ 64 → Sweeping east north order firsts pasts rect regions found₀ found₀ 0 regions
+  sweep-begins y h = record { ready = y; few = omega arith; size = refl; same = refl }
+
+  module _ (found : List ℕ) (n : ℕ) (left : List ℕ) (w : Sweeping east north order firsts pasts rect regions found₀ found n left) where
+    module _ (some : isEmpty left ≡ false) (r : ℕ) (least : r ≡ firstOf left) where
+      here-and-later : touched order firsts pasts left ≡ runOf order firsts pasts r ++ touched order firsts pasts (drop 1 left)
+      here-and-later = rw least (ap (touched order firsts pasts) (first-rest left some .0))
+
+      -- what the run's walk asks for
+      pub sweep-room : (length east ≤ length north) × (getD pasts r 0 ≤ length order) × (n + getD pasts r 0 < 4294967296)
+      sweep-room =
+          let a = w .ready .agreed in
+          let e = w .ready .ends r in
+          let o = places-enough east north order a in
+          let f = stands-few east north order a in
+          (norths-enough east north order a, omega arith, omega (arith, w .few))
+
+      pub sweep-on : (m : ℕ) (found′ left′ : List ℕ) → tallied (Count m) found′ ≡ gathered east north rect found n (runOf order firsts pasts r) → left′ ≡ drop 1 left
+          → Sweeping east north order firsts pasts rect regions found₀ found′ m left′
+      sweep-on m found′ left′ e d =
+          let run = runOf order firsts pasts r in
+          let count = walk-counts east north rect run found n m (ap (λ (g : Gathered). g .tally) (sym e)) .0 in
+          let short = keep-short (inside east north rect) run in
+          let most = slice-short (getD firsts r 0) (getD pasts r 0) order in
+          let within = w .ready .ends r in
+          let stands = stands-few east north order (w .ready .agreed) in
+          rw d (record {
+            ready = w .ready;
+            few = omega (arith, w .few, ap length (first-rest left some .0));
+            size = ap (λ (g : Gathered). length (g .room)) e ∙ walk-size east north rect run found n ∙ w .size;
+            same = w .same ∙ ap (gathered east north rect found n) here-and-later ∙ walk-on east north rect run (touched order firsts pasts (drop 1 left)) found found′ n m e;
+          })
+
+      pub sweep-breaks : (found′ : List ℕ) → tallied Broken found′ ≡ gathered east north rect found n (runOf order firsts pasts r)
+          → tallied Broken found′ ≡ gathered east north rect found₀ 0 (touched order firsts pasts regions)
+      sweep-breaks found′ e =
+          sym (w .same ∙ ap (gathered east north rect found n) here-and-later ∙ walk-breaks east north rect (runOf order firsts pasts r) (touched order firsts pasts (drop 1 left)) found found′ n e)
+
+    pub sweep-ends : isEmpty left ≡ true → tallied (Count n) found ≡ gathered east north rect found₀ 0 (touched order firsts pasts regions)
+    unfolding gathered
+    sweep-ends none = sym (w .same ∙ ap (λ (l : List ℕ). gathered east north rect found n (touched order firsts pasts l)) (empty-of left (ap not none)))

@@ -1,0 +1,126 @@
+-- `gather::gather_run` meets its contract: the loop's invariant is Gathering, by the places that are left.
+-- Assumes nothing.
+use Prim.Native.Nat.{_-_}
+use mathlib.Core.Path.{_≡_, refl, sym, _∙_}
+use mathlib.Core.Bool.{Bool}
+use lib.IntN.{ℤ, pos}
+use lib.ListN.{getD}
+use mathlib.Core.Logic.{⊎-elim}
+use native.Mathlib.Omega.{arith}
+use Rattle.base.proofs.Machine.{arrive}
+use Rattle.rules.specs.Places.{inRect}
+use Rattle.range.specs.Fetches.{inside}
+use Rattle.range.proofs.Turns.{Gathering, run-breaks, run-hit, run-miss, run-ends}
+use borrow.Author.Needs.{needs}
+use Rattle.range.proofs.gather.gather_run.Statement.{statement}
+use Rattle.range.proofs.gather.gather_run.Tie as tie
+
+abbrev Inv-loop : tie.InvT-loop
+Inv-loop east north order rect found₀ before end i₀ n₀ found i n = Gathering east north order rect found₀ before end i₀ found i n
+
+abbrev μ-loop : tie.MeasureT-loop
+μ-loop east north order rect found₀ before end i₀ n₀ found i n = end - i
+
+cast-end : tie.Need-cast-end Inv-loop μ-loop
+cast-end c = search needs
+
+cast-i : tie.Need-cast-i Inv-loop μ-loop
+cast-i c = search needs
+
+loop-holds : tie.Need-loop-holds Inv-loop μ-loop
+loop-holds c = record { wide = search needs; fits = search needs; room = search needs; few = omega arith; size = refl; same = refl }
+
+mul-stand : tie.Need-mul-stand Inv-loop μ-loop
+mul-stand c = search needs
+
+shared-slice-read-stand : tie.Need-shared-slice-read-stand Inv-loop μ-loop
+shared-slice-read-stand c = search needs
+
+cast-s : tie.Need-cast-s Inv-loop μ-loop
+cast-s c = omega (arith, c .shared-slice-known2 .given (c .before .before .loop .i))
+
+same-length : tie.Need-same-length Inv-loop μ-loop
+same-length c = c .before .before .before .loop .inv .size
+
+returns : tie.Need-returns Inv-loop μ-loop
+returns c = run-breaks _ _ _ _ _ _ _ _ _ _ _ (c .before .before .before .loop .inv) (c .before .before .loop-test .taken) (c .if1 .taken)
+
+mul-t16 : tie.Need-mul-t16 Inv-loop μ-loop
+mul-t16 c = search needs
+
+shared-slice-copy-out-t20 : tie.Need-shared-slice-copy-out-t20 Inv-loop μ-loop
+shared-slice-copy-out-t20 c = search needs
+
+mul-t21 : tie.Need-mul-t21 Inv-loop μ-loop
+mul-t21 c = search needs
+
+shared-slice-copy-out-t23 : tie.Need-shared-slice-copy-out-t23 Inv-loop μ-loop
+shared-slice-copy-out-t23 c = search needs
+
+in-rect-requires : tie.Need-in-rect-requires Inv-loop μ-loop
+in-rect-requires c κs = search needs
+
+put-requires : tie.Need-put-requires Inv-loop μ-loop
+put-requires c κs = search needs
+
+-- what the test says, of the coordinates and not of their bits
+told : (c : tie.After-in-rect Inv-loop μ-loop) →
+    let a = c .before .before .before .before .before .before .before .before .before .before .before .args in
+    c .in-rect .result ≡ inside (a .east .now) (a .north .now) (a .rect) (getD (a .order .now) (c .before .before .before .before .before .before .loop .i) 0)
+told c =
+    let a = c .before .before .before .before .before .before .before .before .before .before .before .args in
+    let s = getD (a .order .now) (c .before .before .before .before .before .before .loop .i) 0 in
+    let within : ℤ → ℤ → Bool = λ e n. inRect (a .rect) (record { east = e; north = n }) in
+    c .in-rect .ensures ∙ arrive within (getD (a .east .now) s (pos 0)) (getD (a .north .now) s (pos 0)) (search needs) (search needs)
+
+add-n : tie.Need-add-n Inv-loop μ-loop
+add-n c = let w = c .before .before .before .before .before .before .before .before .before .before .before .loop .inv in omega (arith, w .few, w .room, c .before .before .before .before .before .before .before .before .before .before .loop-test .taken)
+
+add-i : tie.Need-add-i Inv-loop μ-loop
+add-i c = search needs
+
+loop-less : tie.Need-loop-less Inv-loop μ-loop
+loop-less c = search needs
+
+loop-again : tie.Need-loop-again Inv-loop μ-loop
+loop-again c =
+    let at = c .before .before .before .before .before .before .before .loop in
+    let l = c .before .before .before .before .before .before .loop-test .taken in
+    let k = c .before .before .before .before .if1 .left in
+    ⊎-elim
+    (λ w. run-hit _ _ _ _ _ _ _ _ _ _ _ (at .inv) l k _ _ (sym (told (c .before)) ∙ w .0 .taken) (w .5 ∙ w .2 .ensures) (w .6))
+    (λ w. run-miss _ _ _ _ _ _ _ _ _ _ _ (at .inv) l k _ _ (sym (told (c .before)) ∙ w .0 .left) (w .1) (w .2))
+    (c .if2 .came)
+
+same-length-2 : tie.Need-same-length-2 Inv-loop μ-loop
+same-length-2 c = c .before .loop .inv .size
+
+returns-2 : tie.Need-returns-2 Inv-loop μ-loop
+returns-2 c = run-ends _ _ _ _ _ _ _ _ _ _ _ (c .before .loop .inv) (c .loop-test .left)
+
+pub gather-run-spec : {M : Type 1} → statement M
+gather-run-spec =
+    tie.close
+    (tie.spec
+    Inv-loop
+    μ-loop
+    cast-end
+    cast-i
+    loop-holds
+    mul-stand
+    shared-slice-read-stand
+    cast-s
+    same-length
+    returns
+    mul-t16
+    shared-slice-copy-out-t20
+    mul-t21
+    shared-slice-copy-out-t23
+    in-rect-requires
+    put-requires
+    add-n
+    add-i
+    loop-less
+    loop-again
+    same-length-2
+    returns-2)

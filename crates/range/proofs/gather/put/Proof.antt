@@ -1,0 +1,25 @@
+-- `gather::put` meets its contract: a store past the end of a list leaves it as it is.
+-- Assumes nothing.
+use mathlib.Core.Path.{sym}
+use lib.Seq.{set-out}
+use borrow.Author.Needs.{needs}
+use Rattle.range.proofs.gather.put.Statement.{statement}
+use Rattle.range.proofs.gather.put.Tie as tie
+
+mul-found : tie.Need-mul-found
+mul-found c = search needs
+
+slice-write-found : tie.Need-slice-write-found
+slice-write-found c = search needs
+
+same-length : tie.Need-same-length
+same-length c = search needs
+
+returns : tie.Need-returns
+returns c = search needs
+
+returns-2 : tie.Need-returns-2
+returns-2 c = sym (set-out _ _ _ (c .if1 .left))
+
+pub put-spec : {M : Type 1} → statement M
+put-spec = tie.close (tie.spec mul-found slice-write-found same-length returns returns-2)

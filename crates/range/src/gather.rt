@@ -1,0 +1,97 @@
+// The stands of some regions' runs, region by region, each tested against the rectangle: counted, and those that the room holds written.
+// With no room they are only counted, so that one walk serves for both.
+ghost use mathlib.Core.Path.{_≡_};
+ghost use Prim.Native.Nat.{_+_, _≤_, _<_};
+ghost use lib.ListN.{length, set};
+ghost use lib.Seq.{slice};
+ghost use Rattle.grid.specs.Cells.{regionsIn};
+ghost use Rattle.range.specs.Fetches.{tallied, gathered, touched, Ready};
+use crate::runs::Places;
+use grid::cells::Cells;
+use grid::in_rect;
+use rules::OrderPlace;
+use rules::Place;
+use rules::Rect;
+use rules::Stand;
+
+// How many stands are in the rectangle.
+pub(crate) enum Tally {
+    Count(u32),
+    // A place of the order has no stand of the table.
+    Broken,
+}
+
+// A stand put at a place of the room; past its end nothing is put.
+fn put(found: &mut [u32], at: u32, stand: Stand)
+    ensures { λ _. ⌜ now (found .exit) ≡ set (now (found .entry)) at (stand .0) ⌝ }
+{
+    let i = at as usize;
+    if i < found.len() {
+        found[i] = stand.0;
+    }
+}
+
+// The stands of one run, behind as many as were found before.
+fn gather_run(
+    east: &[i32],
+    north: &[i32],
+    order: &[u32],
+    first: OrderPlace,
+    past: OrderPlace,
+    rect: Rect,
+    found: &mut [u32],
+    before: u32,
+) -> Tally
+    requires { ⌜ (length (now east) ≤ length (now north)) × (past .0 ≤ length (now order)) × (before + past .0 < 4294967296) ⌝ }
+    ensures { λ r. ⌜ tallied r (now (found .exit)) ≡ gathered (now (east .entry)) (now (north .entry)) rect (now (found .entry)) before (slice (first .0) (past .0) (now (order .entry))) ⌝ }
+{
+    let end = past.0 as usize;
+    let mut i = first.0 as usize;
+    let mut n = before;
+    while i < end {
+        let stand = order[i];
+        let s = stand as usize;
+        if east.len() <= s {
+            return Tally::Broken;
+        }
+        let place = Place {
+            east: east[s],
+            north: north[s],
+        };
+        if in_rect(rect, place) {
+            put(found, n, Stand(stand));
+            n += 1;
+        }
+        i += 1;
+    }
+    Tally::Count(n)
+}
+
+// The stands of each of these regions' runs, the smallest region first.
+pub(crate) fn gather(
+    east: &[i32],
+    north: &[i32],
+    order: &[u32],
+    regions: Cells,
+    firsts: &Places,
+    pasts: &Places,
+    rect: Rect,
+    found: &mut [u32],
+) -> Tally
+    requires { ⌜ Ready (now east) (now north) (now order) (now pasts) ⌝ }
+    ensures { λ r. ⌜ tallied r (now (found .exit)) ≡ gathered (now (east .entry)) (now (north .entry)) rect (now (found .entry)) 0 (touched (now (order .entry)) (now (firsts .entry)) (now (pasts .entry)) (regionsIn regions)) ⌝ }
+{
+    let mut n = 0;
+    let mut left = regions;
+    while !left.is_empty() {
+        let r = left.least() as usize;
+        let first = OrderPlace(firsts[r]);
+        let past = OrderPlace(pasts[r]);
+        match gather_run(east, north, order, first, past, rect, found, n) {
+            Tally::Count(more) => n = more,
+            Tally::Broken => return Tally::Broken,
+        }
+        left = left.but_least();
+    }
+    Tally::Count(n)
+}
