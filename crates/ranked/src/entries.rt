@@ -85,7 +85,8 @@ fn take_entry(
 {
     let most = bound(grid, asked.weight, entry.score, entry.region, asked.place);
     let first = entry.first.0 as usize;
-    let key = key_of(most, order[first]);
+    let stand = order[first];
+    let key = key_of(most, stand);
     if passed_over(held, len, asked.k as usize, key) {
         return Kept::Held(len);
     }

@@ -7,7 +7,7 @@ use lib.ListN.{take, getD}
 use Rattle.best.specs.Keys.{keyOf}
 use Rattle.ranked.specs.Searches.{passedOver, boundHit}
 use Rattle.ranked.proofs.Asking.{asked-inside, weighable, bound-most}
-use Rattle.ranked.proofs.Reading.{entry-facts}
+use Rattle.ranked.proofs.Reading.{EntryFacts, entry-facts}
 use Rattle.ranked.proofs.Taking.{passed, not-passed}
 use Rattle.ranked.proofs.entries.take_entry.Statement.{statement}
 use Rattle.ranked.proofs.entries.take_entry.Tie as tie
@@ -32,11 +32,11 @@ bound-requires c κs =
 cast-first : tie.Need-cast-first
 cast-first c = search needs
 
-mul-key-of : tie.Need-mul-key-of
-mul-key-of c = search needs
+mul-stand : tie.Need-mul-stand
+mul-stand c = search needs
 
-shared-slice-read-key-of : tie.Need-shared-slice-read-key-of
-shared-slice-read-key-of c = let f = entry-facts _ _ (c .before .before .before .before .before .pre .2) in omega arith
+shared-slice-read-stand : tie.Need-shared-slice-read-stand
+shared-slice-read-stand c = let f = entry-facts _ _ (c .before .before .before .before .before .pre .2) in omega arith
 
 key-of-requires : tie.Need-key-of-requires
 key-of-requires c κs =
@@ -68,8 +68,8 @@ take-entry-spec =
     (tie.spec
     bound-requires
     cast-first
-    mul-key-of
-    shared-slice-read-key-of
+    mul-stand
+    shared-slice-read-stand
     key-of-requires
     cast-passed-over
     passed-over-requires
