@@ -7,3 +7,4 @@ pub mod Places
 pub mod Signs
 pub mod Layouts
 pub mod Readings
+pub mod Scheme

@@ -4,5 +4,7 @@ pub mod Writing
 pub mod Form
 pub mod Columns
 pub mod Answers
+pub mod Printed
+pub mod Scheme
 pub mod Reads
 pub mod Says
