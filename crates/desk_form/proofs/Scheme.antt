@@ -6,7 +6,7 @@ use Rattle.rules.specs.Worth.{distance², diagonal², valueAt, valueOf}
 use Rattle.rules.specs.Names.{allowed, nameAllowed, textRefusal, spanned, name}
 use Rattle.rules.specs.Tables.{rising, shapeLawful, namesAllowed, namesInOrder, standLawful, standsLawful, tableRefusal}
 use Rattle.rules.specs.Questions.{under, rankingLawful}
-use Rattle.desk_form.specs.Writing.{digitsOf, decimalOf, signedOf, line}
+use Rattle.desk_line.specs.Writing.{digitsOf, decimalOf, signedOf, line}
 use Rattle.desk_form.specs.Form.{gridText, standText, questionText, textOf}
 use Rattle.desk_form.specs.Columns.{startsFrom, tableFrom}
 use Rattle.desk_form.specs.Printed.{printedRefusal, printedHit, printedHits, outputOf}

@@ -11,7 +11,7 @@ use Rattle.rules.specs.declared.Hit.{Hit}
 use Rattle.rules.specs.Numbers.{firstGiven}
 use Rattle.rules.specs.Tables.{Table, nameOf, tableRefusal}
 use Rattle.rules.specs.Questions.{rankedList, rankedRefusal}
-use Rattle.desk_form.specs.Writing.{decimalOf, line}
+use Rattle.desk_line.specs.Writing.{decimalOf, line}
 use Rattle.desk_form.specs.Form.{Input, textOf, InRanges}
 use Rattle.desk_form.specs.Columns.{tableFrom}
 

@@ -6,7 +6,7 @@ use Prim.Native.Nat.{ℕ}
 use Prim.Native.String.{String}
 use lib.IntN.{pos}
 use Rattle.rules.specs.Scheme.{grid, table, ki, asked}
-use Rattle.desk_form.specs.Writing.{ascii}
+use Rattle.desk_line.specs.Writing.{ascii}
 use Rattle.desk_form.specs.Form.{StandLines, Input, textOf}
 use Rattle.desk_form.specs.Columns.{tableFrom}
 use Rattle.desk_form.specs.Printed.{outputOf}

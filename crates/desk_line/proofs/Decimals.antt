@@ -15,9 +15,8 @@ use Rattle.base.specs.Lists.{In, every, begins}
 use Rattle.base.proofs.Begins.{begins-cases}
 use Rattle.base.proofs.Members.{in-either}
 use Rattle.base.proofs.Tests.{which, le-or-lt, every-at, every-of}
-use Rattle.desk_form.specs.Writing.{ascii, digitsOf, decimalOf, signedOf}
-use Rattle.desk_form.specs.Form.{Signed32, OneLine}
-use Rattle.desk_form.specs.Reads.{grown, digitFits, gather, wellLed, numberIn, negated, positive, signedIn}
+use Rattle.desk_line.specs.Writing.{ascii, digitsOf, decimalOf, signedOf, Signed32, OneLine}
+use Rattle.desk_line.specs.Reads.{grown, digitFits, gather, wellLed, numberIn, negated, positive, signedIn}
 
 -- room enough is as good as more
 enough : (r r′ n : ℕ) → n < r → n < r′ → digitsOf (ltb n 10) r n ≡ digitsOf (ltb n 10) r′ n

@@ -2,11 +2,12 @@
 -- Bytes are numbers, in ASCII.
 use mathlib.Core.Bool.{Bool, true, false}
 use mathlib.Core.List.{List, [], _∷_, _++_}
-use Prim.Native.Nat.{ℕ, zero, suc, _+_, _/_, _%_}
+use Prim.Native.Nat.{ℕ, zero, suc, _+_, _/_, _%_, _<_}
 use Prim.Native.Char.{code}
 use Prim.Native.String.{String, [] as end, _∷_ as _and_}
 use lib.IntN.{ℤ, pos, negsuc}
 use lib.Dec.{ltb}
+use Rattle.base.specs.Lists.{In}
 
 -- the bytes of a quoted text
 abbrev pub ascii : String → List ℕ
@@ -31,3 +32,12 @@ signedOf (negsuc n) = ascii "-" ++ decimalOf (suc n)
 -- a key and its value, ended by one line feed
 unfoldable pub line : String → List ℕ → List ℕ
 line key value = ascii key ++ value ++ ascii "\n"
+
+-- a signed 32-bit number
+unfoldable pub Signed32 : ℤ → Type 0
+Signed32 (pos n) = n < 2147483648
+Signed32 (negsuc n) = n < 2147483648
+
+-- any bytes but line feed
+abbrev pub OneLine : List ℕ → Type 0
+OneLine bytes = In 10 bytes → ⊥
