@@ -14,10 +14,12 @@ use Rattle.base.specs.Lists.{In, eachList}
 use Rattle.base.proofs.Tests.{which}
 use Rattle.rules.specs.declared.Grid.{Grid}
 use Rattle.rules.specs.declared.Ranking.{Ranking}
-use Rattle.desk_form.specs.Writing.{ascii, decimalOf, signedOf, line}
-use Rattle.desk_form.specs.Form.{StandLines, Input, gridText, standText, questionText, textOf, OneLine, StandInRanges, GridInRanges, RankingInRanges, InRanges}
-use Rattle.desk_form.specs.Reads.{Found, found, nothing, Reader, onward, gridLines, standLines, allStands, questionLines, ended, inputOf, allLines, readInput}
-use Rattle.desk_form.proofs.Lines.{Reads, lost, as-found, in-a-row, past-line, bytes-law, unsigned-law, signed-law}
+use Rattle.desk_line.specs.Writing.{ascii, decimalOf, signedOf, line}
+use Rattle.desk_line.specs.Writing.{OneLine}
+use Rattle.desk_form.specs.Form.{StandLines, Input, gridText, standText, questionText, textOf, StandInRanges, GridInRanges, RankingInRanges, InRanges}
+use Rattle.desk_line.specs.Reads.{Found, found, nothing, Reader, onward}
+use Rattle.desk_form.specs.Reads.{gridLines, standLines, allStands, questionLines, ended, inputOf, allLines, readInput}
+use Rattle.desk_line.proofs.Lines.{Reads, lost, as-found, in-a-row, past-line, bytes-law, unsigned-law, signed-law}
 
 abbrev GridOk : Grid × ℕ → Type 0
 GridOk h = GridInRanges (h .0) × (h .1 ≤ 64)

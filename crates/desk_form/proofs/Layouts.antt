@@ -11,11 +11,13 @@ use lib.Seq.{paste, drop-set-lt, drop-cons, set-at, take-append-seam, drop-appen
 use Rattle.base.specs.Lists.{each, eachList}
 use Rattle.base.proofs.Members.{length-each, eachList-append}
 use Rattle.rules.specs.Tables.{Table, tableOf}
-use Rattle.desk_form.specs.Writing.{ascii, decimalOf, signedOf, line}
+use Rattle.desk_line.specs.Writing.{ascii, decimalOf, signedOf, line}
 use Rattle.desk_form.specs.Form.{StandLines, standText}
 use Rattle.desk_form.specs.Columns.{namesOf, startsFrom, tableFrom, laid, laidTable}
-use Rattle.desk_form.specs.Reads.{Found, found, nothing, onward, standLines, allStands}
-use Rattle.desk_form.specs.Says.{part, Reached, StandReached, RoomFor, StandsReached}
+use Rattle.desk_line.specs.Reads.{Found, found, nothing, onward}
+use Rattle.desk_form.specs.Reads.{standLines, allStands}
+use Rattle.desk_line.specs.Says.{part, Reached}
+use Rattle.desk_form.specs.Says.{StandReached, RoomFor, StandsReached}
 use Rattle.desk_form.proofs.Inputs.{stand-law}
 
 module _ {A : Type 0} where

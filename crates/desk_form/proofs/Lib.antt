@@ -1,9 +1,6 @@
--- Laws of writing and reading: numbers, lines, whole inputs. Turns has the invariants of the code's loops, Places what its tests say.
-pub mod Decimals
-pub mod Lines
+-- Laws of whole inputs as they are written and read, of the columns as they are laid out, and of what reading promises.
 pub mod Inputs
-pub mod Turns
-pub mod Places
-pub mod Signs
+pub mod Copies
 pub mod Layouts
 pub mod Readings
+pub mod Scheme

@@ -16,15 +16,17 @@ use Rattle.rules.specs.declared.Grid.{Grid}
 use Rattle.rules.specs.declared.Ranking.{Ranking}
 use Rattle.rules.specs.declared.Refusal.the-variants.{InputMalformed}
 use Rattle.rules.specs.Tables.{Table}
-use Rattle.desk_form.specs.Writing.{ascii}
+use Rattle.desk_line.specs.Writing.{ascii}
 use Rattle.desk_form.specs.Form.{StandLines, Input, gridText, standText, textOf, InRanges}
 use Rattle.desk_form.specs.Columns.{namesOf, tableFrom, laidTable, textAt}
 use Rattle.desk_form.specs.Answers.{readingOf, ReadsInput}
-use Rattle.desk_form.specs.Reads.{Found, found, nothing, onward, gridLines, allStands, questionLines, ended, inputOf, allLines, readInput}
-use Rattle.desk_form.specs.Says.{part, Reached, StandsReached, QuestionReached}
+use Rattle.desk_line.specs.Reads.{Found, found, nothing, onward}
+use Rattle.desk_form.specs.Reads.{gridLines, allStands, questionLines, ended, inputOf, allLines, readInput}
+use Rattle.desk_line.specs.Says.{part, Reached}
+use Rattle.desk_form.specs.Says.{StandsReached, QuestionReached}
 use Rattle.desk_form.specs.declared.Reading.{Reading}
 use Rattle.desk_form.specs.declared.Reading.the-variants.{Of, Refused}
-use Rattle.desk_form.proofs.Lines.{lost}
+use Rattle.desk_line.proofs.Lines.{lost}
 use Rattle.desk_form.proofs.Inputs.{grid-law, stands-sound, read-back, read-sound}
 
 same-reading : {stands stands′ bytes bytes′ from from′ past past′ : ℕ} {grid : Grid} {ranking : Ranking} → stands ≡ stands′ → bytes ≡ bytes′ → from ≡ from′ → past ≡ past′ → Of stands bytes grid from past ranking ≡ Of stands′ bytes′ grid from′ past′ ranking

@@ -4,7 +4,7 @@ use Prim.Native.Nat.{ℕ, _+_}
 use lib.ListN.{length, drop}
 use Rattle.base.specs.Lists.{each, eachList}
 use Rattle.rules.specs.Tables.{Table}
-use Rattle.desk_form.specs.Writing.{ascii}
+use Rattle.desk_line.specs.Writing.{ascii}
 use Rattle.desk_form.specs.Form.{StandLines, Input, gridText, standText}
 
 -- the names one after the other

@@ -1,13 +1,13 @@
 -- The form of the desk program's input, defined by its writing: an input is of the form exactly if it is the text of a record
 -- whose parts are in their ranges. What the finder itself refuses, as a name too long, is of the form.
 use mathlib.Core.List.{List, _++_}
-use Prim.Native.Nat.{ℕ, _≤_, _<_}
-use lib.IntN.{ℤ, pos, negsuc}
+use Prim.Native.Nat.{ℕ, _≤_}
+use lib.IntN.{ℤ}
 use lib.ListN.{length}
 use Rattle.base.specs.Lists.{In, eachList}
 use Rattle.rules.specs.declared.Grid.{Grid}
 use Rattle.rules.specs.declared.Ranking.{Ranking}
-use Rattle.desk_form.specs.Writing.{decimalOf, signedOf, line}
+use Rattle.desk_line.specs.Writing.{decimalOf, signedOf, line, Signed32, OneLine}
 
 pub record StandLines : Type 0 where
   pub name : List ℕ
@@ -46,15 +46,6 @@ questionText text ranking =
 
 unfoldable pub textOf : Input → List ℕ
 textOf r = gridText (r .grid) (length (r .stands)) ++ eachList standText (r .stands) ++ questionText (r .text) (r .ranking)
-
--- a signed 32-bit number
-unfoldable pub Signed32 : ℤ → Type 0
-Signed32 (pos n) = n < 2147483648
-Signed32 (negsuc n) = n < 2147483648
-
--- any bytes but line feed
-abbrev pub OneLine : List ℕ → Type 0
-OneLine bytes = In 10 bytes → ⊥
 
 pub record StandInRanges (s : StandLines) : Type 0 where
   pub name : OneLine (s .name)

@@ -1,11 +1,11 @@
 // Lines that belong together: the grid's, a stand's, the question's. Each group is read where it begins, in the order of its lines.
 use crate::Reading;
-use crate::line::Bytes;
-use crate::line::Signed;
-use crate::line::Unsigned;
-use crate::line::bytes_line;
-use crate::line::signed_line;
-use crate::line::unsigned_line;
+use desk_line::Bytes;
+use desk_line::Signed;
+use desk_line::Unsigned;
+use desk_line::bytes_line;
+use desk_line::signed_line;
+use desk_line::unsigned_line;
 use rules::Grid;
 use rules::Place;
 use rules::Ranking;

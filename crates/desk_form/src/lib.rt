@@ -2,7 +2,6 @@
 // of the form, by how one is written; any other is refused 14.
 mod columns;
 mod group;
-mod line;
 
 use columns::Stands;
 use columns::read_stands;

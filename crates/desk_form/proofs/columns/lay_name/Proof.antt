@@ -2,7 +2,7 @@
 -- Assumes nothing.
 use Prim.Native.Nat.{_-_}
 use borrow.Author.Needs.{needs}
-use Rattle.desk_form.proofs.Turns.{Copying, copy-none, copy-one, copy-all}
+use Rattle.desk_form.proofs.Copies.{Copying, copy-none, copy-one, copy-all}
 use Rattle.desk_form.proofs.columns.lay_name.Statement.{statement}
 use Rattle.desk_form.proofs.columns.lay_name.Tie as tie
 

@@ -6,9 +6,10 @@ use mir.Syntax.{w32}
 use mir.Facts.{toZ-ofZ}
 use lib.ListN.{length, drop}
 use borrow.Author.Needs.{needs}
-use Rattle.desk_form.specs.Writing.{ascii}
-use Rattle.desk_form.specs.Reads.{onward, bytesLine, signedLine, unsignedLine, questionLines}
-use Rattle.desk_form.specs.Says.{Reached, PartReached}
+use Rattle.desk_line.specs.Writing.{ascii}
+use Rattle.desk_line.specs.Reads.{onward, bytesLine, signedLine, unsignedLine}
+use Rattle.desk_form.specs.Reads.{questionLines}
+use Rattle.desk_line.specs.Says.{Reached, PartReached}
 use Rattle.desk_form.proofs.group.read_question.Statement.{statement}
 use Rattle.desk_form.proofs.group.read_question.Tie as tie
 

@@ -7,12 +7,12 @@ use lib.ListN.{length, drop}
 use borrow.Author.Needs.{needs}
 use mir.Syntax.{w32}
 use mir.Facts.{toZ-ofZ}
-use Rattle.desk_form.specs.Reads.{signedIn, bytesLine}
-use Rattle.desk_form.specs.Says.{PartReached}
-use Rattle.desk_form.proofs.Places.{value-missing, value-broken, value-there}
-use Rattle.desk_form.proofs.Signs.{said-signed, said-unsigned}
-use Rattle.desk_form.proofs.line.signed_line.Statement.{statement}
-use Rattle.desk_form.proofs.line.signed_line.Tie as tie
+use Rattle.desk_line.specs.Reads.{signedIn, bytesLine}
+use Rattle.desk_line.specs.Says.{PartReached}
+use Rattle.desk_line.proofs.Places.{value-missing, value-broken, value-there}
+use Rattle.desk_line.proofs.Signs.{said-signed, said-unsigned}
+use Rattle.desk_line.proofs.signed_line.Statement.{statement}
+use Rattle.desk_line.proofs.signed_line.Tie as tie
 
 -- src/line.rt:140:35
 bytes-line-requires : tie.Need-bytes-line-requires

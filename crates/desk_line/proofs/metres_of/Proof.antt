@@ -5,10 +5,10 @@ use mathlib.Core.Bool.{true, false}
 use borrow.Author.Needs.{needs}
 use borrow.Author.Tests.{not-true, not-false}
 use Rattle.base.specs.Lists.{begins}
-use Rattle.desk_form.specs.Writing.{ascii}
-use Rattle.desk_form.proofs.Signs.{plain-none, plain-fits, plain-some, sign-there, minus-none, minus-zero, minus-fits, down-fits, minus-some}
-use Rattle.desk_form.proofs.line.metres_of.Statement.{statement}
-use Rattle.desk_form.proofs.line.metres_of.Tie as tie
+use Rattle.desk_line.specs.Writing.{ascii}
+use Rattle.desk_line.proofs.Signs.{plain-none, plain-fits, plain-some, sign-there, minus-none, minus-zero, minus-fits, down-fits, minus-some}
+use Rattle.desk_line.proofs.metres_of.Statement.{statement}
+use Rattle.desk_line.proofs.metres_of.Tie as tie
 
 -- src/line.rt:107:24
 slice-aggregate-begins : tie.Need-slice-aggregate-begins

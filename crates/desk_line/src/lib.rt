@@ -5,8 +5,8 @@ ghost use mathlib.Core.Path.{_≡_};
 ghost use Prim.Native.Nat.{_+_, _≤_};
 ghost use lib.ListN.{length, drop};
 ghost use Rattle.base.specs.Lists.{positionIn};
-ghost use Rattle.desk_form.specs.Reads.{gather, numberIn, signedIn, bytesLine, unsignedLine, signedLine};
-ghost use Rattle.desk_form.specs.Says.{saidNumber, saidMetres, SaysBytes, SaysUnsigned, SaysSigned};
+ghost use Rattle.desk_line.specs.Reads.{gather, numberIn, signedIn, bytesLine, unsignedLine, signedLine};
+ghost use Rattle.desk_line.specs.Says.{saidNumber, saidMetres, SaysBytes, SaysUnsigned, SaysSigned};
 
 // The value of a line: where it begins, and past its end, where the line feed stands.
 pub enum Bytes {

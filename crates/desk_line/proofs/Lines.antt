@@ -17,10 +17,9 @@ use Rattle.base.specs.Lists.{In, begins, positionIn}
 use Rattle.base.proofs.Tests.{which, ap2}
 use Rattle.base.proofs.Begins.{begins-append, begins-is-take}
 use Rattle.base.proofs.Members.{position-seam}
-use Rattle.desk_form.specs.Writing.{ascii, decimalOf, signedOf, line}
-use Rattle.desk_form.specs.Form.{Signed32, OneLine}
-use Rattle.desk_form.specs.Reads.{Found, found, nothing, Reader, onward, toFeed, bytesLine, valued, valueLine, numberIn, signedIn, unsignedLine, signedLine}
-use Rattle.desk_form.proofs.Decimals.{number-back, number-sound, decimal-line, signed-back, signed-sound, signed-line}
+use Rattle.desk_line.specs.Writing.{ascii, decimalOf, signedOf, line, Signed32, OneLine}
+use Rattle.desk_line.specs.Reads.{Found, found, nothing, Reader, onward, toFeed, bytesLine, valued, valueLine, numberIn, signedIn, unsignedLine, signedLine}
+use Rattle.desk_line.proofs.Decimals.{number-back, number-sound, decimal-line, signed-back, signed-sound, signed-line}
 
 -- a reader accepts exactly what is written of values that are in order
 pub record Reads {A : Type 0} (write : A → List ℕ) (InOrder : A → Type 0) (read : Reader A) : Type 0 where

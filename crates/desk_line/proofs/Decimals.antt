@@ -15,29 +15,28 @@ use Rattle.base.specs.Lists.{In, every, begins}
 use Rattle.base.proofs.Begins.{begins-cases}
 use Rattle.base.proofs.Members.{in-either}
 use Rattle.base.proofs.Tests.{which, le-or-lt, every-at, every-of}
-use Rattle.desk_form.specs.Writing.{ascii, digitsIn, decimalOf, signedOf}
-use Rattle.desk_form.specs.Form.{Signed32, OneLine}
-use Rattle.desk_form.specs.Reads.{grown, digitFits, gather, wellLed, numberIn, negated, positive, signedIn}
+use Rattle.desk_line.specs.Writing.{ascii, digitsOf, decimalOf, signedOf, Signed32, OneLine}
+use Rattle.desk_line.specs.Reads.{grown, digitFits, gather, wellLed, numberIn, negated, positive, signedIn}
 
--- places enough are as good as more
-enough : (r r′ n : ℕ) → n < r → n < r′ → digitsIn r n ≡ digitsIn r′ n
-unfolding digitsIn
+-- room enough is as good as more
+enough : (r r′ n : ℕ) → n < r → n < r′ → digitsOf (ltb n 10) r n ≡ digitsOf (ltb n 10) r′ n
+unfolding digitsOf
 enough zero r′ n h k = absurd (omega arith)
 enough (suc r) zero n h k = absurd (omega arith)
 enough (suc r) (suc r′) n h k = step (λ q. enough r r′ (n / 10) (omega (arith, q)) (omega (arith, q))) (le-or-lt 10 n)
   where
-    step : (10 ≤ n → digitsIn r (n / 10) ≡ digitsIn r′ (n / 10)) → (10 ≤ n) ⊎ (n < 10) → digitsIn (suc r) n ≡ digitsIn (suc r′) n
-    step below (inl q) = rw (below q)
+    step : (10 ≤ n → digitsOf (ltb (n / 10) 10) r (n / 10) ≡ digitsOf (ltb (n / 10) 10) r′ (n / 10)) → (10 ≤ n) ⊎ (n < 10) → digitsOf (ltb n 10) (suc r) n ≡ digitsOf (ltb n 10) (suc r′) n
+    step below (inl q) = rw (le-ltb n 10 q, below q)
     step below (inr q) = rw (lt-ltb n 10 q)
 
 -- one digit
-pub small : (n : ℕ) → n < 10 → decimalOf n ≡ (48 + n) ∷ []
-unfolding decimalOf digitsIn
-small n h = let e : n % 10 ≡ n = omega arith in rw (lt-ltb n 10 h, e)
+small : (n : ℕ) → n < 10 → decimalOf n ≡ (48 + n) ∷ []
+unfolding decimalOf digitsOf
+small n h = rw (lt-ltb n 10 h)
 
 -- one digit more
-pub longer : (a d : ℕ) → 0 < a → d < 10 → decimalOf (a * 10 + d) ≡ decimalOf a ++ ((48 + d) ∷ [])
-unfolding decimalOf digitsIn
+longer : (a d : ℕ) → 0 < a → d < 10 → decimalOf (a * 10 + d) ≡ decimalOf a ++ ((48 + d) ∷ [])
+unfolding decimalOf digitsOf
 longer a d h k =
     let e : (a * 10 + d) / 10 ≡ a = omega arith in
     let f : (a * 10 + d) % 10 ≡ d = omega arith in

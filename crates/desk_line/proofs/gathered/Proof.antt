@@ -4,13 +4,13 @@ use mathlib.Core.Logic.{⊎-elim}
 use native.Mathlib.Omega.{arith}
 use lib.ListN.{length}
 use borrow.Author.Tests.{ltb-true, ltb-false}
-use Rattle.desk_form.specs.Says.{saidNumber}
+use Rattle.desk_line.specs.Says.{saidNumber}
 use borrow.Author.Needs.{needs}
-use Rattle.desk_form.proofs.Turns.{Gathering, gather-none, too-low, too-high, too-large, gather-one, gather-all}
-use Rattle.desk_form.proofs.line.gathered.Statement.{statement}
-use Rattle.desk_form.proofs.line.gathered.Tie as tie
-use Rattle.desk_form.proofs.line.gathered.Reads as reads
-use Rattle.desk_form.proofs.line.gathered.Lts as lts
+use Rattle.desk_line.proofs.Turns.{Gathering, gather-none, too-low, too-high, too-large, gather-one, gather-all}
+use Rattle.desk_line.proofs.gathered.Statement.{statement}
+use Rattle.desk_line.proofs.gathered.Tie as tie
+use Rattle.desk_line.proofs.gathered.Reads as reads
+use Rattle.desk_line.proofs.gathered.Lts as lts
 
 abbrev Inv-loop : tie.InvT-loop
 Inv-loop digits most value₀ i₀ value i = Gathering most digits value i

@@ -5,12 +5,12 @@ use Prim.Native.Nat.{_+_}
 use native.Mathlib.Omega.{arith}
 use lib.ListN.{length, drop}
 use borrow.Author.Needs.{needs}
-use Rattle.desk_form.specs.Reads.{numberIn, bytesLine}
-use Rattle.desk_form.specs.Says.{PartReached}
-use Rattle.desk_form.proofs.Places.{value-missing, value-broken, value-there}
-use Rattle.desk_form.proofs.Signs.{said-some, said-none}
-use Rattle.desk_form.proofs.line.unsigned_line.Statement.{statement}
-use Rattle.desk_form.proofs.line.unsigned_line.Tie as tie
+use Rattle.desk_line.specs.Reads.{numberIn, bytesLine}
+use Rattle.desk_line.specs.Says.{PartReached}
+use Rattle.desk_line.proofs.Places.{value-missing, value-broken, value-there}
+use Rattle.desk_line.proofs.Signs.{said-some, said-none}
+use Rattle.desk_line.proofs.unsigned_line.Statement.{statement}
+use Rattle.desk_line.proofs.unsigned_line.Tie as tie
 
 -- src/line.rt:127:35
 bytes-line-requires : tie.Need-bytes-line-requires

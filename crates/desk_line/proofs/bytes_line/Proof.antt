@@ -7,9 +7,9 @@ use lib.ListN.{length, take, drop}
 use borrow.Author.Needs.{needs}
 use borrow.Author.Tests.{not-true, not-false}
 use Rattle.base.specs.Lists.{begins}
-use Rattle.desk_form.proofs.Places.{key-missing, key-fits, feed-missing, line-there}
-use Rattle.desk_form.proofs.line.bytes_line.Statement.{statement}
-use Rattle.desk_form.proofs.line.bytes_line.Tie as tie
+use Rattle.desk_line.proofs.Places.{key-missing, key-fits, feed-missing, line-there}
+use Rattle.desk_line.proofs.bytes_line.Statement.{statement}
+use Rattle.desk_line.proofs.bytes_line.Tie as tie
 
 -- src/line.rt:58:16
 sub-begins : tie.Need-sub-begins

@@ -14,13 +14,13 @@ use mir.Val.{SFits, toZ, ofZ}
 use mir.Facts.{toZ-ofZ, toZ-pos}
 use Rattle.base.specs.Lists.{begins}
 use Rattle.base.proofs.Begins.{begins-length}
-use Rattle.desk_form.specs.Writing.{ascii}
-use Rattle.desk_form.specs.Reads.{numberIn, signedIn, negated, positive}
-use Rattle.desk_form.specs.Says.{saidNumber, saidMetres}
-use Rattle.desk_form.specs.declared.line.Decimal.{Decimal}
-use Rattle.desk_form.specs.declared.line.Decimal.the-variants as decimal
-use Rattle.desk_form.specs.declared.line.Metres.the-variants as metres
-use Rattle.desk_form.proofs.Decimals.{number-sound}
+use Rattle.desk_line.specs.Writing.{ascii}
+use Rattle.desk_line.specs.Reads.{numberIn, signedIn, negated, positive}
+use Rattle.desk_line.specs.Says.{saidNumber, saidMetres}
+use Rattle.desk_line.specs.declared.Decimal.{Decimal}
+use Rattle.desk_line.specs.declared.Decimal.the-variants as decimal
+use Rattle.desk_line.specs.declared.Metres.the-variants as metres
+use Rattle.desk_line.proofs.Decimals.{number-sound}
 
 -- what an answer says of the number that was read
 pub said-some : (o : Option ℕ) (n : ℕ) → saidNumber o ≡ decimal.Number n → o ≡ some n

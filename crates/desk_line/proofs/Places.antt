@@ -14,8 +14,8 @@ use borrow.Author.Tests.{lt-ltb, le-ltb, eq-eqb, ne-eqb}
 use Rattle.base.specs.Lists.{begins, positionIn}
 use Rattle.base.proofs.Tests.{which}
 use Rattle.base.proofs.Begins.{begins-length}
-use Rattle.desk_form.specs.Reads.{found, nothing, onward, toFeed, bytesLine, valueLine, gather, wellLed, numberIn}
-use Rattle.desk_form.specs.Says.{part, Reached, PartReached}
+use Rattle.desk_line.specs.Reads.{found, nothing, onward, toFeed, bytesLine, valueLine, gather, wellLed, numberIn}
+use Rattle.desk_line.specs.Says.{part, Reached, PartReached}
 
 position-le : (x : ℕ) (l : List ℕ) → positionIn x l ≤ length l
 position-le x [] = omega arith

@@ -1,11 +1,11 @@
 use Prim.Native.Nat.{_-_}
 use lib.ListN.{length}
 use borrow.Author.Needs.{needs}
-use Rattle.desk_form.proofs.Turns.{Seeking, seek, sought, seek-on, not-there}
-use Rattle.desk_form.proofs.line.feed_from.Statement.{statement}
-use Rattle.desk_form.proofs.line.feed_from.Tie as tie
-use Rattle.desk_form.proofs.line.feed_from.Reads as reads
-use Rattle.desk_form.proofs.line.feed_from.Lts as lts
+use Rattle.desk_line.proofs.Turns.{Seeking, seek, sought, seek-on, not-there}
+use Rattle.desk_line.proofs.feed_from.Statement.{statement}
+use Rattle.desk_line.proofs.feed_from.Tie as tie
+use Rattle.desk_line.proofs.feed_from.Reads as reads
+use Rattle.desk_line.proofs.feed_from.Lts as lts
 
 abbrev Inv-loop : tie.InvT-loop
 Inv-loop input at i₀ i = Seeking input at i

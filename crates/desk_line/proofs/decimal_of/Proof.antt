@@ -4,13 +4,13 @@ use mathlib.Core.Path.{sym, ap, _∙_}
 use mathlib.Core.Logic.{⊎-elim}
 use borrow.Author.Needs.{needs}
 use borrow.Author.Tests.{eqb-true, eqb-false}
-use Rattle.desk_form.specs.Says.{saidNumber}
-use Rattle.desk_form.proofs.Places.{no-digit, leading-zero, one-digit, no-leading-zero}
-use Rattle.desk_form.proofs.line.decimal_of.Statement.{statement}
-use Rattle.desk_form.proofs.line.decimal_of.Tie as tie
-use Rattle.desk_form.proofs.line.decimal_of.Reads as reads
-use Rattle.desk_form.proofs.line.decimal_of.Lts as lts
-use Rattle.desk_form.proofs.line.gathered.Reads as gathered-reads
+use Rattle.desk_line.specs.Says.{saidNumber}
+use Rattle.desk_line.proofs.Places.{no-digit, leading-zero, one-digit, no-leading-zero}
+use Rattle.desk_line.proofs.decimal_of.Statement.{statement}
+use Rattle.desk_line.proofs.decimal_of.Tie as tie
+use Rattle.desk_line.proofs.decimal_of.Reads as reads
+use Rattle.desk_line.proofs.decimal_of.Lts as lts
+use Rattle.desk_line.proofs.gathered.Reads as gathered-reads
 
 -- src/line.rt:95:9
 returns : tie.Need-returns

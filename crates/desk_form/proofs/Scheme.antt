@@ -1,0 +1,17 @@
+-- The small scheme at the desk, by computation. Assumes nothing.
+use mathlib.Core.Path.{refl}
+use Rattle.base.specs.Lists.{every}
+use Rattle.rules.specs.Places.{edgeLawful, gridLawful, within, inGrid}
+use Rattle.rules.specs.Worth.{distance², diagonal², valueAt, valueOf}
+use Rattle.rules.specs.Names.{allowed, nameAllowed, textRefusal, spanned, name}
+use Rattle.rules.specs.Tables.{rising, shapeLawful, namesAllowed, namesInOrder, standLawful, standsLawful, tableRefusal}
+use Rattle.rules.specs.Questions.{under, rankingLawful}
+use Rattle.desk_line.specs.Writing.{digitsOf, decimalOf, signedOf, line}
+use Rattle.desk_form.specs.Form.{gridText, standText, questionText, textOf}
+use Rattle.desk_form.specs.Columns.{startsFrom, tableFrom}
+use Rattle.desk_form.specs.Printed.{printedRefusal, printedHit, printedHits, outputOf}
+use Rattle.desk_form.specs.Scheme.{SchemeAtDesk}
+
+pub scheme-at-desk : SchemeAtDesk
+unfolding every edgeLawful gridLawful within inGrid distance² diagonal² valueAt valueOf allowed nameAllowed textRefusal spanned name rising shapeLawful namesAllowed namesInOrder standLawful standsLawful tableRefusal under rankingLawful digitsOf decimalOf signedOf line gridText standText questionText textOf startsFrom tableFrom printedRefusal printedHit printedHits outputOf
+scheme-at-desk = record { columns = refl; lines = refl; printed = refl; refused = refl }
