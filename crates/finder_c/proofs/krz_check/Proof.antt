@@ -1,0 +1,22 @@
+-- `krz_check` tells the check's numbers.
+-- Assumes nothing.
+use mathlib.Core.Path.{_∙_}
+use borrow.Author.Needs.{needs}
+use Rattle.finder_c.proofs.krz_check.Statement.{statement}
+use Rattle.finder_c.proofs.krz_check.Tie as tie
+use Rattle.finder_c.proofs.krz_check.Reads as reads
+use Rattle.finder_c.proofs.krz_check.Lts as lts
+use Rattle.finder_c.proofs.Checked.of.Reads as of-reads
+use Rattle.index.proofs.check.Reads as check-reads
+
+check-requires : tie.Need-check-requires
+check-requires c κs = search needs
+
+of-requires : tie.Need-of-requires
+of-requires c κs = search needs
+
+returns : tie.Need-returns
+returns c = c .of .ensures ∙ c .before .check .ensures
+
+pub krz-check-spec : {M : Type 1} → statement M
+krz-check-spec = tie.close (tie.spec check-requires of-requires returns)

@@ -1,0 +1,22 @@
+-- `krz_region` tells the region's numbers.
+-- Assumes nothing.
+use mathlib.Core.Path.{_∙_}
+use borrow.Author.Needs.{needs}
+use Rattle.finder_c.proofs.krz_region.Statement.{statement}
+use Rattle.finder_c.proofs.krz_region.Tie as tie
+use Rattle.finder_c.proofs.krz_region.Reads as reads
+use Rattle.finder_c.proofs.krz_region.Lts as lts
+use Rattle.finder_c.proofs.Located.of.Reads as of-reads
+use Rattle.grid.proofs.locate.Reads as locate-reads
+
+locate-requires : tie.Need-locate-requires
+locate-requires c κs = search needs
+
+of-requires : tie.Need-of-requires
+of-requires c κs = search needs
+
+returns : tie.Need-returns
+returns c = c .of .ensures ∙ c .before .locate .ensures
+
+pub krz-region-spec : {M : Type 1} → statement M
+krz-region-spec = tie.close (tie.spec locate-requires of-requires returns)

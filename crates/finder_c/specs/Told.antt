@@ -1,0 +1,27 @@
+-- What a C record tells, as the rules' numbers; and a promise read through those numbers.
+-- A C call promises that its record holds the numbers of an answer that keeps the promise of the call under it. No two answers have the same
+-- numbers (`rules/proofs/Outcomes`), so nothing is lost on the way.
+use mathlib.Core.Path.{_≡_}
+use Rattle.rules.specs.Numbers.{Told, BuildTold, CheckTold}
+use Rattle.finder_c.specs.declared.Located.{Located}
+use Rattle.finder_c.specs.declared.Built.{Built}
+use Rattle.finder_c.specs.declared.Checked.{Checked}
+use Rattle.finder_c.specs.declared.Found.{Found}
+
+abbrev pub locatedTold : Located → Told
+locatedTold r = record { refusal = r .refusal; number = r .region }
+
+abbrev pub builtTold : Built → BuildTold
+builtTold r = record { refusal = r .refusal; nodes = r .nodes; entries = r .entries }
+
+abbrev pub checkedTold : Checked → CheckTold
+checkedTold r = record { lawful = r .lawful; nodes = r .nodes; entries = r .entries }
+
+abbrev pub foundTold : Found → Told
+foundTold r = record { refusal = r .refusal; number = r .count }
+
+-- these are the numbers of an answer that keeps a promise
+pub record Tells {Answer Numbers : Type 0} (numbers : Answer → Numbers) (Promise : Answer → Type 0) (told : Numbers) : Type 0 where
+  pub answer : Answer
+  pub promised : Promise answer
+  pub same : told ≡ numbers answer

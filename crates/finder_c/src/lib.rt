@@ -1,0 +1,263 @@
+// The finder for C: each call takes a slice as a pointer and a length, hands on to the finder's own call, and gives its answer as numbers.
+// include/krzewido.h says the same to C. Nothing is asked of any argument: what the calls under these promise, these promise of the numbers.
+ghost use mathlib.Core.Path.{_≡_};
+ghost use Rattle.rules.specs.Numbers.{locatedNumbers, builtNumbers, checkedNumbers, rangeNumbers, rankedNumbers};
+ghost use Rattle.rules.specs.Places.{regionTold};
+ghost use Rattle.rules.specs.Tables.{tableOf};
+ghost use Rattle.rules.specs.Indexes.{indexOf, checkTold};
+ghost use Rattle.rules.specs.Sessions.{freshSession};
+ghost use Rattle.index.specs.Promises.{BuildPromise};
+ghost use Rattle.range.specs.Promises.{RangePromise};
+ghost use Rattle.ranked_means.specs.Promises.{RankedPromise};
+ghost use Rattle.finder_c.specs.Told.{Tells, locatedTold, builtTold, checkedTold, foundTold};
+use rules::Grid;
+use rules::Place;
+use rules::RangeAnswer;
+use rules::RankedAnswer;
+use rules::Ranking;
+use rules::Rect;
+use rules::Session;
+
+// A refusal is its number, or 0; with one every other number is 0, but for a range's matches.
+#[repr(C)]
+pub struct Located {
+    pub refusal: u32,
+    pub region: u32,
+}
+
+#[repr(C)]
+pub struct Built {
+    pub refusal: u32,
+    pub nodes: u32,
+    pub entries: u32,
+}
+
+// Lawful is 1 or 0.
+#[repr(C)]
+pub struct Checked {
+    pub lawful: u32,
+    pub nodes: u32,
+    pub entries: u32,
+}
+
+#[repr(C)]
+pub struct Found {
+    pub refusal: u32,
+    pub count: u32,
+}
+
+impl Located {
+    fn of(answer: rules::Located) -> Located
+        ensures { λ r. ⌜ locatedTold r ≡ locatedNumbers answer ⌝ }
+    {
+        match answer {
+            rules::Located::In(region) => Located { refusal: 0, region },
+            rules::Located::Refused(why) => Located {
+                refusal: why.number(),
+                region: 0,
+            },
+        }
+    }
+}
+
+impl Built {
+    fn of(answer: rules::Built) -> Built
+        ensures { λ r. ⌜ builtTold r ≡ builtNumbers answer ⌝ }
+    {
+        match answer {
+            rules::Built::Index { nodes, entries } => Built {
+                refusal: 0,
+                nodes,
+                entries,
+            },
+            rules::Built::Refused(why) => Built {
+                refusal: why.number(),
+                nodes: 0,
+                entries: 0,
+            },
+        }
+    }
+}
+
+impl Checked {
+    fn of(answer: rules::Checked) -> Checked
+        ensures { λ r. ⌜ checkedTold r ≡ checkedNumbers answer ⌝ }
+    {
+        match answer {
+            rules::Checked::Lawful { nodes, entries } => Checked {
+                lawful: 1,
+                nodes,
+                entries,
+            },
+            rules::Checked::Unlawful => Checked {
+                lawful: 0,
+                nodes: 0,
+                entries: 0,
+            },
+        }
+    }
+}
+
+impl Found {
+    fn of_range(answer: RangeAnswer) -> Found
+        ensures { λ r. ⌜ foundTold r ≡ rangeNumbers answer ⌝ }
+    {
+        match answer {
+            RangeAnswer::Found(count) => Found { refusal: 0, count },
+            RangeAnswer::Refused { why, matches } => Found {
+                refusal: why.number(),
+                count: matches,
+            },
+        }
+    }
+
+    fn of_ranked(answer: RankedAnswer) -> Found
+        ensures { λ r. ⌜ foundTold r ≡ rankedNumbers answer ⌝ }
+    {
+        match answer {
+            RankedAnswer::Found(count) => Found { refusal: 0, count },
+            RankedAnswer::Refused(why) => Found {
+                refusal: why.number(),
+                count: 0,
+            },
+        }
+    }
+}
+
+#[no_mangle]
+pub extern "C" fn krz_region(grid: Grid, place: Place) -> Located
+    ensures { λ r. ⌜ locatedTold r ≡ regionTold grid place ⌝ }
+{
+    Located::of(grid::locate(grid, place))
+}
+
+#[no_mangle]
+pub extern "C" fn krz_build(
+    text: &[u8],
+    starts: &[u32],
+    east: &[i32],
+    north: &[i32],
+    score: &[u32],
+    grid: Grid,
+    order: &mut [u32],
+    nodes: &mut [u32],
+    entries: &mut [u32],
+) -> Built
+    ensures { λ r. ⌜ Tells builtNumbers (λ a. BuildPromise (tableOf (now (text .entry)) (now (starts .entry)) (now (east .entry)) (now (north .entry)) (now (score .entry))) grid (indexOf (now (order .entry)) (now (nodes .entry)) (now (entries .entry))) a (indexOf (now (order .exit)) (now (nodes .exit)) (now (entries .exit)))) (builtTold r) ⌝ }
+{
+    Built::of(index::build(
+        text,
+        starts,
+        east,
+        north,
+        score,
+        grid,
+        order,
+        nodes,
+        entries,
+    ))
+}
+
+#[no_mangle]
+pub extern "C" fn krz_check(
+    text: &[u8],
+    starts: &[u32],
+    east: &[i32],
+    north: &[i32],
+    score: &[u32],
+    grid: Grid,
+    order: &[u32],
+    nodes: &[u32],
+    entries: &[u32],
+) -> Checked
+    ensures { λ r. ⌜ checkedTold r ≡ checkTold (tableOf (now (text .entry)) (now (starts .entry)) (now (east .entry)) (now (north .entry)) (now (score .entry))) grid (indexOf (now (order .entry)) (now (nodes .entry)) (now (entries .entry))) ⌝ }
+{
+    Checked::of(index::check(
+        text,
+        starts,
+        east,
+        north,
+        score,
+        grid,
+        order,
+        nodes,
+        entries,
+    ))
+}
+
+#[no_mangle]
+pub extern "C" fn krz_range(
+    text: &[u8],
+    starts: &[u32],
+    east: &[i32],
+    north: &[i32],
+    score: &[u32],
+    grid: Grid,
+    order: &[u32],
+    nodes: &[u32],
+    entries: &[u32],
+    typed: &[u8],
+    rect: Rect,
+    found: &mut [u32],
+) -> Found
+    ensures { λ r. ⌜ Tells rangeNumbers (λ a. RangePromise (tableOf (now (text .entry)) (now (starts .entry)) (now (east .entry)) (now (north .entry)) (now (score .entry))) grid (indexOf (now (order .entry)) (now (nodes .entry)) (now (entries .entry))) (now (typed .entry)) rect (now (found .entry)) (now (found .exit)) a) (foundTold r) ⌝ }
+{
+    Found::of_range(range::range(
+        text,
+        starts,
+        east,
+        north,
+        score,
+        grid,
+        order,
+        nodes,
+        entries,
+        typed,
+        rect,
+        found,
+    ))
+}
+
+#[no_mangle]
+pub extern "C" fn krz_ranked(
+    text: &[u8],
+    starts: &[u32],
+    east: &[i32],
+    north: &[i32],
+    score: &[u32],
+    grid: Grid,
+    order: &[u32],
+    nodes: &[u32],
+    entries: &[u32],
+    typed: &[u8],
+    place: Place,
+    weight: u32,
+    k: u32,
+    found: &mut [u32],
+    values: &mut [u64],
+) -> Found
+    ensures { λ r. ⌜ Tells rankedNumbers (λ a. RankedPromise (tableOf (now (text .entry)) (now (starts .entry)) (now (east .entry)) (now (north .entry)) (now (score .entry))) grid (indexOf (now (order .entry)) (now (nodes .entry)) (now (entries .entry))) (now (typed .entry)) (record { place = place; weight = weight; k = k }) a (now (found .entry)) (now (values .entry)) (now (found .exit)) (now (values .exit))) (foundTold r) ⌝ }
+{
+    Found::of_ranked(ranked_means::ranked(
+        text,
+        starts,
+        east,
+        north,
+        score,
+        grid,
+        order,
+        nodes,
+        entries,
+        typed,
+        Ranking { place, weight, k },
+        found,
+        values,
+    ))
+}
+
+#[no_mangle]
+pub extern "C" fn krz_fresh() -> Session
+    ensures { λ r. ⌜ r ≡ freshSession ⌝ }
+{
+    Session::fresh()
+}
