@@ -1,9 +1,9 @@
 -- A part of a part of a text is a part of the text; a stand's name by its span, and the rest of it behind a typed text.
 -- Assumes nothing.
 use Prim.Native.Nat.{ℕ, _+_, _-_, _≤_, _<_}
-use mathlib.Core.Path.{_≡_, refl, sym, ap, _∙_}
+use mathlib.Core.Path.{_≡_, sym, ap, _∙_}
 use mathlib.Core.Bool.{Bool, true, false}
-use mathlib.Core.List.{List, []}
+use mathlib.Core.List.{List}
 use native.Mathlib.Omega.{arith}
 use lib.ListN.{length, getD, take, drop, length-drop}
 use lib.Seq.{drop-drop, length-take-le}
@@ -13,7 +13,7 @@ use Rattle.base.proofs.Begins.{begins-length}
 use Rattle.rules.specs.Names.{spanned, name, nameAt, restOf, restAt}
 use Rattle.rules.proofs.Lawful.{by-starts}
 use Rattle.table.specs.declared.names.Span.{Span}
-use Rattle.table.specs.Parts.{Spans, Rest}
+use Rattle.table.specs.Parts.{Spans, RestSpans}
 
 module _ (text : List ℕ) (a b : ℕ) where
   drop-part : (k : ℕ) → drop k (take (b - a) (drop a text)) ≡ take (b - (a + k)) (drop (a + k) text)
@@ -29,14 +29,14 @@ module _ (text : List ℕ) (a b : ℕ) where
 module _ (text starts : List ℕ) (i : ℕ) where
   pub nowhere : spanned text starts i ≡ false → Spans text starts i (record { from = 0; past = 0 })
   unfolding name nameAt
-  nowhere h = record { forward = omega arith; inside = omega arith; holds = rw h; begins = rw h }
+  nowhere h = record { forward = omega arith; inside = omega arith; holds = rw h; begins = rw h; fits = omega arith }
 
-  pub found : i + 1 < length starts → getD starts i 0 ≤ getD starts (i + 1) 0 → getD starts (i + 1) 0 ≤ length text
+  pub found : i + 1 < length starts → getD starts i 0 ≤ getD starts (i + 1) 0 → getD starts (i + 1) 0 ≤ length text → getD starts (i + 1) 0 < 4294967296
       → Spans text starts i (record { from = getD starts i 0; past = getD starts (i + 1) 0 })
   unfolding name nameAt
-  found h f o =
+  found h f o k =
       let s = by-starts text starts i h f o in
-      record { forward = f; inside = o; holds = rw s; begins = rw s }
+      record { forward = f; inside = o; holds = rw s; begins = rw s; fits = k }
 
 -- the rest of a name, by the span that holds the name
 module _ (text starts : List ℕ) (i : ℕ) (s : Span) (w : Spans text starts i s) (typed : List ℕ) where
@@ -49,14 +49,12 @@ module _ (text starts : List ℕ) (i : ℕ) (s : Span) (w : Spans text starts i 
   pub room : begins typed here ≡ true → s .from + length typed ≤ s .past
   room h = omega (arith, begins-length typed here h, length-part text (s .from) (s .past) (w .forward) (w .inside), w .forward)
 
-  module _ (whole : ℕ × ℕ) where
-    pub rest : begins typed here ≡ true
-        → Rest text starts i typed whole (take (s .past - (s .from + length typed)) (drop (s .from + length typed) text)) (whole .0, s .from + length typed + whole .1)
-    unfolding restOf restAt
-    rest h =
-        let e = told true h in
-        record { bytes = sym (drop-part text (s .from) (s .past) (length typed)) ∙ rw (w .holds, e); block = refl; offset = rw e (omega (arith, w .begins)) }
+  pub rest : begins typed here ≡ true → RestSpans text starts i typed (record { from = s .from + length typed; past = s .past })
+  unfolding restOf restAt
+  rest h =
+      let e = told true h in
+      record { forward = room h; inside = w .inside; holds = sym (drop-part text (s .from) (s .past) (length typed)) ∙ rw (w .holds, e); begins = rw e (omega (arith, w .begins)); fits = w .fits }
 
-    pub no-rest : begins typed here ≡ false → Rest text starts i typed whole [] (whole .0, 0 + whole .1)
-    unfolding restOf restAt
-    no-rest h = let e = told false h in record { bytes = rw e; block = refl; offset = rw e (omega arith) }
+  pub no-rest : begins typed here ≡ false → RestSpans text starts i typed (record { from = 0; past = 0 })
+  unfolding restOf restAt
+  no-rest h = let e = told false h in record { forward = omega arith; inside = omega arith; holds = rw e; begins = rw e; fits = omega arith }

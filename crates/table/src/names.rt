@@ -5,12 +5,12 @@ ghost use mathlib.Core.Path.{_≡_};
 ghost use denote.Ref.{ptr};
 ghost use Rattle.base.specs.Lists.{all, begins, sharedLength};
 ghost use Rattle.rules.specs.Names.{allowed, nameAllowed, inOrder, name};
-ghost use Rattle.table.specs.Parts.{Spans, Rest};
+ghost use Rattle.table.specs.Parts.{Spans, RestSpans, Rest};
 
 // A part of the text: where it begins, and past its end.
-struct Span {
-    from: usize,
-    past: usize,
+pub struct Span {
+    pub from: usize,
+    pub past: usize,
 }
 
 // Whether a byte is a to z, 0 to 9 or space.
@@ -112,14 +112,25 @@ pub fn name_of<'a>(text: &'a [u8], starts: &[u32], stand: Stand) -> &'a [u8]
     &text[from..past]
 }
 
-// What is left of a stand's name after a typed text, for showing a hit; where the name doesn't begin so, the empty part at the
-// text's start. Bytes and place are promised, so that no caller has to look the part up in the text again.
-pub fn rest_of_name<'a>(text: &'a [u8], starts: &[u32], stand: Stand, typed: &[u8]) -> &'a [u8]
-    ensures { λ r. ⌜ Rest (now (text .entry)) (now (starts .entry)) (stand .0) (now (typed .entry)) (ptr (text .entry)) (now r) (ptr r) ⌝ }
+// Where the rest of a stand's name after a typed text lies; where the name doesn't begin so, the empty part at the text's start.
+pub fn rest_span(text: &[u8], starts: &[u32], stand: Stand, typed: &[u8]) -> Span
+    ensures { λ r. ⌜ RestSpans (now (text .entry)) (now (starts .entry)) (stand .0) (now (typed .entry)) r ⌝ }
 {
     let Span { from, past } = name_span(text, starts, stand);
     if begins(&text[from..past], typed) {
-        return &text[from + typed.len()..past];
+        return Span {
+            from: from + typed.len(),
+            past,
+        };
     }
-    &text[0..0]
+    Span { from: 0, past: 0 }
+}
+
+// What is left of a stand's name after a typed text, for showing a hit. Bytes and place are promised, so that no caller has to look
+// the part up in the text again.
+pub fn rest_of_name<'a>(text: &'a [u8], starts: &[u32], stand: Stand, typed: &[u8]) -> &'a [u8]
+    ensures { λ r. ⌜ Rest (now (text .entry)) (now (starts .entry)) (stand .0) (now (typed .entry)) (ptr (text .entry)) (now r) (ptr r) ⌝ }
+{
+    let Span { from, past } = rest_span(text, starts, stand, typed);
+    &text[from..past]
 }

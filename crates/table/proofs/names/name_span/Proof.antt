@@ -55,7 +55,9 @@ returns-2 c =
     (c .if2 .came))
 
 returns-3 : tie.Need-returns-3
-returns-3 c = found _ _ _ (search needs) (search needs) (search needs)
+returns-3 c =
+    let i = c .before .before .before .before .before .before .args .stand .0 in
+    found _ _ _ (search needs) (search needs) (search needs) (omega (arith, c .before .before .shared-slice-known2 .given (i + 1)))
 
 pub name-span-spec : {M : Type 1} → statement M
 name-span-spec =
