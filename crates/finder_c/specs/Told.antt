@@ -2,11 +2,16 @@
 -- A C call promises that its record holds the numbers of an answer that keeps the promise of the call under it. No two answers have the same
 -- numbers (`rules/proofs/Outcomes`), so nothing is lost on the way.
 use mathlib.Core.Path.{_≡_}
+use mathlib.Core.List.{List}
+use Prim.Native.Nat.{ℕ}
+use lib.ListN.{length}
+use Rattle.rules.specs.Names.{restOf, restAt}
 use Rattle.rules.specs.Numbers.{Told, BuildTold, CheckTold}
 use Rattle.finder_c.specs.declared.Located.{Located}
 use Rattle.finder_c.specs.declared.Built.{Built}
 use Rattle.finder_c.specs.declared.Checked.{Checked}
 use Rattle.finder_c.specs.declared.Found.{Found}
+use Rattle.finder_c.specs.declared.Part.{Part}
 
 abbrev pub locatedTold : Located → Told
 locatedTold r = record { refusal = r .refusal; number = r .region }
@@ -25,3 +30,8 @@ pub record Tells {Answer Numbers : Type 0} (numbers : Answer → Numbers) (Promi
   pub answer : Answer
   pub promised : Promise answer
   pub same : told ≡ numbers answer
+
+-- the rest of stand i's name after a typed text, as a part of the text
+pub record RestPart (text starts : List ℕ) (i : ℕ) (typed : List ℕ) (r : Part) : Type 0 where
+  pub begins : r .start ≡ restAt text starts i typed
+  pub long : r .length ≡ length (restOf text starts i typed)

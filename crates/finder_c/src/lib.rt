@@ -9,7 +9,7 @@ ghost use Rattle.rules.specs.Sessions.{freshSession};
 ghost use Rattle.index.specs.Promises.{BuildPromise};
 ghost use Rattle.range.specs.Promises.{RangePromise};
 ghost use Rattle.ranked_means.specs.Promises.{RankedPromise};
-ghost use Rattle.finder_c.specs.Told.{Tells, locatedTold, builtTold, checkedTold, foundTold};
+ghost use Rattle.finder_c.specs.Told.{Tells, locatedTold, builtTold, checkedTold, foundTold, RestPart};
 use rules::Grid;
 use rules::Place;
 use rules::RangeAnswer;
@@ -17,6 +17,9 @@ use rules::RankedAnswer;
 use rules::Ranking;
 use rules::Rect;
 use rules::Session;
+use rules::Stand;
+use table::names::Span;
+use table::names::rest_span;
 
 // A refusal is its number, or 0; with one every other number is 0, but for a range's matches.
 #[repr(C)]
@@ -44,6 +47,13 @@ pub struct Checked {
 pub struct Found {
     pub refusal: u32,
     pub count: u32,
+}
+
+// A part of the table's text: where it begins, and how many bytes it has.
+#[repr(C)]
+pub struct Part {
+    pub start: u32,
+    pub length: u32,
 }
 
 impl Located {
@@ -260,4 +270,15 @@ pub extern "C" fn krz_fresh() -> Session
     ensures { λ r. ⌜ r ≡ freshSession ⌝ }
 {
     Session::fresh()
+}
+
+#[no_mangle]
+pub extern "C" fn krz_rest(text: &[u8], starts: &[u32], stand: u32, typed: &[u8]) -> Part
+    ensures { λ r. ⌜ RestPart (now (text .entry)) (now (starts .entry)) stand (now (typed .entry)) r ⌝ }
+{
+    let Span { from, past } = rest_span(text, starts, Stand(stand), typed);
+    Part {
+        start: from as u32,
+        length: (past - from) as u32,
+    }
 }

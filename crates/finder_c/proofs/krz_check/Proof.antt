@@ -4,10 +4,6 @@ use mathlib.Core.Path.{_∙_}
 use borrow.Author.Needs.{needs}
 use Rattle.finder_c.proofs.krz_check.Statement.{statement}
 use Rattle.finder_c.proofs.krz_check.Tie as tie
-use Rattle.finder_c.proofs.krz_check.Reads as reads
-use Rattle.finder_c.proofs.krz_check.Lts as lts
-use Rattle.finder_c.proofs.Checked.of.Reads as of-reads
-use Rattle.index.proofs.check.Reads as check-reads
 
 check-requires : tie.Need-check-requires
 check-requires c κs = search needs

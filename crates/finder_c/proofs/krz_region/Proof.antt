@@ -4,10 +4,6 @@ use mathlib.Core.Path.{_∙_}
 use borrow.Author.Needs.{needs}
 use Rattle.finder_c.proofs.krz_region.Statement.{statement}
 use Rattle.finder_c.proofs.krz_region.Tie as tie
-use Rattle.finder_c.proofs.krz_region.Reads as reads
-use Rattle.finder_c.proofs.krz_region.Lts as lts
-use Rattle.finder_c.proofs.Located.of.Reads as of-reads
-use Rattle.grid.proofs.locate.Reads as locate-reads
 
 locate-requires : tie.Need-locate-requires
 locate-requires c κs = search needs

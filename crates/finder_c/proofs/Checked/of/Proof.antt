@@ -3,8 +3,6 @@
 use borrow.Author.Needs.{needs}
 use Rattle.finder_c.proofs.Checked.of.Statement.{statement}
 use Rattle.finder_c.proofs.Checked.of.Tie as tie
-use Rattle.finder_c.proofs.Checked.of.Reads as reads
-use Rattle.finder_c.proofs.Checked.of.Lts as lts
 
 enum-known-answer : tie.Need-enum-known-answer
 enum-known-answer c = search needs

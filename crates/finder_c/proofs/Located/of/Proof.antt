@@ -3,9 +3,6 @@
 use borrow.Author.Needs.{needs}
 use Rattle.finder_c.proofs.Located.of.Statement.{statement}
 use Rattle.finder_c.proofs.Located.of.Tie as tie
-use Rattle.finder_c.proofs.Located.of.Reads as reads
-use Rattle.finder_c.proofs.Located.of.Lts as lts
-use Rattle.rules.proofs.Refusal.number.Reads as number-reads
 
 enum-known-answer : tie.Need-enum-known-answer
 enum-known-answer c = search needs
