@@ -1,2 +1,3 @@
 -- What the proofs of several calls use.
+mod Lent
 mod Rests

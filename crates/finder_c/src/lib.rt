@@ -1,7 +1,7 @@
 // The finder for C: each call takes a slice as a pointer and a length, hands on to the finder's own call, and gives its answer as numbers.
 // include/krzewido.h says the same to C. Nothing is asked of any argument: what the calls under these promise, these promise of the numbers.
 ghost use mathlib.Core.Path.{_≡_};
-ghost use Rattle.rules.specs.Numbers.{locatedNumbers, builtNumbers, checkedNumbers, rangeNumbers, rankedNumbers};
+ghost use Rattle.rules.specs.Numbers.{locatedNumbers, builtNumbers, checkedNumbers, rangeNumbers, rankedNumbers, verdictNumber};
 ghost use Rattle.rules.specs.Places.{regionTold};
 ghost use Rattle.rules.specs.Tables.{tableOf};
 ghost use Rattle.rules.specs.Indexes.{indexOf, checkTold};
@@ -9,7 +9,9 @@ ghost use Rattle.rules.specs.Sessions.{freshSession};
 ghost use Rattle.index.specs.Promises.{BuildPromise};
 ghost use Rattle.range.specs.Promises.{RangePromise};
 ghost use Rattle.ranked_means.specs.Promises.{RankedPromise};
-ghost use Rattle.finder_c.specs.Told.{Tells, locatedTold, builtTold, checkedTold, foundTold, RestPart};
+ghost use Rattle.session.specs.Promises.{TypePromise, RubPromise};
+ghost use Rattle.session.specs.Strokes.{typedOn, rubbedOut};
+ghost use Rattle.finder_c.specs.Told.{Tells, locatedTold, builtTold, checkedTold, foundTold, RestPart, struckBy};
 use rules::Grid;
 use rules::Place;
 use rules::RangeAnswer;
@@ -18,6 +20,7 @@ use rules::Ranking;
 use rules::Rect;
 use rules::Session;
 use rules::Stand;
+use session::Stroke;
 use table::names::Span;
 use table::names::rest_span;
 
@@ -47,6 +50,12 @@ pub struct Checked {
 pub struct Found {
     pub refusal: u32,
     pub count: u32,
+}
+
+// What a keystroke comes to: its refusal's number, and the session after it.
+struct Struck {
+    refusal: u32,
+    session: Session,
 }
 
 // A part of the table's text: where it begins, and how many bytes it has.
@@ -132,6 +141,31 @@ impl Found {
             },
         }
     }
+}
+
+impl Struck {
+    fn of(stroke: Stroke) -> Struck
+        ensures { λ r. ⌜ r ≡ struckBy stroke ⌝ }
+    {
+        let verdict = stroke.verdict;
+        let session = stroke.session;
+        Struck {
+            refusal: verdict.number(),
+            session,
+        }
+    }
+}
+
+fn typed(nodes: &[u32], session: Session, byte: u8) -> Struck
+    ensures { λ r. ⌜ r ≡ struckBy (typedOn (now (nodes .entry)) session byte) ⌝ }
+{
+    Struck::of(session::typed(nodes, session, byte))
+}
+
+fn rubbed_out(session: Session) -> Struck
+    ensures { λ r. ⌜ r ≡ struckBy (rubbedOut session) ⌝ }
+{
+    Struck::of(session::rubbed_out(session))
 }
 
 #[no_mangle]
@@ -270,6 +304,49 @@ pub extern "C" fn krz_fresh() -> Session
     ensures { λ r. ⌜ r ≡ freshSession ⌝ }
 {
     Session::fresh()
+}
+
+// The keystrokes rewrite the lent record whole, as the session's own calls do; of the set only the nodes are read.
+#[no_mangle]
+pub extern "C" fn krz_type(
+    text: &[u8],
+    starts: &[u32],
+    east: &[i32],
+    north: &[i32],
+    score: &[u32],
+    grid: Grid,
+    order: &[u32],
+    nodes: &[u32],
+    entries: &[u32],
+    session: &mut Session,
+    byte: u8,
+) -> u32
+    ensures { λ r. ⌜ Tells verdictNumber (λ v. TypePromise (now (nodes .entry)) byte (now (session .entry)) (now (session .exit)) v) r ⌝ }
+{
+    let out = typed(nodes, *session, byte);
+    *session = out.session;
+    out.refusal
+}
+
+// It takes the whole set so that all calls on a session look alike in C.
+#[no_mangle]
+pub extern "C" fn krz_rub_out(
+    text: &[u8],
+    starts: &[u32],
+    east: &[i32],
+    north: &[i32],
+    score: &[u32],
+    grid: Grid,
+    order: &[u32],
+    nodes: &[u32],
+    entries: &[u32],
+    session: &mut Session,
+) -> u32
+    ensures { λ r. ⌜ Tells verdictNumber (λ v. RubPromise (now (session .entry)) (now (session .exit)) v) r ⌝ }
+{
+    let out = rubbed_out(*session);
+    *session = out.session;
+    out.refusal
 }
 
 #[no_mangle]
