@@ -1,0 +1,66 @@
+//! The questions answered with no index, by going over every stand: what the figures hold the finder against.
+
+use crate::finder::{Found, Ranking, Rect, Set};
+
+fn name<'a>(set: &Set<'a>, i: usize) -> &'a [u8] {
+    &set.text[set.starts[i] as usize..set.starts[i + 1] as usize]
+}
+
+/// Whether any stand's name begins with the text: what a keystroke finds out.
+pub fn any(set: &Set, typed: &[u8]) -> bool {
+    (0..set.score.len()).any(|i| name(set, i).starts_with(typed))
+}
+
+/// The stands come by number; by region they are put afterwards.
+pub fn range(set: &Set, typed: &[u8], rect: Rect, found: &mut [u32]) -> Found {
+    let mut count = 0;
+    for i in 0..set.score.len() {
+        let (east, north) = (set.east[i], set.north[i]);
+        let inside = rect.west <= east && east <= rect.east && rect.south <= north && north <= rect.north;
+        if inside && name(set, i).starts_with(typed) {
+            if let Some(place) = found.get_mut(count) {
+                *place = i as u32;
+            }
+            count += 1;
+        }
+    }
+    let refusal = if found.len() < count { 13 } else { 0 };
+    let region = |&stand: &u32| {
+        let strip = |edge: i32, x: i32| (i64::from(x) - i64::from(edge)) / i64::from(set.grid.cell);
+        let i = stand as usize;
+        strip(set.grid.south, set.north[i]) * 8 + strip(set.grid.west, set.east[i])
+    };
+    let held = count.min(found.len());
+    found[..held].sort_by_key(region);
+    Found { refusal, count: count as u32 }
+}
+
+/// Equal values keep the smaller number first, since stands come by number.
+pub fn ranked(set: &Set, typed: &[u8], asked: Ranking, found: &mut [u32], values: &mut [u64]) -> Found {
+    let k = asked.k as usize;
+    let cell = u64::from(set.grid.cell);
+    let diagonal = 128 * cell * cell;
+    let mut held = 0;
+    for i in 0..set.score.len() {
+        if !name(set, i).starts_with(typed) {
+            continue;
+        }
+        let across = u64::from(set.east[i].abs_diff(asked.place.east));
+        let along = u64::from(set.north[i].abs_diff(asked.place.north));
+        let near = diagonal - (across * across + along * along);
+        let value = u64::from(asked.weight) * u64::from(set.score[i]) * diagonal + u64::from(16 - asked.weight) * near * 1_000;
+        if held == k && value <= values[k - 1] {
+            continue;
+        }
+        held = (held + 1).min(k);
+        let mut at = held - 1;
+        while 0 < at && values[at - 1] < value {
+            values[at] = values[at - 1];
+            found[at] = found[at - 1];
+            at -= 1;
+        }
+        values[at] = value;
+        found[at] = i as u32;
+    }
+    Found { refusal: 0, count: held as u32 }
+}
