@@ -23,7 +23,7 @@ use Rattle.rules.specs.Places.{rectLawful}
 use Rattle.rules.specs.Names.{allowed, textRefusal}
 use Rattle.rules.specs.Tables.{Table}
 use Rattle.rules.specs.Questions.{rangeList, rangeRefusal, toldPast, rangeTold, rangeRoom}
-use Rattle.rules.specs.Indexes.{beginnings, nodeCount, numberIn, Index, setLawful}
+use Rattle.rules.specs.Indexes.{beginnings, nodeCount, numberIn, Index}
 use Rattle.rules.proofs.Lawful.{SetParts, set-parts}
 use Rattle.rules.proofs.Outcomes.{one-range, refusal-some}
 use Rattle.grid.proofs.Covers.{Edges}
@@ -37,7 +37,7 @@ use Rattle.walk.specs.Walks.{node, nodeIn}
 use Rattle.walk.specs.Nodes.{nodeOf}
 use Rattle.walk.proofs.Lawful.{at-means, nowhere-means, never-broken, node-found}
 use Rattle.range.specs.Fetches.{Outcome, outcome, unlawful, fetched}
-use Rattle.range.specs.Promises.{fitted, Harmless, RangePromise}
+use Rattle.range.specs.Promises.{fitted, Harmless, RangeKept, RangePromise}
 use Rattle.range.specs.Promises.Harmless.{noticed, refused, found}
 use Rattle.range.proofs.Meaning.{fetch-means}
 use Rattle.range.proofs.Harmless.{fetch-harmless}
@@ -164,14 +164,14 @@ told-never-7 t g p r room = step (which (ltb 24 (length p))) (which (all allowed
     step (inr a) (inl b) (inl c) (inl d) = rw (a, b, c, d) (λ e. omega arith)
     step (inr a) (inl b) (inl c) (inr d) = rw (a, b, c, d) (λ e. omega arith)
 
-module _ (t : Table) (g : Grid) (x : Index) (p : List ℕ) (r : Rect) (room : List ℕ) (lawful : setLawful t g x ≡ true) where
+module _ (Lawful : Type 0) (lawful : Lawful) (t : Table) (g : Grid) (p : List ℕ) (r : Rect) (room : List ℕ) where
   -- no two outcomes keep the promise
-  pub one-outcome : (after after′ : List ℕ) (a a′ : RangeAnswer) → RangePromise t g x p r room after a → RangePromise t g x p r room after′ a′ → (a ≡ a′) × (after ≡ after′)
+  pub one-outcome : (after after′ : List ℕ) (a a′ : RangeAnswer) → RangeKept Lawful t g p r room after a → RangeKept Lawful t g p r room after′ a′ → (a ≡ a′) × (after ≡ after′)
   one-outcome after after′ a a′ m n =
       let f = m .lawful lawful in
       let h = n .lawful lawful in
       (one-range a a′ (f .0 ∙ sym (h .0)), f .1 ∙ sym (h .1))
 
   -- and the one that does is not refused 7
-  pub never-7 : (after : List ℕ) (a : RangeAnswer) → RangePromise t g x p r room after a → rangeNumbers a .refusal ≡ 7 → ⊥
+  pub never-7 : (after : List ℕ) (a : RangeAnswer) → RangeKept Lawful t g p r room after a → rangeNumbers a .refusal ≡ 7 → ⊥
   never-7 after a m e = told-never-7 t g p r room (ap (λ (n : Told). n .refusal) (sym (m .lawful lawful .0)) ∙ e)

@@ -32,6 +32,11 @@ pub data Harmless (p : List ℕ) (r : Rect) (room after : List ℕ) (a : RangeAn
   found : rangeRefusal p r ≡ 0 → (count : ℕ) → count ≤ length room → rangeNumbers a ≡ telling count → length after ≡ length room → drop count after ≡ drop count room
       → Harmless p r room after a
 
-pub record RangePromise (t : Table) (g : Grid) (x : Index) (p : List ℕ) (r : Rect) (room after : List ℕ) (a : RangeAnswer) : Type 0 where
-  pub lawful : setLawful t g x ≡ true → (rangeNumbers a ≡ rangeTold t g p r room) × (after ≡ rangeRoom t g p r room)
+-- where Lawful holds, answer and room are what the rules give
+pub record RangeKept (Lawful : Type 0) (t : Table) (g : Grid) (p : List ℕ) (r : Rect) (room after : List ℕ) (a : RangeAnswer) : Type 0 where
+  pub lawful : Lawful → (rangeNumbers a ≡ rangeTold t g p r room) × (after ≡ rangeRoom t g p r room)
   pub harmless : Harmless p r room after a
+
+-- a text that is given afresh asks for nothing but a lawful set
+abbrev pub RangePromise : Table → Grid → Index → List ℕ → Rect → List ℕ → List ℕ → RangeAnswer → Type 0
+RangePromise t g x p r room after a = RangeKept (setLawful t g x ≡ true) t g p r room after a
