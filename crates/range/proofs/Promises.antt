@@ -3,8 +3,8 @@
 use mathlib.Core.Path.{_≡_, refl, sym, ap, _∙_}
 use mathlib.Core.Logic.{_⊎_, inl, inr}
 use mathlib.Core.Bool.{true, false, not, cond}
-use mathlib.Core.List.{List, [], _∷_}
-use Prim.Native.Nat.{ℕ, zero, suc, _<_}
+use mathlib.Core.List.{List, []}
+use Prim.Native.Nat.{ℕ, zero, suc}
 use native.Mathlib.Omega.{arith}
 use lib.Dec.{ltb}
 use lib.IntN.{ℤ}
@@ -25,7 +25,7 @@ use Rattle.rules.specs.Places.{rectLawful}
 use Rattle.rules.specs.Names.{allowed, textRefusal}
 use Rattle.rules.specs.Tables.{Table, tableOf, LawfulTable}
 use Rattle.rules.specs.Questions.{rangeList, rangeRefusal, toldPast, rangeTold, rangeRoom}
-use Rattle.rules.specs.Indexes.{beginnings, nodeCount, numberIn, Index}
+use Rattle.rules.specs.Indexes.{beginnings, Index}
 use Rattle.rules.proofs.Lawful.{SetParts, set-parts}
 use Rattle.rules.proofs.Outcomes.{one-range, refusal-some}
 use Rattle.grid.proofs.Covers.{Edges}
@@ -197,13 +197,15 @@ told-never-7 t g p r room = step (which (ltb 24 (length p))) (which (all allowed
     step (inr a) (inl b) (inl c) (inl d) = rw (a, b, c, d) (λ e. omega arith)
     step (inr a) (inl b) (inl c) (inr d) = rw (a, b, c, d) (λ e. omega arith)
 
+-- the rules give one outcome
+pub one-exact : (t : Table) (g : Grid) (p : List ℕ) (r : Rect) (room after after′ : List ℕ) (a a′ : RangeAnswer)
+    → Exact t g p r room after a → Exact t g p r room after′ a′ → (a ≡ a′) × (after ≡ after′)
+one-exact t g p r room after after′ a a′ f h = (one-range a a′ (f .0 ∙ sym (h .0)), f .1 ∙ sym (h .1))
+
 module _ (Lawful : Type 0) (lawful : Lawful) (t : Table) (g : Grid) (p : List ℕ) (r : Rect) (room : List ℕ) where
-  -- no two outcomes keep the promise
+  -- so no two outcomes keep the promise
   pub one-outcome : (after after′ : List ℕ) (a a′ : RangeAnswer) → RangeKept Lawful t g p r room after a → RangeKept Lawful t g p r room after′ a′ → (a ≡ a′) × (after ≡ after′)
-  one-outcome after after′ a a′ m n =
-      let f = m .lawful lawful in
-      let h = n .lawful lawful in
-      (one-range a a′ (f .0 ∙ sym (h .0)), f .1 ∙ sym (h .1))
+  one-outcome after after′ a a′ m n = one-exact t g p r room after after′ a a′ (m .lawful lawful) (n .lawful lawful)
 
   -- and the one that does is not refused 7
   pub never-7 : (after : List ℕ) (a : RangeAnswer) → RangeKept Lawful t g p r room after a → rangeNumbers a .refusal ≡ 7 → ⊥

@@ -39,6 +39,12 @@ module _ (t : Table) (s : Session) (l : LawfulSession t s) where
   short : length (lettersOf s) ≤ 24
   short = text-parts (lettersOf s) (l .allowed) .0
 
+  many : s .len ≡ length (lettersOf s)
+  many = ap (λ (u : Session). u .len) (l .same) ∙ len-of t (lettersOf s)
+
+  pub lawful-short : s .len ≤ 24
+  lawful-short = omega (arith, many, short)
+
   -- the last place of its path is the node of its letters, or 0 where there is none
   pub lawful-last : getD (s .path) (s .len) 0 ≡ nodeOr0 t (lettersOf s)
   lawful-last = ap (λ (u : Session). getD (u .path) (u .len) 0) (l .same) ∙ path-last t (lettersOf s) short
@@ -56,20 +62,17 @@ module _ (t : Table) (s : Session) (l : LawfulSession t s) where
       p : List ℕ
       p = lettersOf s
 
-      many : s .len ≡ length p
-      many = ap (λ (u : Session). u .len) (l .same) ∙ len-of t p
-
       found : (b : Bool) → lost (length p) (nodeOr0 t p) ≡ b → lost (s .len) (getD (s .path) (s .len) 0) ≡ b
       found b e = ap2 lost many lawful-last ∙ e
 
       within : In p (beginnings t) → reached s ≡ nodeOf t p
       within h =
-          reached-node s (omega (arith, many, short)) (found false (lost-in t p h))
+          reached-node s lawful-short (found false (lost-in t p h))
           ∙ ap (λ (n : ℕ). At (node n)) (lawful-last ∙ node-in t p h)
           ∙ sym (node-of-in t p h)
 
       without : (In p (beginnings t) → ⊥) → reached s ≡ nodeOf t p
-      without h = reached-nowhere s (omega (arith, many, short)) (found true (lost-out t p h)) ∙ sym (node-of-out t p h)
+      without h = reached-nowhere s lawful-short (found true (lost-out t p h)) ∙ sym (node-of-out t p h)
 
 pub fresh-lawful : (t : Table) → LawfulSession t freshSession
 fresh-lawful t = subst (LawfulSession t) (sym (fresh-is t)) (session-lawful t [] (text-taken [] (omega arith) refl))
