@@ -6,16 +6,20 @@ use crate::set::NORTH;
 use crate::set::SCORE;
 use crate::set::STARTS;
 use crate::set::TEXT;
+use finder::Grid;
+use finder::Located;
+use finder::Place;
+use finder::RangeAnswer;
+use finder::RankedAnswer;
+use finder::Ranking;
+use finder::Rect;
+use finder::Refusal;
+use finder::Session;
+use finder::Verdict;
 use libc::STDOUT_FILENO;
-use rules::Grid;
-use rules::Located;
-use rules::Place;
-use rules::RangeAnswer;
-use rules::RankedAnswer;
-use rules::Ranking;
-use rules::Rect;
-use rules::Refusal;
-use rules::Verdict;
+
+// Room for the most stands that may be asked for.
+const MOST: usize = Ranking::K_MOST as usize;
 
 pub(crate) fn print(text: &[u8]) {
     io::write_all(STDOUT_FILENO, text);
@@ -38,7 +42,7 @@ pub(crate) fn print_verdict(verdict: Verdict) {
 }
 
 pub(crate) fn print_region(grid: Grid, east: i32, north: i32) {
-    match grid::locate(grid, Place { east, north }) {
+    match finder::locate(grid, Place { east, north }) {
         Located::In(region) => {
             print(b"region");
             print_number(region as u64);
@@ -54,24 +58,25 @@ pub(crate) fn print_rest(rest: &[u8]) {
     print(b"\"\n");
 }
 
-fn print_stand(stand: u32) {
-    print_number(stand as u64);
+fn print_word(word: u32) {
+    print_number(word as u64);
 }
 
-fn print_stands(room: &[u32], count: u32) {
-    print(b"stands");
+// The first so many words, behind their kind.
+fn print_words(kind: &[u8], words: &[u32], count: u32) {
+    print(kind);
     let mut i = 0;
-    while i < room.len() && i < count as usize {
-        print_stand(room[i]);
+    while i < words.len() && i < count as usize {
+        print_word(words[i]);
         i += 1;
     }
 }
 
-fn print_values(room: &[u64], count: u32) {
+fn print_values(values: &[u64], count: u32) {
     print(b" values");
     let mut i = 0;
-    while i < room.len() && i < count as usize {
-        print_number(room[i]);
+    while i < values.len() && i < count as usize {
+        print_number(values[i]);
         i += 1;
     }
 }
@@ -86,7 +91,7 @@ pub(crate) fn print_range(index: Index, typed: &[u8], rect: Rect, found: &mut [u
     let order = index.order;
     let nodes = index.nodes;
     let entries = index.entries;
-    let answer = range::range(
+    let answer = finder::range(
         &text,
         &starts,
         &east,
@@ -101,12 +106,23 @@ pub(crate) fn print_range(index: Index, typed: &[u8], rect: Rect, found: &mut [u
         found,
     );
     match answer {
-        RangeAnswer::Found(count) => print_stands(found, count),
+        RangeAnswer::Found(count) => print_words(b"stands", found, count),
         RangeAnswer::Refused { why, matches } => {
             print_refusal(why);
             print(b" matches");
             print_number(matches as u64);
         }
+    }
+    print(b"\n");
+}
+
+fn print_best(answer: RankedAnswer, found: [u32; MOST], values: [u64; MOST]) {
+    match answer {
+        RankedAnswer::Found(count) => {
+            print_words(b"stands", &found, count);
+            print_values(&values, count);
+        }
+        RankedAnswer::Refused(why) => print_refusal(why),
     }
     print(b"\n");
 }
@@ -121,9 +137,9 @@ pub(crate) fn print_ranked(index: Index, typed: &[u8], asked: Ranking) {
     let order = index.order;
     let nodes = index.nodes;
     let entries = index.entries;
-    let mut found = [0u32; Ranking::K_MOST as usize];
-    let mut values = [0u64; Ranking::K_MOST as usize];
-    let answer = ranked_means::ranked(
+    let mut found = [0u32; MOST];
+    let mut values = [0u64; MOST];
+    let answer = finder::ranked(
         &text,
         &starts,
         &east,
@@ -138,12 +154,42 @@ pub(crate) fn print_ranked(index: Index, typed: &[u8], asked: Ranking) {
         &mut found,
         &mut values,
     );
-    match answer {
-        RankedAnswer::Found(count) => {
-            print_stands(&found, count);
-            print_values(&values, count);
-        }
-        RankedAnswer::Refused(why) => print_refusal(why),
-    }
+    print_best(answer, found, values);
+}
+
+// The same on the letters of a session.
+pub(crate) fn print_ranked_typed(index: Index, session: Session, asked: Ranking) {
+    let text = TEXT;
+    let starts = STARTS;
+    let east = EAST;
+    let north = NORTH;
+    let score = SCORE;
+    let order = index.order;
+    let nodes = index.nodes;
+    let entries = index.entries;
+    let mut found = [0u32; MOST];
+    let mut values = [0u64; MOST];
+    let answer = finder::ranked_typed(
+        &text,
+        &starts,
+        &east,
+        &north,
+        &score,
+        GRID,
+        &order,
+        &nodes,
+        &entries,
+        session,
+        asked,
+        &mut found,
+        &mut values,
+    );
+    print_best(answer, found, values);
+}
+
+// The path of a session, all its places.
+pub(crate) fn print_path(session: Session) {
+    let path = session.path;
+    print_words(b"path", &path, Session::PATH as u32);
     print(b"\n");
 }

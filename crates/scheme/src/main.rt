@@ -4,16 +4,20 @@ mod answers;
 mod set;
 
 use answers::print;
+use answers::print_path;
 use answers::print_range;
 use answers::print_ranked;
+use answers::print_ranked_typed;
 use answers::print_region;
 use answers::print_rest;
 use answers::print_verdict;
-use rules::Grid;
-use rules::Place;
-use rules::Ranking;
-use rules::Rect;
-use rules::Stand;
+use finder::Grid;
+use finder::Place;
+use finder::Ranking;
+use finder::Rect;
+use finder::Session;
+use finder::Stand;
+use session::Stroke;
 use set::EAST;
 use set::GRID;
 use set::Index;
@@ -87,6 +91,42 @@ fn limits(index: Index) {
     print_ranked(index, b"abcdefghijklmnopqrstuvwxy", asked(5, 5, 8, 1));
 }
 
+// The verdict on a keystroke; the session after it is handed on.
+fn print_stroke(stroke: Stroke) -> Session {
+    let verdict = stroke.verdict;
+    print_verdict(verdict);
+    stroke.session
+}
+
+fn press(index: Index, session: Session, byte: u8) -> Session {
+    let nodes = index.nodes;
+    print_stroke(session::typed(&nodes, session, byte))
+}
+
+// Line 11, and a question on the letters that stand at the end.
+fn keys(index: Index) {
+    print(b"session\n");
+    let k = press(index, Session::fresh(), b'k');
+    let ki = press(index, k, b'i');
+    let kiz = press(index, ki, b'z');
+    print_path(kiz);
+    print_ranked_typed(index, kiz, asked(5, 5, 8, 4));
+    let rubbed = print_stroke(session::rubbed_out(kiz));
+    print_path(rubbed);
+    print_ranked_typed(index, rubbed, asked(5, 5, 8, 4));
+}
+
+// Of line 12: 24 letters pass, and the next is refused.
+fn full(index: Index) {
+    print(b"full\n");
+    let mut session = Session::fresh();
+    let mut left = 25u32;
+    while 0 < left {
+        session = press(index, session, b'k');
+        left -= 1;
+    }
+}
+
 // The verdict on the scheme's table with these starts, scores and grid.
 fn print_table(starts: [u32; 6], score: [u32; 5], grid: Grid) {
     let text = TEXT;
@@ -116,9 +156,9 @@ fn rests() {
     print(b"rests\n");
     let text = TEXT;
     let starts = STARTS;
-    print_rest(table::names::rest_of_name(&text, &starts, Stand(2), b"kibo"));
-    print_rest(table::names::rest_of_name(&text, &starts, Stand(3), b"kibo"));
-    print_rest(table::names::rest_of_name(&text, &starts, Stand(5), b""));
+    print_rest(finder::rest_of_name(&text, &starts, Stand(2), b"kibo"));
+    print_rest(finder::rest_of_name(&text, &starts, Stand(3), b"kibo"));
+    print_rest(finder::rest_of_name(&text, &starts, Stand(5), b""));
 }
 
 fn main() {
@@ -127,6 +167,8 @@ fn main() {
     ranges(index);
     rankings(index);
     limits(index);
+    keys(index);
+    full(index);
     tables();
     rests();
 }

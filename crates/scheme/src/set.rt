@@ -1,5 +1,5 @@
 // The small scheme as a set: its table, its grid, and the index that building writes for it.
-use rules::Grid;
+use finder::Grid;
 
 pub(crate) const TEXT: [u8; 21] = *b"kibokibokiborikitomto";
 
@@ -33,7 +33,7 @@ impl Index {
         let mut order = [0u32; 5];
         let mut nodes = [0u32; 96];
         let mut entries = [0u32; 88];
-        index::build(
+        finder::build(
             &text,
             &starts,
             &east,

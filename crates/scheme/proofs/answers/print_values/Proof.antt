@@ -1,4 +1,4 @@
--- `print_values` ends: it stays within the room.
+-- `print_values` ends: it stays within the values.
 -- Assumes nothing.
 use borrow.Author.Needs.{needs}
 use Prim.Native.Nat.{_-_, _≤_}
@@ -7,10 +7,10 @@ use Rattle.scheme.proofs.answers.print_values.Statement.{statement}
 use Rattle.scheme.proofs.answers.print_values.Tie as tie
 
 abbrev Inv-loop : tie.InvT-loop
-Inv-loop room count i₀ i = i ≤ length room
+Inv-loop values count i₀ i = i ≤ length values
 
 abbrev μ-loop : tie.MeasureT-loop
-μ-loop room count i₀ i = length room - i
+μ-loop values count i₀ i = length values - i
 
 slice-aggregate-print : tie.Need-slice-aggregate-print Inv-loop μ-loop
 slice-aggregate-print c = search needs
