@@ -1,4 +1,4 @@
-// Keystrokes: a letter typed or rubbed out, by value and on the one session record that a caller lends.
+// Keystrokes: a letter typed or rubbed out, by value and on the one session record that a caller lends; and where its letters came to.
 // Nothing is asked of session and nodes: on any words a keystroke ends, reads nothing outside them, and a refused one alters nothing.
 use rules::Node;
 use rules::Refusal;
@@ -118,11 +118,11 @@ pub fn reached(session: Session) -> Child
     if Stand::NAME_MOST < len {
         return Child::Broken;
     }
-    let last = session.path[len];
-    if lost(len, last) {
+    let node = session.path[len];
+    if lost(len, node) {
         return Child::Nowhere;
     }
-    Child::At(Node(last))
+    Child::At(Node(node))
 }
 
 // A letter typed into the session that is lent. The record is rewritten whole, so that the step by value has all the branches.

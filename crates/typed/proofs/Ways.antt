@@ -5,8 +5,6 @@ use mathlib.Core.Logic.{_⊎_, inl, inr}
 use mathlib.Core.List.{List}
 use Prim.Native.Nat.{ℕ, _≤_, _<_}
 use native.Mathlib.Omega.{arith}
-use lib.Dec.{ltb}
-use lib.ListN.{length}
 use borrow.Author.Tests.{lt-ltb, le-ltb}
 use Rattle.base.proofs.Tests.{le-or-lt}
 use Rattle.rules.specs.declared.Grid.{Grid}
@@ -22,7 +20,7 @@ use Rattle.rules.specs.Numbers.{refusalNumber, refusing}
 use Rattle.rules.specs.Names.{textRefusal}
 use Rattle.rules.specs.Tables.{Table}
 use Rattle.rules.specs.Indexes.{Index}
-use Rattle.rules.specs.Sessions.{lettersOf, LawfulSession}
+use Rattle.rules.specs.Sessions.{lettersOf}
 use Rattle.walk.specs.declared.Child.{Child}
 use Rattle.session.specs.Strokes.{reached}
 use Rattle.session.proofs.Sessions.{lawful-short, lawful-reached}

@@ -11,11 +11,11 @@ cast-len c = search needs
 returns : tie.Need-returns
 returns c = sym (reached-over _ (c .if1 .taken))
 
-mul-last : tie.Need-mul-last
-mul-last c = search needs
+mul-node : tie.Need-mul-node
+mul-node c = search needs
 
-element-copy-out-last : tie.Need-element-copy-out-last
-element-copy-out-last c = search needs
+element-copy-out-node : tie.Need-element-copy-out-node
+element-copy-out-node c = search needs
 
 lost-requires : tie.Need-lost-requires
 lost-requires c κs = search needs
@@ -29,4 +29,4 @@ returns-3 c = sym (reached-node _ (search needs) (sym (c .before .lost .ensures)
 pub reached-spec : {M : Type 1} → statement M
 reached-spec =
     tie.close
-    (tie.spec cast-len returns mul-last element-copy-out-last lost-requires returns-2 returns-3)
+    (tie.spec cast-len returns mul-node element-copy-out-node lost-requires returns-2 returns-3)
