@@ -11,15 +11,16 @@ ghost use Rattle.range.specs.Promises.{RangePromise};
 ghost use Rattle.ranked_means.specs.Promises.{RankedPromise};
 ghost use Rattle.session.specs.Promises.{TypePromise, RubPromise};
 ghost use Rattle.session.specs.Strokes.{typedOn, rubbedOut};
+ghost use Rattle.typed.specs.Promises.{TypedRangePromise, TypedRankedPromise};
 ghost use Rattle.finder_c.specs.Told.{Tells, locatedTold, builtTold, checkedTold, foundTold, RestPart, struckBy};
-use rules::Grid;
-use rules::Place;
-use rules::RangeAnswer;
-use rules::RankedAnswer;
-use rules::Ranking;
-use rules::Rect;
-use rules::Session;
-use rules::Stand;
+use finder::Grid;
+use finder::Place;
+use finder::RangeAnswer;
+use finder::RankedAnswer;
+use finder::Ranking;
+use finder::Rect;
+use finder::Session;
+use finder::Stand;
 use session::Stroke;
 use table::names::Span;
 use table::names::rest_span;
@@ -66,12 +67,12 @@ pub struct Part {
 }
 
 impl Located {
-    fn of(answer: rules::Located) -> Located
+    fn of(answer: finder::Located) -> Located
         ensures { λ r. ⌜ locatedTold r ≡ locatedNumbers answer ⌝ }
     {
         match answer {
-            rules::Located::In(region) => Located { refusal: 0, region },
-            rules::Located::Refused(why) => Located {
+            finder::Located::In(region) => Located { refusal: 0, region },
+            finder::Located::Refused(why) => Located {
                 refusal: why.number(),
                 region: 0,
             },
@@ -80,16 +81,16 @@ impl Located {
 }
 
 impl Built {
-    fn of(answer: rules::Built) -> Built
+    fn of(answer: finder::Built) -> Built
         ensures { λ r. ⌜ builtTold r ≡ builtNumbers answer ⌝ }
     {
         match answer {
-            rules::Built::Index { nodes, entries } => Built {
+            finder::Built::Index { nodes, entries } => Built {
                 refusal: 0,
                 nodes,
                 entries,
             },
-            rules::Built::Refused(why) => Built {
+            finder::Built::Refused(why) => Built {
                 refusal: why.number(),
                 nodes: 0,
                 entries: 0,
@@ -99,16 +100,16 @@ impl Built {
 }
 
 impl Checked {
-    fn of(answer: rules::Checked) -> Checked
+    fn of(answer: finder::Checked) -> Checked
         ensures { λ r. ⌜ checkedTold r ≡ checkedNumbers answer ⌝ }
     {
         match answer {
-            rules::Checked::Lawful { nodes, entries } => Checked {
+            finder::Checked::Lawful { nodes, entries } => Checked {
                 lawful: 1,
                 nodes,
                 entries,
             },
-            rules::Checked::Unlawful => Checked {
+            finder::Checked::Unlawful => Checked {
                 lawful: 0,
                 nodes: 0,
                 entries: 0,
@@ -172,7 +173,7 @@ fn rubbed_out(session: Session) -> Struck
 pub extern "C" fn krz_region(grid: Grid, place: Place) -> Located
     ensures { λ r. ⌜ locatedTold r ≡ regionTold grid place ⌝ }
 {
-    Located::of(grid::locate(grid, place))
+    Located::of(finder::locate(grid, place))
 }
 
 #[no_mangle]
@@ -189,7 +190,7 @@ pub extern "C" fn krz_build(
 ) -> Built
     ensures { λ r. ⌜ Tells builtNumbers (λ a. BuildPromise (tableOf (now (text .entry)) (now (starts .entry)) (now (east .entry)) (now (north .entry)) (now (score .entry))) grid (indexOf (now (order .entry)) (now (nodes .entry)) (now (entries .entry))) a (indexOf (now (order .exit)) (now (nodes .exit)) (now (entries .exit)))) (builtTold r) ⌝ }
 {
-    Built::of(index::build(
+    Built::of(finder::build(
         text,
         starts,
         east,
@@ -216,7 +217,7 @@ pub extern "C" fn krz_check(
 ) -> Checked
     ensures { λ r. ⌜ checkedTold r ≡ checkTold (tableOf (now (text .entry)) (now (starts .entry)) (now (east .entry)) (now (north .entry)) (now (score .entry))) grid (indexOf (now (order .entry)) (now (nodes .entry)) (now (entries .entry))) ⌝ }
 {
-    Checked::of(index::check(
+    Checked::of(finder::check(
         text,
         starts,
         east,
@@ -246,7 +247,7 @@ pub extern "C" fn krz_range(
 ) -> Found
     ensures { λ r. ⌜ Tells rangeNumbers (λ a. RangePromise (tableOf (now (text .entry)) (now (starts .entry)) (now (east .entry)) (now (north .entry)) (now (score .entry))) grid (indexOf (now (order .entry)) (now (nodes .entry)) (now (entries .entry))) (now (typed .entry)) rect (now (found .entry)) (now (found .exit)) a) (foundTold r) ⌝ }
 {
-    Found::of_range(range::range(
+    Found::of_range(finder::range(
         text,
         starts,
         east,
@@ -282,7 +283,7 @@ pub extern "C" fn krz_ranked(
 ) -> Found
     ensures { λ r. ⌜ Tells rankedNumbers (λ a. RankedPromise (tableOf (now (text .entry)) (now (starts .entry)) (now (east .entry)) (now (north .entry)) (now (score .entry))) grid (indexOf (now (order .entry)) (now (nodes .entry)) (now (entries .entry))) (now (typed .entry)) (record { place = place; weight = weight; k = k }) a (now (found .entry)) (now (values .entry)) (now (found .exit)) (now (values .exit))) (foundTold r) ⌝ }
 {
-    Found::of_ranked(ranked_means::ranked(
+    Found::of_ranked(finder::ranked(
         text,
         starts,
         east,
@@ -293,6 +294,76 @@ pub extern "C" fn krz_ranked(
         nodes,
         entries,
         typed,
+        Ranking { place, weight, k },
+        found,
+        values,
+    ))
+}
+
+#[no_mangle]
+pub extern "C" fn krz_range_typed(
+    text: &[u8],
+    starts: &[u32],
+    east: &[i32],
+    north: &[i32],
+    score: &[u32],
+    grid: Grid,
+    order: &[u32],
+    nodes: &[u32],
+    entries: &[u32],
+    session: Session,
+    rect: Rect,
+    found: &mut [u32],
+) -> Found
+    ensures { λ r. ⌜ Tells rangeNumbers (λ a. TypedRangePromise (tableOf (now (text .entry)) (now (starts .entry)) (now (east .entry)) (now (north .entry)) (now (score .entry))) grid (indexOf (now (order .entry)) (now (nodes .entry)) (now (entries .entry))) session rect (now (found .entry)) (now (found .exit)) a) (foundTold r) ⌝ }
+{
+    Found::of_range(finder::range_typed(
+        text,
+        starts,
+        east,
+        north,
+        score,
+        grid,
+        order,
+        nodes,
+        entries,
+        session,
+        rect,
+        found,
+    ))
+}
+
+#[no_mangle]
+pub extern "C" fn krz_ranked_typed(
+    text: &[u8],
+    starts: &[u32],
+    east: &[i32],
+    north: &[i32],
+    score: &[u32],
+    grid: Grid,
+    order: &[u32],
+    nodes: &[u32],
+    entries: &[u32],
+    session: Session,
+    place: Place,
+    weight: u32,
+    k: u32,
+    found: &mut [u32],
+    values: &mut [u64],
+) -> Found
+    ensures { λ r. ⌜ Tells rankedNumbers (λ a. TypedRankedPromise (tableOf (now (text .entry)) (now (starts .entry)) (now (east .entry)) (now (north .entry)) (now (score .entry))) grid (indexOf (now (order .entry)) (now (nodes .entry)) (now (entries .entry))) session (record { place = place; weight = weight; k = k }) a (now (found .entry)) (now (values .entry)) (now (found .exit)) (now (values .exit))) (foundTold r) ⌝ }
+{
+    Found::of_ranked(finder::ranked_typed(
+        text,
+        starts,
+        east,
+        north,
+        score,
+        grid,
+        order,
+        nodes,
+        entries,
+        session,
         Ranking { place, weight, k },
         found,
         values,

@@ -5,7 +5,7 @@ ghost use lib.ListN.{length};
 ghost use Rattle.grid.specs.Cells.{regionsIn};
 ghost use Rattle.rules.specs.Tables.{tableOf};
 ghost use Rattle.rules.specs.Indexes.{indexOf};
-ghost use Rattle.range.specs.Promises.{RangePromise};
+ghost use Rattle.range.specs.Promises.{RangePromise, FromPromise};
 ghost use Rattle.range.specs.Fetches.{agree, outcome, unlawful, Ready, filled, fetched};
 
 mod gather;
@@ -92,7 +92,7 @@ fn fill(
 }
 
 // The stands under a node that are in a rectangle, by region and then by number.
-pub fn range_at(
+fn range_at(
     east: &[i32],
     north: &[i32],
     grid: Grid,
@@ -131,6 +131,33 @@ pub fn range_at(
     fill(east, north, order, wanted, &firsts, &pasts, rect, found)
 }
 
+// The question from where the walk along a text came to; the text itself is no more needed.
+pub fn range_from(
+    east: &[i32],
+    north: &[i32],
+    grid: Grid,
+    order: &[u32],
+    nodes: &[u32],
+    entries: &[u32],
+    at: Child,
+    rect: Rect,
+    found: &mut [u32],
+) -> RangeAnswer
+    ensures { λ a. ⌜ FromPromise (now (east .entry)) (now (north .entry)) grid (indexOf (now (order .entry)) (now (nodes .entry)) (now (entries .entry))) at rect (now (found .entry)) (now (found .exit)) a ⌝ }
+{
+    if !grid::rect_lawful(rect) {
+        return RangeAnswer::Refused {
+            why: Refusal::RectReversed,
+            matches: 0,
+        };
+    }
+    match at {
+        Child::At(node) => { range_at(east, north, grid, order, nodes, entries, node, rect, found) }
+        Child::Nowhere => RangeAnswer::Found(0),
+        Child::Broken => unlawful(),
+    }
+}
+
 // The stands whose name begins with a typed text and which are in a rectangle, by region and then by number.
 // A set that is not lawful is refused where that shows; where it doesn't, the answer is of no worth, and no harm is done.
 pub fn range(
@@ -152,15 +179,6 @@ pub fn range(
     if let Verdict::Refused(why) = text_verdict(typed) {
         return RangeAnswer::Refused { why, matches: 0 };
     }
-    if !grid::rect_lawful(rect) {
-        return RangeAnswer::Refused {
-            why: Refusal::RectReversed,
-            matches: 0,
-        };
-    }
-    match node_of(nodes, typed) {
-        Child::At(node) => { range_at(east, north, grid, order, nodes, entries, node, rect, found) }
-        Child::Nowhere => RangeAnswer::Found(0),
-        Child::Broken => unlawful(),
-    }
+    let at = node_of(nodes, typed);
+    range_from(east, north, grid, order, nodes, entries, at, rect, found)
 }

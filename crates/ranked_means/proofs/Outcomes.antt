@@ -15,9 +15,8 @@ use Rattle.rules.specs.Numbers.{Told, firstGiven, telling, refusing, rankedNumb
 use Rattle.rules.specs.Names.{allowed, textRefusal}
 use Rattle.rules.specs.Tables.{Table}
 use Rattle.rules.specs.Questions.{rankedList, rankingLawful, toldPast, rankedTold}
-use Rattle.rules.specs.Indexes.{Index, setLawful}
 use Rattle.rules.proofs.Outcomes.{one-ranked}
-use Rattle.ranked_means.specs.Promises.{Exact, tooShort, RankedPromise}
+use Rattle.ranked_means.specs.Promises.{Exact, tooShort, RankedKept}
 
 -- whichever tests fail
 none-is-7 : (long byte asked short : Bool) (n : ℕ) → toldPast (firstGiven (cond long 9 (cond byte 8 0)) (cond asked 0 12)) (cond short (refusing 13) (telling n)) .refusal ≡ 7 → ⊥
@@ -36,11 +35,11 @@ module _ (t : Table) (g : Grid) (p : List ℕ) (q : Ranking) (room values : List
       → (a ≡ b) × (room₁ ≡ room₂) × (values₁ ≡ values₂)
   one-exact a b room₁ values₁ room₂ values₂ u v = (one-ranked a b (u .told ∙ sym (v .told)), u .found ∙ sym (v .found), u .worths ∙ sym (v .worths))
 
-  module _ (x : Index) (law : setLawful t g x ≡ true) where
+  module _ (Lawful : Type 0) (law : Lawful) where
     pub one-outcome : (a b : RankedAnswer) (room₁ values₁ room₂ values₂ : List ℕ)
-        → RankedPromise t g x p q a room values room₁ values₁ → RankedPromise t g x p q b room values room₂ values₂
+        → RankedKept Lawful t g p q a room values room₁ values₁ → RankedKept Lawful t g p q b room values room₂ values₂
         → (a ≡ b) × (room₁ ≡ room₂) × (values₁ ≡ values₂)
     one-outcome a b room₁ values₁ room₂ values₂ u v = one-exact a b room₁ values₁ room₂ values₂ (u .lawful law) (v .lawful law)
 
-    pub never-7 : (a : RankedAnswer) (room′ values′ : List ℕ) → RankedPromise t g x p q a room values room′ values′ → rankedNumbers a .refusal ≡ 7 → ⊥
+    pub never-7 : (a : RankedAnswer) (room′ values′ : List ℕ) → RankedKept Lawful t g p q a room values room′ values′ → rankedNumbers a .refusal ≡ 7 → ⊥
     never-7 a room′ values′ u e = told-never-7 (sym (ap (λ (n : Told). n .refusal) (u .lawful law .told)) ∙ e)

@@ -52,9 +52,14 @@ pub record GoesOn (g : Grid) (p : List ℕ) (q : Ranking) (a : RankedAnswer) (ro
 abbrev pub Harmless : Grid → List ℕ → Ranking → RankedAnswer → List ℕ → List ℕ → List ℕ → List ℕ → Type 0
 Harmless g p q a room values room′ values′ = Refuses 7 a room values room′ values′ ⊎ GoesOn g p q a room values room′ values′
 
-pub record RankedPromise (t : Table) (g : Grid) (x : Index) (p : List ℕ) (q : Ranking) (a : RankedAnswer) (room values room′ values′ : List ℕ) : Type 0 where
-  pub lawful : setLawful t g x ≡ true → Exact t g p q a room values room′ values′
+-- where Lawful holds, answer and rooms are what the rules give
+pub record RankedKept (Lawful : Type 0) (t : Table) (g : Grid) (p : List ℕ) (q : Ranking) (a : RankedAnswer) (room values room′ values′ : List ℕ) : Type 0 where
+  pub lawful : Lawful → Exact t g p q a room values room′ values′
   pub harmless : Harmless g p q a room values room′ values′
+
+-- a text that is given afresh asks for nothing but a lawful set
+abbrev pub RankedPromise : Table → Grid → Index → List ℕ → Ranking → RankedAnswer → List ℕ → List ℕ → List ℕ → List ℕ → Type 0
+RankedPromise t g x p q a room values room′ values′ = RankedKept (setLawful t g x ≡ true) t g p q a room values room′ values′
 
 -- from where a walk came to: the same for each text that is not refused, on a lawful set if the walk came to the text's node
 pub record FromPromise (c : Columns) (g : Grid) (x : Index) (at : Child) (q : Ranking) (a : RankedAnswer) (room values room′ values′ : List ℕ) : Type 0 where

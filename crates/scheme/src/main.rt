@@ -1,82 +1,174 @@
-// The small scheme, reckoned with the finder's own calls: the regions of its stands, the table's verdict and how it changes
-// with a number or a byte, and what is left of a name after typed letters. What it prints is held to the file stdout.
-use libc::STDOUT_FILENO;
-use rules::Grid;
-use rules::Located;
-use rules::Place;
-use rules::Stand;
-use rules::Verdict;
+// The small scheme, reckoned with the finder's own calls, line by line of the rules; then tables that are refused, and rests of names.
+// What it prints is held to the file stdout.
+mod answers;
+mod set;
 
-fn print(text: &[u8]) {
-    io::write_all(STDOUT_FILENO, text);
-}
+use answers::print;
+use answers::print_path;
+use answers::print_range;
+use answers::print_ranked;
+use answers::print_ranked_typed;
+use answers::print_region;
+use answers::print_rest;
+use answers::print_verdict;
+use finder::Grid;
+use finder::Place;
+use finder::Ranking;
+use finder::Rect;
+use finder::Session;
+use finder::Stand;
+use session::Stroke;
+use set::EAST;
+use set::GRID;
+use set::Index;
+use set::NORTH;
+use set::SCORE;
+use set::STARTS;
+use set::TEXT;
 
-fn print_number(n: u32) {
-    io::print_decimal(STDOUT_FILENO, n as u64);
-    print(b"\n");
-}
-
-// The region of a place, or refused and the number.
-fn print_region(grid: Grid, east: i32, north: i32) {
-    let answer = grid::locate(grid, Place { east, north });
-    match answer {
-        Located::In(region) => {
-            print(b"region ");
-            print_number(region);
-        }
-        Located::Refused(why) => {
-            print(b"refused ");
-            print_number(why.number());
-        }
+fn rect(west: i32, east: i32, south: i32, north: i32) -> Rect {
+    Rect {
+        west,
+        east,
+        south,
+        north,
     }
 }
 
-fn print_verdict(verdict: Verdict) {
-    print(b"verdict ");
-    print_number(verdict.number());
+fn asked(east: i32, north: i32, weight: u32, k: u32) -> Ranking {
+    Ranking {
+        place: Place { east, north },
+        weight,
+        k,
+    }
 }
 
-fn print_rest(rest: &[u8]) {
-    print(b"rest \"");
-    print(rest);
-    print(b"\"\n");
+// Lines 1 and 12: regions of places.
+fn regions() {
+    print(b"regions\n");
+    print_region(GRID, 5, 5);
+    print_region(GRID, 75, 75);
+    print_region(GRID, 12, 5);
+    print_region(GRID, 9, 9);
+    print_region(GRID, 10, 9);
+    print_region(GRID, 79, 79);
+    print_region(GRID, 80, 79);
 }
 
-fn main() {
-    let text = b"kibokibokiborikitomto";
-    let starts: [u32; 6] = [0, 4, 8, 14, 18, 21];
-    let east: [i32; 5] = [5, 75, 12, 9, 10];
-    let north: [i32; 5] = [5, 75, 5, 9, 9];
-    let score: [u32; 5] = [100, 900, 400, 400, 0];
-    let grid = Grid {
-        west: 0,
-        south: 0,
-        cell: 10,
-    };
-    print_region(grid, 5, 5);
-    print_region(grid, 75, 75);
-    print_region(grid, 12, 5);
-    print_region(grid, 9, 9);
-    print_region(grid, 10, 9);
-    print_region(grid, 79, 79);
-    print_region(grid, 80, 79);
-    let falling: [u32; 6] = [0, 8, 4, 14, 18, 21];
-    let empty: [u32; 6] = [0, 4, 4, 14, 18, 21];
-    let late: [u32; 6] = [0, 4, 9, 14, 18, 21];
-    let high: [u32; 5] = [100, 900, 400, 400, 1001];
+// Lines 5 and 6, and of line 12 the one with room for three stands and for two.
+fn ranges(index: Index) {
+    print(b"range\n");
+    let mut found = [0u32; 5];
+    print_range(index, b"ki", rect(0, 12, 0, 9), &mut found);
+    print_range(index, b"ki", rect(0, 11, 0, 9), &mut found);
+    print_range(index, b"", rect(12, 12, 5, 5), &mut found);
+    print_range(index, b"kiz", rect(0, 80, 0, 80), &mut found);
+    print_range(index, b"ki", rect(1, 0, 0, 9), &mut found);
+    print_range(index, b"kI", rect(0, 12, 0, 9), &mut found);
+    let mut three = [0u32; 3];
+    print_range(index, b"kibo", rect(0, 80, 0, 80), &mut three);
+    let mut two = [0u32; 2];
+    print_range(index, b"kibo", rect(0, 80, 0, 80), &mut two);
+}
+
+// Lines 7 to 10.
+fn rankings(index: Index) {
+    print(b"ranked\n");
+    print_ranked(index, b"ki", asked(5, 5, 0, 2));
+    print_ranked(index, b"ki", asked(5, 5, 16, 2));
+    print_ranked(index, b"ki", asked(5, 5, 8, 4));
+    print_ranked(index, b"", asked(5, 5, 0, 3));
+}
+
+// The limits of line 12.
+fn limits(index: Index) {
+    print(b"limits\n");
+    print_ranked(index, b"ki", asked(5, 5, 8, 16));
+    print_ranked(index, b"ki", asked(5, 5, 8, 17));
+    print_ranked(index, b"ki", asked(79, 79, 8, 1));
+    print_ranked(index, b"ki", asked(80, 79, 8, 1));
+    print_ranked(index, b"abcdefghijklmnopqrstuvwx", asked(5, 5, 8, 1));
+    print_ranked(index, b"abcdefghijklmnopqrstuvwxy", asked(5, 5, 8, 1));
+}
+
+// The verdict on a keystroke; the session after it is handed on.
+fn print_stroke(stroke: Stroke) -> Session {
+    let verdict = stroke.verdict;
+    print_verdict(verdict);
+    stroke.session
+}
+
+fn press(index: Index, session: Session, byte: u8) -> Session {
+    let nodes = index.nodes;
+    print_stroke(session::typed(&nodes, session, byte))
+}
+
+// Line 11, and a question on the letters that stand at the end.
+fn keys(index: Index) {
+    print(b"session\n");
+    let k = press(index, Session::fresh(), b'k');
+    let ki = press(index, k, b'i');
+    let kiz = press(index, ki, b'z');
+    print_path(kiz);
+    print_ranked_typed(index, kiz, asked(5, 5, 8, 4));
+    let rubbed = print_stroke(session::rubbed_out(kiz));
+    print_path(rubbed);
+    print_ranked_typed(index, rubbed, asked(5, 5, 8, 4));
+}
+
+// Of line 12: 24 letters pass, and the next is refused.
+fn full(index: Index) {
+    print(b"full\n");
+    let mut session = Session::fresh();
+    let mut left = 25u32;
+    while 0 < left {
+        session = press(index, session, b'k');
+        left -= 1;
+    }
+}
+
+// The verdict on the scheme's table with these starts, scores and grid.
+fn print_table(starts: [u32; 6], score: [u32; 5], grid: Grid) {
+    let text = TEXT;
+    let east = EAST;
+    let north = NORTH;
+    print_verdict(table::table_refusal(&text, &starts, &east, &north, &score, grid));
+}
+
+// The table as it is, and with one thing in it out of its limits.
+fn tables() {
+    print(b"tables\n");
     let wide = Grid {
         west: 0,
         south: 0,
-        cell: 8193,
+        cell: 8_193,
     };
     print_region(wide, 5, 5);
-    print_verdict(table::table_refusal(text, &starts, &east, &north, &score, grid));
-    print_verdict(table::table_refusal(text, &falling, &east, &north, &score, grid));
-    print_verdict(table::table_refusal(text, &starts, &east, &north, &score, wide));
-    print_verdict(table::table_refusal(text, &empty, &east, &north, &score, grid));
-    print_verdict(table::table_refusal(text, &late, &east, &north, &score, grid));
-    print_verdict(table::table_refusal(text, &starts, &east, &north, &high, grid));
-    print_rest(table::names::rest_of_name(text, &starts, Stand(2), b"kibo"));
-    print_rest(table::names::rest_of_name(text, &starts, Stand(3), b"kibo"));
-    print_rest(table::names::rest_of_name(text, &starts, Stand(5), b""));
+    print_table(STARTS, SCORE, GRID);
+    print_table([0, 8, 4, 14, 18, 21], SCORE, GRID);
+    print_table(STARTS, SCORE, wide);
+    print_table([0, 4, 4, 14, 18, 21], SCORE, GRID);
+    print_table([0, 4, 9, 14, 18, 21], SCORE, GRID);
+    print_table(STARTS, [100, 900, 400, 400, 1_001], GRID);
+}
+
+fn rests() {
+    print(b"rests\n");
+    let text = TEXT;
+    let starts = STARTS;
+    print_rest(finder::rest_of_name(&text, &starts, Stand(2), b"kibo"));
+    print_rest(finder::rest_of_name(&text, &starts, Stand(3), b"kibo"));
+    print_rest(finder::rest_of_name(&text, &starts, Stand(5), b""));
+}
+
+fn main() {
+    let index = Index::built();
+    regions();
+    ranges(index);
+    rankings(index);
+    limits(index);
+    keys(index);
+    full(index);
+    tables();
+    rests();
 }

@@ -8,6 +8,7 @@ use Prim.Native.Nat.{ℕ, _≤_, _<_}
 use native.Mathlib.Omega.{arith}
 use lib.Dec.{ltb}
 use lib.ListN.{length}
+use borrow.Author.Tests.{eq-eqb, ne-eqb}
 use Rattle.base.specs.Lists.{begins, In}
 use Rattle.base.proofs.Tests.{le-or-lt, ap2}
 use Rattle.base.proofs.Begins.{begins-append, in-or-out}
@@ -24,9 +25,9 @@ use Rattle.walk.specs.declared.Child.the-variants.{At, Nowhere}
 use Rattle.walk.specs.Walks.{node, childIn}
 use Rattle.walk.specs.Nodes.{nodeOf}
 use Rattle.walk.proofs.Lawful.{node-of-out, child-found}
-use Rattle.session.specs.Strokes.{passed, nextOn, lengthened, arrived, typedOn}
+use Rattle.session.specs.Strokes.{passed, lost, nextOn, lengthened, arrived, typedOn}
 use Rattle.session.specs.Promises.{TableOf}
-use Rattle.session.proofs.Steps.{next-nowhere, next-first, next-child, typed-arrived}
+use Rattle.session.proofs.Steps.{lost-none, lost-some, next-nowhere, next-child, typed-arrived}
 use Rattle.session.proofs.Texts.{node-some, path-last, len-of, session-longer}
 
 -- the session that a letter arrives at, where it leads to the node of a text or nowhere
@@ -43,18 +44,29 @@ unfolding beginnings
 root-in t [] e = inl refl
 root-in t (a ∷ p) e = absurd (omega arith)
 
+-- the letters p led nowhere exactly if they have no node
+module _ (t : Table) (p : List ℕ) where
+  pub lost-in : In p (beginnings t) → lost (length p) (nodeOr0 t p) ≡ false
+  lost-in h = step (le-or-lt (length p) 0)
+    where
+      step : (length p ≤ 0) ⊎ (0 < length p) → lost (length p) (nodeOr0 t p) ≡ false
+      step (inl none) = lost-none (length p) (nodeOr0 t p) (omega arith)
+      step (inr some) = lost-some (length p) (nodeOr0 t p) (λ z. omega arith) ∙ ne-eqb (nodeOr0 t p) 0 (node-some t p h some)
+
+  pub lost-out : (In p (beginnings t) → ⊥) → lost (length p) (nodeOr0 t p) ≡ true
+  lost-out h = lost-some (length p) (nodeOr0 t p) (λ z. h (root-in t p z)) ∙ eq-eqb (nodeOr0 t p) 0 (node-out t p h)
+
 module _ (t : Table) (g : Grid) (nodes : List ℕ) (written : begins (nodeWords t g) nodes ≡ true) (o : Ordered t) (p : List ℕ) (b : ℕ) where
   -- from a text that has a node, and from one that has none
   next-in : In p (beginnings t) → nextOn nodes (length p) (nodeOr0 t p) b ≡ nodeOf t (p ++ (b ∷ []))
-  next-in h = looks (le-or-lt (length p) 0) ∙ ap (λ (n : ℕ). childIn nodes n b) (node-in t p h) ∙ child-found t g nodes written o p b h
-    where
-      looks : (length p ≤ 0) ⊎ (0 < length p) → nextOn nodes (length p) (nodeOr0 t p) b ≡ childIn nodes (nodeOr0 t p) b
-      looks (inl none) = next-first nodes (length p) (nodeOr0 t p) b (omega arith)
-      looks (inr some) = next-child nodes (length p) (nodeOr0 t p) b (node-some t p h some)
+  next-in h =
+      next-child (length p) (nodeOr0 t p) nodes b (lost-in t p h)
+      ∙ ap (λ (n : ℕ). childIn nodes n b) (node-in t p h)
+      ∙ child-found t g nodes written o p b h
 
   next-out : (In p (beginnings t) → ⊥) → nextOn nodes (length p) (nodeOr0 t p) b ≡ nodeOf t (p ++ (b ∷ []))
   next-out h =
-      next-nowhere nodes (length p) (nodeOr0 t p) b (λ z. h (root-in t p z)) (node-out t p h)
+      next-nowhere (length p) (nodeOr0 t p) nodes b (lost-out t p h)
       ∙ sym (node-of-out t (p ++ (b ∷ [])) (λ m. h (beginnings-tree t o .closed p (p ++ (b ∷ [])) m (begins-append p (b ∷ [])))))
 
   next-lawful : nextOn nodes (length p) (nodeOr0 t p) b ≡ nodeOf t (p ++ (b ∷ []))

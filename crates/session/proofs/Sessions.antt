@@ -1,35 +1,49 @@
 -- What the promises come to on lawful sets and sessions: one outcome, never 7, a lawful session again, the one that typing the letters from fresh gives.
 -- And that a rub-out undoes a typed letter. Assumes nothing.
 use mathlib.Core.Path.{_≡_, refl, sym, ap, _∙_, subst}
-use mathlib.Core.Bool.{true, cond}
+use mathlib.Core.Logic.{⊎-elim}
+use mathlib.Core.Bool.{Bool, true, false, cond}
 use mathlib.Core.List.{List, [], _∷_, _++_, append-nil, append-assoc}
 use Prim.Native.Nat.{ℕ, _+_, _≤_, _<_}
 use native.Mathlib.Omega.{arith}
 use lib.Dec.{eqb}
 use lib.ListN.{length, getD, length-append}
-use Rattle.base.specs.Lists.{all}
-use Rattle.base.proofs.Tests.{and-parts}
+use Rattle.base.specs.Lists.{all, In}
+use Rattle.base.proofs.Tests.{and-parts, ap2}
+use Rattle.base.proofs.Begins.{in-or-out}
 use Rattle.rules.specs.declared.Session.{Session}
 use Rattle.rules.specs.declared.Verdict.{Verdict}
 use Rattle.rules.specs.Numbers.{verdictNumber}
 use Rattle.rules.specs.Names.{allowed, textRefusal}
 use Rattle.rules.specs.Tables.{Table, Ordered}
-use Rattle.rules.specs.Indexes.{butLast}
+use Rattle.rules.specs.Indexes.{beginnings, butLast}
 use Rattle.rules.specs.Sessions.{nodeOr0, sessionOf, freshSession, lettersOf, LawfulSession, lettersTyped, rubRefusal}
 use Rattle.rules.proofs.Bytes.{text-parts, text-taken}
 use Rattle.rules.proofs.Outcomes.{one-verdict}
+use Rattle.trie.proofs.Walking.{node-in}
+use Rattle.walk.specs.declared.Child.the-variants.{At}
+use Rattle.walk.specs.Walks.{node}
+use Rattle.walk.specs.Nodes.{nodeOf}
+use Rattle.walk.proofs.Lawful.{node-of-in, node-of-out}
 use Rattle.session.specs.declared.Stroke.{Stroke}
-use Rattle.session.specs.Strokes.{typedAll}
+use Rattle.session.specs.Strokes.{lost, typedAll, reached}
 use Rattle.session.specs.Promises.{KeyPromise, TableOf, TypePromise, RubPromise}
+use Rattle.session.proofs.Steps.{reached-nowhere, reached-node}
 use Rattle.session.proofs.Letters.{typed-allowed, rubbed-allowed, type-not-seven, rubbed-typed, rub-not-seven, rub-some}
-use Rattle.session.proofs.Texts.{letters-of, session-lawful, fresh-is, path-last, path-gone}
-use Rattle.session.proofs.Lawful.{typed-served}
+use Rattle.session.proofs.Texts.{len-of, letters-of, session-lawful, fresh-is, path-last, path-gone}
+use Rattle.session.proofs.Lawful.{lost-in, lost-out, typed-served}
 
 -- ---- a lawful session
 
 module _ (t : Table) (s : Session) (l : LawfulSession t s) where
   short : length (lettersOf s) ≤ 24
   short = text-parts (lettersOf s) (l .allowed) .0
+
+  many : s .len ≡ length (lettersOf s)
+  many = ap (λ (u : Session). u .len) (l .same) ∙ len-of t (lettersOf s)
+
+  pub lawful-short : s .len ≤ 24
+  lawful-short = omega (arith, many, short)
 
   -- the last place of its path is the node of its letters, or 0 where there is none
   pub lawful-last : getD (s .path) (s .len) 0 ≡ nodeOr0 t (lettersOf s)
@@ -40,6 +54,25 @@ module _ (t : Table) (s : Session) (l : LawfulSession t s) where
   lawful-gone o i k some h gone =
       let at : (j : ℕ) → getD (s .path) j 0 ≡ getD (sessionOf t (lettersOf s) .path) j 0 = λ j. ap (λ (u : Session). getD (u .path) j 0) (l .same) in
       at k ∙ path-gone t (lettersOf s) short o i k some h (sym (at i) ∙ gone)
+
+  -- and so where its letters came to is their node
+  pub lawful-reached : reached s ≡ nodeOf t (lettersOf s)
+  lawful-reached = ⊎-elim within without (in-or-out p (beginnings t))
+    where
+      p : List ℕ
+      p = lettersOf s
+
+      found : (b : Bool) → lost (length p) (nodeOr0 t p) ≡ b → lost (s .len) (getD (s .path) (s .len) 0) ≡ b
+      found b e = ap2 lost many lawful-last ∙ e
+
+      within : In p (beginnings t) → reached s ≡ nodeOf t p
+      within h =
+          reached-node s lawful-short (found false (lost-in t p h))
+          ∙ ap (λ (n : ℕ). At (node n)) (lawful-last ∙ node-in t p h)
+          ∙ sym (node-of-in t p h)
+
+      without : (In p (beginnings t) → ⊥) → reached s ≡ nodeOf t p
+      without h = reached-nowhere s lawful-short (found true (lost-out t p h)) ∙ sym (node-of-out t p h)
 
 pub fresh-lawful : (t : Table) → LawfulSession t freshSession
 fresh-lawful t = subst (LawfulSession t) (sym (fresh-is t)) (session-lawful t [] (text-taken [] (omega arith) refl))

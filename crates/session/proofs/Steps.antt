@@ -1,35 +1,53 @@
 -- A keystroke's outcomes, each by the tests that lead to it, on any words and any session.
 -- Assumes nothing.
 use mathlib.Core.Path.{_≡_}
-use mathlib.Core.Bool.{true, false, not}
+use mathlib.Core.Bool.{true, false}
 use mathlib.Core.List.{List}
 use Prim.Native.Nat.{ℕ, _<_, _≤_}
 use native.Mathlib.Omega.{arith}
 use lib.Dec.{eqb}
 use lib.ListN.{getD}
 use borrow.Author.Tests.{lt-ltb, le-ltb, eq-eqb, ne-eqb}
-use Rattle.base.proofs.Tests.{and-false}
 use Rattle.rules.specs.declared.Session.{Session}
 use Rattle.rules.specs.declared.Refusal.the-variants.{NotLawful, TextByteNotAllowed, TextTooLong, NothingToRubOut}
 use Rattle.rules.specs.Names.{allowed}
-use Rattle.walk.specs.declared.Child.the-variants.{Nowhere}
-use Rattle.walk.specs.Walks.{childIn}
-use Rattle.session.specs.Strokes.{passed, refused, nextOn, shortened, arrived, typedOn, rubbedOut}
+use Rattle.walk.specs.declared.Child.the-variants.{At, Nowhere, Broken}
+use Rattle.walk.specs.Walks.{node, childIn}
+use Rattle.session.specs.Strokes.{passed, refused, lost, nextOn, shortened, arrived, typedOn, rubbedOut, reached}
 
--- ---- where one more letter leads
+-- ---- where the letters led, and where one more leads
 
-module _ (nodes : List ℕ) (letters last b : ℕ) where
-  pub next-nowhere : (letters ≡ 0 → ⊥) → last ≡ 0 → nextOn nodes letters last b ≡ Nowhere
-  unfolding nextOn
-  next-nowhere some gone = rw (ne-eqb letters 0 some, eq-eqb last 0 gone)
+module _ (letters last : ℕ) where
+  pub lost-none : letters ≡ 0 → lost letters last ≡ false
+  unfolding lost
+  lost-none none = rw (eq-eqb letters 0 none)
 
-  pub next-first : letters ≡ 0 → nextOn nodes letters last b ≡ childIn nodes last b
-  unfolding nextOn
-  next-first none = rw (eq-eqb letters 0 none)
+  pub lost-some : (letters ≡ 0 → ⊥) → lost letters last ≡ eqb last 0
+  unfolding lost
+  lost-some some = rw (ne-eqb letters 0 some)
 
-  pub next-child : (last ≡ 0 → ⊥) → nextOn nodes letters last b ≡ childIn nodes last b
-  unfolding nextOn
-  next-child on = rw (ne-eqb last 0 on, and-false (not (eqb letters 0)))
+  module _ (nodes : List ℕ) (b : ℕ) where
+    pub next-nowhere : lost letters last ≡ true → nextOn nodes letters last b ≡ Nowhere
+    unfolding nextOn
+    next-nowhere gone = rw gone
+
+    pub next-child : lost letters last ≡ false → nextOn nodes letters last b ≡ childIn nodes last b
+    unfolding nextOn
+    next-child on = rw on
+
+module _ (s : Session) where
+  pub reached-over : 24 < s .len → reached s ≡ Broken
+  unfolding reached
+  reached-over h = rw (lt-ltb 24 (s .len) h)
+
+  module _ (h : s .len ≤ 24) where
+    pub reached-nowhere : lost (s .len) (getD (s .path) (s .len) 0) ≡ true → reached s ≡ Nowhere
+    unfolding reached
+    reached-nowhere gone = rw (le-ltb 24 (s .len) h, gone)
+
+    pub reached-node : lost (s .len) (getD (s .path) (s .len) 0) ≡ false → reached s ≡ At (node (getD (s .path) (s .len) 0))
+    unfolding reached
+    reached-node on = rw (le-ltb 24 (s .len) h, on)
 
 -- ---- typing
 

@@ -1,5 +1,5 @@
--- A keystroke as the code makes it, on any words and any session.
-use mathlib.Core.Bool.{cond, not, _&&_}
+-- A keystroke as the code makes it, on any words and any session; and where a session's letters came to.
+use mathlib.Core.Bool.{Bool, cond, not, _&&_}
 use mathlib.Core.List.{List, [], _∷_}
 use Prim.Native.Nat.{ℕ, _+_, _-_}
 use lib.Dec.{eqb, ltb}
@@ -11,7 +11,7 @@ use Rattle.rules.specs.declared.Verdict.the-variants.{Passed, Refused}
 use Rattle.rules.specs.Names.{allowed}
 use Rattle.walk.specs.declared.Child.{Child}
 use Rattle.walk.specs.declared.Child.the-variants.{At, Nowhere, Broken}
-use Rattle.walk.specs.Walks.{childIn}
+use Rattle.walk.specs.Walks.{node, childIn}
 use Rattle.session.specs.declared.Stroke.{Stroke}
 
 abbrev pub passed : Session → Stroke
@@ -20,9 +20,13 @@ passed s = record { verdict = Passed; session = s }
 abbrev pub refused : Refusal → Session → Stroke
 refused why s = record { verdict = Refused why; session = s }
 
--- where one more letter leads from the node of the letters so far; a 0 past some letters says that they led nowhere, and none leads on from there
+-- a 0 past some letters says that they led nowhere
+unfoldable pub lost : ℕ → ℕ → Bool
+lost letters last = not (eqb letters 0) && eqb last 0
+
+-- where one more letter leads from the node of the letters so far; none leads on from nowhere
 unfoldable pub nextOn : List ℕ → ℕ → ℕ → ℕ → Child
-nextOn nodes letters last b = cond (not (eqb letters 0) && eqb last 0) Nowhere (childIn nodes last b)
+nextOn nodes letters last b = cond (lost letters last) Nowhere (childIn nodes last b)
 
 -- a letter more and a letter less, with its place of the path
 unfoldable pub lengthened : Session → ℕ → ℕ → Session
@@ -49,6 +53,13 @@ rubbedOut s =
     cond (ltb 24 (s .len)) (refused NotLawful s)
     (cond (eqb (s .len) 0) (refused NothingToRubOut s)
     (passed (shortened s)))
+
+-- where the letters came to, by the path
+unfoldable pub reached : Session → Child
+reached s =
+    cond (ltb 24 (s .len)) Broken
+    (cond (lost (s .len) (getD (s .path) (s .len) 0)) Nowhere
+    (At (node (getD (s .path) (s .len) 0))))
 
 -- a whole text typed, letter by letter
 abbrev pub typedAll : List ℕ → Session → List ℕ → Session

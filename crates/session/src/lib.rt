@@ -1,4 +1,4 @@
-// Keystrokes: a letter typed or rubbed out, by value and on the one session record that a caller lends.
+// Keystrokes: a letter typed or rubbed out, by value and on the one session record that a caller lends; and where its letters came to.
 // Nothing is asked of session and nodes: on any words a keystroke ends, reads nothing outside them, and a refused one alters nothing.
 use rules::Node;
 use rules::Refusal;
@@ -11,7 +11,7 @@ use walk::child_of;
 ghost use mathlib.Core.Path.{_≡_};
 ghost use Prim.Native.Nat.{_<_};
 ghost use Rattle.session.specs.Promises.{TypePromise, RubPromise};
-ghost use Rattle.session.specs.Strokes.{refused, nextOn, lengthened, typedOn, rubbedOut};
+ghost use Rattle.session.specs.Strokes.{refused, lost, nextOn, lengthened, typedOn, rubbedOut, reached};
 
 // What a keystroke comes to: whether it is taken, and the session after it, which is the old one where it is not.
 pub struct Stroke {
@@ -30,12 +30,21 @@ impl Stroke {
     }
 }
 
-// Where one more letter leads from the node of the letters so far. The root is node 0 too, so a 0 after some letters says that they led nowhere,
-// and from there no letter leads on.
+// Whether the letters led nowhere, by the word of the path past them. The root is node 0 too, so a 0 says so only past some letters.
+fn lost(letters: usize, last: u32) -> bool
+    ensures { λ r. ⌜ r ≡ lost letters last ⌝ }
+{
+    if letters == 0 {
+        return false;
+    }
+    last == 0
+}
+
+// Where one more letter leads from the node of the letters so far; from nowhere none leads on.
 fn next(nodes: &[u32], letters: usize, last: Node, byte: u8) -> Child
     ensures { λ r. ⌜ r ≡ nextOn (now (nodes .entry)) letters (last .0) byte ⌝ }
 {
-    if letters != 0 && last.0 == 0 {
+    if lost(letters, last.0) {
         return Child::Nowhere;
     }
     child_of(nodes, last, byte)
@@ -99,6 +108,21 @@ pub fn rubbed_out(session: Session) -> Stroke
         verdict: Verdict::Passed,
         session: shorter,
     }
+}
+
+// Where the session's letters came to. Its path says so: nothing is walked.
+pub fn reached(session: Session) -> Child
+    ensures { λ r. ⌜ r ≡ reached session ⌝ }
+{
+    let len = session.len as usize;
+    if Stand::NAME_MOST < len {
+        return Child::Broken;
+    }
+    let node = session.path[len];
+    if lost(len, node) {
+        return Child::Nowhere;
+    }
+    Child::At(Node(node))
 }
 
 // A letter typed into the session that is lent. The record is rewritten whole, so that the step by value has all the branches.

@@ -1,20 +1,21 @@
--- `session::next` meets its contract: each return by the tests that lead there (proofs/Steps.antt). Assumes nothing.
+-- `session::next` meets its contract: each return by the test that leads there (proofs/Steps.antt). Assumes nothing.
 use mathlib.Core.Path.{sym, _∙_}
-use mathlib.Core.Logic.{⊎-elim}
 use borrow.Author.Needs.{needs}
-use borrow.Author.Tests.{eqb-true, eqb-false}
-use Rattle.session.proofs.Steps.{next-nowhere, next-first, next-child}
+use Rattle.session.proofs.Steps.{next-nowhere, next-child}
 use Rattle.session.proofs.next.Statement.{statement}
 use Rattle.session.proofs.next.Tie as tie
 
+lost-requires : tie.Need-lost-requires
+lost-requires c κs = search needs
+
 returns : tie.Need-returns
-returns c = sym (next-nowhere _ _ _ _ (c .before .before .if1 .taken) (eqb-true _ _ (c .if2 .taken)))
+returns c = sym (next-nowhere _ _ _ _ (sym (c .before .lost .ensures) ∙ c .if1 .taken))
 
 child-of-requires : tie.Need-child-of-requires
 child-of-requires c κs = search needs
 
 returns-2 : tie.Need-returns-2
-returns-2 c = c .child-of .ensures ∙ sym (⊎-elim (λ w. next-child _ _ _ _ (eqb-false _ _ (w .2 .left))) (λ w. next-first _ _ _ _ (w .left)) (c .before .if1 .came))
+returns-2 c = c .child-of .ensures ∙ sym (next-child _ _ _ _ (sym (c .before .before .lost .ensures) ∙ c .before .if1 .left))
 
 pub next-spec : {M : Type 1} → statement M
-next-spec = tie.close (tie.spec returns child-of-requires returns-2)
+next-spec = tie.close (tie.spec lost-requires returns child-of-requires returns-2)

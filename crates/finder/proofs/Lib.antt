@@ -1,0 +1,2 @@
+-- That any sequence of calls on one session comes out as the rules say.
+pub mod Runs

@@ -1,0 +1,195 @@
+// The answers of the finder's calls on the small scheme, each on a line.
+use crate::set::EAST;
+use crate::set::GRID;
+use crate::set::Index;
+use crate::set::NORTH;
+use crate::set::SCORE;
+use crate::set::STARTS;
+use crate::set::TEXT;
+use finder::Grid;
+use finder::Located;
+use finder::Place;
+use finder::RangeAnswer;
+use finder::RankedAnswer;
+use finder::Ranking;
+use finder::Rect;
+use finder::Refusal;
+use finder::Session;
+use finder::Verdict;
+use libc::STDOUT_FILENO;
+
+// Room for the most stands that may be asked for.
+const MOST: usize = Ranking::K_MOST as usize;
+
+pub(crate) fn print(text: &[u8]) {
+    io::write_all(STDOUT_FILENO, text);
+}
+
+fn print_number(n: u64) {
+    print(b" ");
+    io::print_decimal(STDOUT_FILENO, n);
+}
+
+fn print_refusal(why: Refusal) {
+    print(b"refused");
+    print_number(why.number() as u64);
+}
+
+pub(crate) fn print_verdict(verdict: Verdict) {
+    print(b"verdict");
+    print_number(verdict.number() as u64);
+    print(b"\n");
+}
+
+pub(crate) fn print_region(grid: Grid, east: i32, north: i32) {
+    match finder::locate(grid, Place { east, north }) {
+        Located::In(region) => {
+            print(b"region");
+            print_number(region as u64);
+        }
+        Located::Refused(why) => print_refusal(why),
+    }
+    print(b"\n");
+}
+
+pub(crate) fn print_rest(rest: &[u8]) {
+    print(b"rest \"");
+    print(rest);
+    print(b"\"\n");
+}
+
+fn print_word(word: u32) {
+    print_number(word as u64);
+}
+
+// The first so many words, behind their kind.
+fn print_words(kind: &[u8], words: &[u32], count: u32) {
+    print(kind);
+    let mut i = 0;
+    while i < words.len() && i < count as usize {
+        print_word(words[i]);
+        i += 1;
+    }
+}
+
+fn print_values(values: &[u64], count: u32) {
+    print(b" values");
+    let mut i = 0;
+    while i < values.len() && i < count as usize {
+        print_number(values[i]);
+        i += 1;
+    }
+}
+
+// A range question with as much room as is lent.
+pub(crate) fn print_range(index: Index, typed: &[u8], rect: Rect, found: &mut [u32]) {
+    let text = TEXT;
+    let starts = STARTS;
+    let east = EAST;
+    let north = NORTH;
+    let score = SCORE;
+    let order = index.order;
+    let nodes = index.nodes;
+    let entries = index.entries;
+    let answer = finder::range(
+        &text,
+        &starts,
+        &east,
+        &north,
+        &score,
+        GRID,
+        &order,
+        &nodes,
+        &entries,
+        typed,
+        rect,
+        found,
+    );
+    match answer {
+        RangeAnswer::Found(count) => print_words(b"stands", found, count),
+        RangeAnswer::Refused { why, matches } => {
+            print_refusal(why);
+            print(b" matches");
+            print_number(matches as u64);
+        }
+    }
+    print(b"\n");
+}
+
+fn print_best(answer: RankedAnswer, found: [u32; MOST], values: [u64; MOST]) {
+    match answer {
+        RankedAnswer::Found(count) => {
+            print_words(b"stands", &found, count);
+            print_values(&values, count);
+        }
+        RankedAnswer::Refused(why) => print_refusal(why),
+    }
+    print(b"\n");
+}
+
+// A ranked question with room for as many as may be asked for.
+pub(crate) fn print_ranked(index: Index, typed: &[u8], asked: Ranking) {
+    let text = TEXT;
+    let starts = STARTS;
+    let east = EAST;
+    let north = NORTH;
+    let score = SCORE;
+    let order = index.order;
+    let nodes = index.nodes;
+    let entries = index.entries;
+    let mut found = [0u32; MOST];
+    let mut values = [0u64; MOST];
+    let answer = finder::ranked(
+        &text,
+        &starts,
+        &east,
+        &north,
+        &score,
+        GRID,
+        &order,
+        &nodes,
+        &entries,
+        typed,
+        asked,
+        &mut found,
+        &mut values,
+    );
+    print_best(answer, found, values);
+}
+
+// The same on the letters of a session.
+pub(crate) fn print_ranked_typed(index: Index, session: Session, asked: Ranking) {
+    let text = TEXT;
+    let starts = STARTS;
+    let east = EAST;
+    let north = NORTH;
+    let score = SCORE;
+    let order = index.order;
+    let nodes = index.nodes;
+    let entries = index.entries;
+    let mut found = [0u32; MOST];
+    let mut values = [0u64; MOST];
+    let answer = finder::ranked_typed(
+        &text,
+        &starts,
+        &east,
+        &north,
+        &score,
+        GRID,
+        &order,
+        &nodes,
+        &entries,
+        session,
+        asked,
+        &mut found,
+        &mut values,
+    );
+    print_best(answer, found, values);
+}
+
+// The path of a session, all its places.
+pub(crate) fn print_path(session: Session) {
+    let path = session.path;
+    print_words(b"path", &path, Session::PATH as u32);
+    print(b"\n");
+}
