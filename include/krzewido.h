@@ -1,0 +1,190 @@
+/* Krzewido, the stand finder, for C. Link with libfinder_c.a.
+ *
+ * A slice is a pointer and, right behind it, how many elements it has (not bytes). No pointer may be null, not even one of a slice with no
+ * elements; each must be aligned for its type. What a call may write (no `const`) must not overlap anything else that is lent to it.
+ * Nothing else is asked: any numbers and any words may be passed. A call ends, reads and writes only what it is lent, keeps no pointer,
+ * takes no memory from elsewhere and needs at most some 5 KiB of stack. Calls that do not write to the same memory may run at once.
+ *
+ * The table: N stands, at most 1,024, a stand's number being its position from 0.
+ *   text    the bytes of all names, one behind the other; a name has 1 to 24 bytes, each a to z, 0 to 9 or space
+ *   starts  N + 1 places in text: stand i's name is from starts[i] to short of starts[i + 1]; the first is 0, the last the text's length
+ *   east, north   where each stand is, in metres
+ *   score   0 to 1,000 for each stand
+ * Names stand in byte order, a shorter one before a longer one that begins with it; equal names are two stands.
+ *
+ * The index is three buffers of words that krz_build fills: order, nodes, entries. Table, grid and index together are a set, passed to
+ * every call in the same order. A set is lawful if krz_check says so; a set that krz_build has just written is.
+ *
+ * A refusal is a number, 0 for none. With a refusal every other number of the answer is 0, but for the matches that krz_range and
+ * krz_range_typed tell with 13; and nothing is written.
+ *    1  over 1,024 stands, parts of the table that disagree in length, or starts that do not begin at 0, fall, or end elsewhere
+ *    2  the grid is outside its limits
+ *    3  a name's length or a byte of it is not allowed
+ *    4  names are out of order
+ *    5  a stand is outside the grid, or its score is over 1,000
+ *    6  a buffer is too small for the index
+ *    7  set or session is not lawful, and the call noticed; never given for a lawful one
+ *    8  a byte of the text, or the byte typed, is not allowed
+ *    9  the text has over 24 bytes, or a 25th is typed
+ *   10  nothing to rub out
+ *   11  a rectangle with west over east or south over north
+ *   12  a place outside the grid, a weight over 16, or k not 1 to 16
+ *   13  a room is too small for the answer
+ * Where several hold, the first in the order given at the call is told.
+ */
+#ifndef KRZEWIDO_H
+#define KRZEWIDO_H
+
+#include <stddef.h>
+#include <stdint.h>
+
+#ifdef __cplusplus
+extern "C" {
+#endif
+
+#define KRZ_STANDS_MOST 1024
+#define KRZ_NAME_MOST 24
+#define KRZ_K_MOST 16
+#define KRZ_WEIGHT_MOST 16
+
+/* Room that is always enough for the index of N stands, in words. What krz_build answers tells how much of it is used. */
+#define KRZ_ORDER_WORDS(stands) (stands)
+#define KRZ_NODES_WORDS(stands) (8 * (24 * (stands) + 1))
+#define KRZ_ENTRIES_WORDS(stands) (4 * (25 * (stands)))
+
+/* The grid: 8 by 8 square cells from its west and south edge on. Edges are -1,000,000 to 1,000,000, a cell's side is 1 to 8,192 metres. */
+typedef struct {
+    int32_t west, south;
+    uint32_t cell;
+} krz_grid;
+
+typedef struct {
+    int32_t east, north;
+} krz_place;
+
+/* All four edges belong to it, and may lie anywhere. */
+typedef struct {
+    int32_t west, east, south, north;
+} krz_rect;
+
+/* The letters typed so far. Begin with krz_fresh, change it by krz_type and krz_rub_out only, and use it with one set. It may be copied. */
+typedef struct {
+    uint8_t text[KRZ_NAME_MOST];
+    uint32_t len;
+    uint32_t path[KRZ_NAME_MOST + 1];
+} krz_session;
+
+typedef struct {
+    uint32_t refusal, region;
+} krz_located;
+
+typedef struct {
+    uint32_t refusal, nodes, entries;
+} krz_built;
+
+typedef struct {
+    uint32_t lawful, nodes, entries;
+} krz_checked;
+
+typedef struct {
+    uint32_t refusal, count;
+} krz_found;
+
+typedef struct {
+    uint32_t start, length;
+} krz_part;
+
+/* The region of a place: row times 8 and column, from the south-west, 0 to 63. Refuses 2, then 12 for a place outside the grid. */
+krz_located krz_region(krz_grid grid, krz_place place);
+
+/* Writes the index of a table: N words of order, 8 for each node and 4 for each entry, at the start of the three buffers; words behind
+ * these stay as they were. Answers how many nodes and entries there are. Refuses 1 to 6, in this order, and then writes nothing. */
+krz_built krz_build(
+    const uint8_t *text, size_t text_len, const uint32_t *starts, size_t starts_len,
+    const int32_t *east, size_t east_len, const int32_t *north, size_t north_len,
+    const uint32_t *score, size_t score_len, krz_grid grid,
+    uint32_t *order, size_t order_len, uint32_t *nodes, size_t nodes_len, uint32_t *entries, size_t entries_len);
+
+/* Whether a set is lawful: the table and the grid would not be refused 1 to 5, and the three buffers begin with what krz_build writes.
+ * lawful is 1, with the numbers of nodes and entries, or 0 with zeros. To be asked once where a set comes from outside. */
+krz_checked krz_check(
+    const uint8_t *text, size_t text_len, const uint32_t *starts, size_t starts_len,
+    const int32_t *east, size_t east_len, const int32_t *north, size_t north_len,
+    const uint32_t *score, size_t score_len, krz_grid grid,
+    const uint32_t *order, size_t order_len, const uint32_t *nodes, size_t nodes_len,
+    const uint32_t *entries, size_t entries_len);
+
+/* The stands whose name begins with the typed text and which are in the rectangle: smaller region first, in a region smaller number first.
+ * Their numbers go to found[0] to found[count - 1]; found[count] and on stay as they were. Refuses 7, 9, 8, 11, then 13 where more match
+ * than found has places; count is then how many match, and the call can be made again with that room. */
+krz_found krz_range(
+    const uint8_t *text, size_t text_len, const uint32_t *starts, size_t starts_len,
+    const int32_t *east, size_t east_len, const int32_t *north, size_t north_len,
+    const uint32_t *score, size_t score_len, krz_grid grid,
+    const uint32_t *order, size_t order_len, const uint32_t *nodes, size_t nodes_len,
+    const uint32_t *entries, size_t entries_len,
+    const uint8_t *typed, size_t typed_len, krz_rect rect, uint32_t *found, size_t found_len);
+
+/* The best k stands whose name begins with the typed text, best first; all of them where there are fewer. A stand's value is
+ *   weight * score * D + (16 - weight) * (D - d) * 1,000,  D = 128 * cell * cell,  d the squared distance to the place:
+ * weight 16 goes by score alone, weight 0 by nearness alone. Of equal values the smaller stand number is the better.
+ * Numbers go to found[0] to found[count - 1], values to values likewise; what is behind them stays as it was.
+ * Refuses 7, 9, 8, 12, then 13 where found or values has fewer than k places. */
+krz_found krz_ranked(
+    const uint8_t *text, size_t text_len, const uint32_t *starts, size_t starts_len,
+    const int32_t *east, size_t east_len, const int32_t *north, size_t north_len,
+    const uint32_t *score, size_t score_len, krz_grid grid,
+    const uint32_t *order, size_t order_len, const uint32_t *nodes, size_t nodes_len,
+    const uint32_t *entries, size_t entries_len,
+    const uint8_t *typed, size_t typed_len, krz_place place, uint32_t weight, uint32_t k,
+    uint32_t *found, size_t found_len, uint64_t *values, size_t values_len);
+
+/* The session of no letters. */
+krz_session krz_fresh(void);
+
+/* Types a letter. It is kept also where no name begins so. Gives the refusal: 7, 9, 8, and then the session is as it was. */
+uint32_t krz_type(
+    const uint8_t *text, size_t text_len, const uint32_t *starts, size_t starts_len,
+    const int32_t *east, size_t east_len, const int32_t *north, size_t north_len,
+    const uint32_t *score, size_t score_len, krz_grid grid,
+    const uint32_t *order, size_t order_len, const uint32_t *nodes, size_t nodes_len,
+    const uint32_t *entries, size_t entries_len, krz_session *session, uint8_t byte);
+
+/* Takes the last letter back. Gives the refusal: 7, 10, and then the session is as it was. */
+uint32_t krz_rub_out(
+    const uint8_t *text, size_t text_len, const uint32_t *starts, size_t starts_len,
+    const int32_t *east, size_t east_len, const int32_t *north, size_t north_len,
+    const uint32_t *score, size_t score_len, krz_grid grid,
+    const uint32_t *order, size_t order_len, const uint32_t *nodes, size_t nodes_len,
+    const uint32_t *entries, size_t entries_len, krz_session *session);
+
+/* krz_range with the session's letters for its text. */
+krz_found krz_range_typed(
+    const uint8_t *text, size_t text_len, const uint32_t *starts, size_t starts_len,
+    const int32_t *east, size_t east_len, const int32_t *north, size_t north_len,
+    const uint32_t *score, size_t score_len, krz_grid grid,
+    const uint32_t *order, size_t order_len, const uint32_t *nodes, size_t nodes_len,
+    const uint32_t *entries, size_t entries_len,
+    krz_session session, krz_rect rect, uint32_t *found, size_t found_len);
+
+/* krz_ranked with the session's letters for its text. */
+krz_found krz_ranked_typed(
+    const uint8_t *text, size_t text_len, const uint32_t *starts, size_t starts_len,
+    const int32_t *east, size_t east_len, const int32_t *north, size_t north_len,
+    const uint32_t *score, size_t score_len, krz_grid grid,
+    const uint32_t *order, size_t order_len, const uint32_t *nodes, size_t nodes_len,
+    const uint32_t *entries, size_t entries_len,
+    krz_session session, krz_place place, uint32_t weight, uint32_t k,
+    uint32_t *found, size_t found_len, uint64_t *values, size_t values_len);
+
+/* What is left of a stand's name after the typed text, for showing a hit: length bytes from text[start] on. Start and length are 0 for a
+ * stand without two starts, with starts that fall or pass the text's end, or whose name does not begin so. Refuses nothing. */
+krz_part krz_rest(
+    const uint8_t *text, size_t text_len, const uint32_t *starts, size_t starts_len,
+    uint32_t stand, const uint8_t *typed, size_t typed_len);
+
+#ifdef __cplusplus
+}
+#endif
+
+#endif
