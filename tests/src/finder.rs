@@ -2,96 +2,7 @@
 //! A program that uses this file uses only some of them.
 #![allow(dead_code)]
 
-#[repr(C)]
-#[derive(Clone, Copy, Debug, PartialEq)]
-pub struct Grid {
-    pub west: i32,
-    pub south: i32,
-    pub cell: u32,
-}
-
-#[repr(C)]
-#[derive(Clone, Copy, Debug, PartialEq)]
-pub struct Place {
-    pub east: i32,
-    pub north: i32,
-}
-
-#[repr(C)]
-#[derive(Clone, Copy, Debug, PartialEq)]
-pub struct Rect {
-    pub west: i32,
-    pub east: i32,
-    pub south: i32,
-    pub north: i32,
-}
-
-#[repr(C)]
-#[derive(Clone, Copy, Debug, PartialEq)]
-pub struct Session {
-    pub text: [u8; 24],
-    pub len: u32,
-    pub path: [u32; 25],
-}
-
-#[repr(C)]
-#[derive(Clone, Copy, Debug, PartialEq)]
-pub struct Located {
-    pub refusal: u32,
-    pub region: u32,
-}
-
-#[repr(C)]
-#[derive(Clone, Copy, Debug, PartialEq)]
-pub struct Built {
-    pub refusal: u32,
-    pub nodes: u32,
-    pub entries: u32,
-}
-
-#[repr(C)]
-#[derive(Clone, Copy, Debug, PartialEq)]
-pub struct Checked {
-    pub lawful: u32,
-    pub nodes: u32,
-    pub entries: u32,
-}
-
-#[repr(C)]
-#[derive(Clone, Copy, Debug, PartialEq)]
-pub struct Found {
-    pub refusal: u32,
-    pub count: u32,
-}
-
-#[repr(C)]
-#[derive(Clone, Copy, Debug, PartialEq)]
-pub struct Part {
-    pub start: u32,
-    pub length: u32,
-}
-
-/// A table and an index of it, lent to a call.
-#[derive(Clone, Copy)]
-pub struct Set<'a> {
-    pub text: &'a [u8],
-    pub starts: &'a [u32],
-    pub east: &'a [i32],
-    pub north: &'a [i32],
-    pub score: &'a [u32],
-    pub grid: Grid,
-    pub order: &'a [u32],
-    pub nodes: &'a [u32],
-    pub entries: &'a [u32],
-}
-
-/// What a ranked question asks.
-#[derive(Clone, Copy, Debug)]
-pub struct Ranking {
-    pub place: Place,
-    pub weight: u32,
-    pub k: u32,
-}
+pub use crate::records::*;
 
 /// Declares calls that begin with the parts of a set.
 macro_rules! over_a_set {
@@ -117,6 +28,8 @@ over_a_set! {
     krz_check() -> Checked;
     krz_range(typed: *const u8, typed_len: usize, rect: Rect, found: *mut u32, found_len: usize) -> Found;
     krz_ranked(typed: *const u8, typed_len: usize, place: Place, weight: u32, k: u32, found: *mut u32, found_len: usize, values: *mut u64, values_len: usize) -> Found;
+    krz_range_typed(session: Session, rect: Rect, found: *mut u32, found_len: usize) -> Found;
+    krz_ranked_typed(session: Session, place: Place, weight: u32, k: u32, found: *mut u32, found_len: usize, values: *mut u64, values_len: usize) -> Found;
     krz_type(session: *mut Session, byte: u8) -> u32;
     krz_rub_out(session: *mut Session) -> u32;
 }
@@ -190,6 +103,17 @@ pub fn range(set: &Set, typed: &[u8], rect: Rect, found: &mut [u32]) -> Found {
 pub fn ranked(set: &Set, typed: &[u8], asked: Ranking, found: &mut [u32], values: &mut [u64]) -> Found {
     call!(
         krz_ranked, set, typed.as_ptr(), typed.len(), asked.place, asked.weight, asked.k,
+        found.as_mut_ptr(), found.len(), values.as_mut_ptr(), values.len()
+    )
+}
+
+pub fn range_typed(set: &Set, session: Session, rect: Rect, found: &mut [u32]) -> Found {
+    call!(krz_range_typed, set, session, rect, found.as_mut_ptr(), found.len())
+}
+
+pub fn ranked_typed(set: &Set, session: Session, asked: Ranking, found: &mut [u32], values: &mut [u64]) -> Found {
+    call!(
+        krz_ranked_typed, set, session, asked.place, asked.weight, asked.k,
         found.as_mut_ptr(), found.len(), values.as_mut_ptr(), values.len()
     )
 }
