@@ -384,5 +384,5 @@ fn main() {
     for number in 0..tables {
         compare_table(dice, &mut counts, SIZES[number as usize % SIZES.len()]);
     }
-    println!("{counts:#?}");
+    println!("{counts:?}");
 }
