@@ -5,8 +5,9 @@
 mod finder;
 mod plain;
 mod port;
+mod records;
 
-use finder::{Grid, Place, Ranking, Rect, Set};
+use records::{Grid, Place, Ranking, Rect, Set};
 use std::hint::black_box;
 use std::process::Command;
 
@@ -141,12 +142,6 @@ enum Who {
     Port,
 }
 
-/// Callgrind counts what is done in here and nothing else.
-#[inline(never)]
-fn counted<R>(call: impl FnOnce() -> R) -> R {
-    call()
-}
-
 /// What one round answers, so that answers can be compared; nothing that a room had before is in it.
 fn round(what: &str, who: Who, t: &mut Table, asked: &[Question]) -> Vec<u64> {
     let mut told = Vec::with_capacity(40 * asked.len());
@@ -157,16 +152,16 @@ fn round(what: &str, who: Who, t: &mut Table, asked: &[Question]) -> Vec<u64> {
             let (mut order, mut nodes, mut entries) =
                 (std::mem::take(&mut t.order), std::mem::take(&mut t.nodes), std::mem::take(&mut t.entries));
             let built = match who {
-                Who::Finder => counted(|| finder::build(&t.set(), &mut order, &mut nodes, &mut entries)),
-                _ => counted(|| port::build(&t.set(), &mut order, &mut nodes, &mut entries)),
+                Who::Finder => finder::build(&t.set(), &mut order, &mut nodes, &mut entries),
+                _ => port::build(&t.set(), &mut order, &mut nodes, &mut entries),
             };
             (t.order, t.nodes, t.entries) = (order, nodes, entries);
             told.extend([built.refusal, built.nodes, built.entries].map(u64::from));
         }
         "check" => {
             let checked = match who {
-                Who::Finder => counted(|| finder::check(&t.set())),
-                _ => counted(|| port::check(&t.set())),
+                Who::Finder => finder::check(&t.set()),
+                _ => port::check(&t.set()),
             };
             told.extend([checked.lawful, checked.nodes, checked.entries].map(u64::from));
         }
@@ -178,18 +173,18 @@ fn round(what: &str, who: Who, t: &mut Table, asked: &[Question]) -> Vec<u64> {
                 match what {
                     "range" => {
                         let a = match who {
-                            Who::Finder => counted(|| finder::range(&set, letters, q.rect, &mut found)),
-                            Who::Plain => counted(|| plain::range(&set, letters, q.rect, &mut found)),
-                            Who::Port => counted(|| port::range(&set, letters, q.rect, &mut found)),
+                            Who::Finder => finder::range(&set, letters, q.rect, &mut found),
+                            Who::Plain => plain::range(&set, letters, q.rect, &mut found),
+                            Who::Port => port::range(&set, letters, q.rect, &mut found),
                         };
                         told.push(u64::from(a.count));
                         told.extend(found[..a.count as usize].iter().take(16).map(|&s| u64::from(s)));
                     }
                     "ranked" => {
                         let a = match who {
-                            Who::Finder => counted(|| finder::ranked(&set, letters, q.asked, &mut found, &mut values)),
-                            Who::Plain => counted(|| plain::ranked(&set, letters, q.asked, &mut found, &mut values)),
-                            Who::Port => counted(|| port::ranked(&set, letters, q.asked, &mut found, &mut values)),
+                            Who::Finder => finder::ranked(&set, letters, q.asked, &mut found, &mut values),
+                            Who::Plain => plain::ranked(&set, letters, q.asked, &mut found, &mut values),
+                            Who::Port => port::ranked(&set, letters, q.asked, &mut found, &mut values),
                         };
                         told.push(u64::from(a.count));
                         told.extend(found[..a.count as usize].iter().map(|&s| u64::from(s)));
@@ -200,12 +195,12 @@ fn round(what: &str, who: Who, t: &mut Table, asked: &[Question]) -> Vec<u64> {
                         for (i, &byte) in name.iter().enumerate() {
                             let any = match who {
                                 Who::Finder => {
-                                    counted(|| finder::type_byte(&set, &mut session, byte));
+                                    finder::type_byte(&set, &mut session, byte);
                                     session.path[i + 1] != 0
                                 }
-                                Who::Plain => counted(|| plain::any(&set, &name[..=i])),
+                                Who::Plain => plain::any(&set, &name[..=i]),
                                 Who::Port => {
-                                    counted(|| port::type_byte(set.nodes, &mut session, byte));
+                                    port::type_byte(set.nodes, &mut session, byte);
                                     session.path[i + 1] != 0
                                 }
                             };
@@ -236,11 +231,23 @@ fn who_of(word: &str) -> Option<Who> {
     }
 }
 
+/// The function that is counted, as valgrind names it; what is done to call it is not.
+fn counted(what: &str, who: &str) -> String {
+    match (what, who) {
+        ("typing", "finder") => String::from("krz_type"),
+        ("typing", "plain") => String::from("figures::plain::any"),
+        ("typing", "port") => String::from("figures::port::type_byte"),
+        (_, "finder") => format!("krz_{what}"),
+        _ => format!("figures::{who}::{what}"),
+    }
+}
+
 /// Instructions of one question, name, build or check, by callgrind.
 fn instructions(what: &str, who: &str, stands: usize) -> f64 {
     let own = std::env::current_exe().expect("a program has a path");
     let out = Command::new("valgrind")
-        .args(["--tool=callgrind", "--callgrind-out-file=/dev/null", "--toggle-collect=figures::counted*"])
+        .args(["--tool=callgrind", "--callgrind-out-file=/dev/null"])
+        .arg(format!("--toggle-collect={}", counted(what, who)))
         .arg(own)
         .args([what, who, &stands.to_string()])
         .output()

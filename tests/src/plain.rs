@@ -1,17 +1,19 @@
 //! The questions answered with no index, by going over every stand: what the figures hold the finder against.
 
-use crate::finder::{Found, Ranking, Rect, Set};
+use crate::records::{Found, Ranking, Rect, Set};
 
 fn name<'a>(set: &Set<'a>, i: usize) -> &'a [u8] {
     &set.text[set.starts[i] as usize..set.starts[i + 1] as usize]
 }
 
 /// Whether any stand's name begins with the text: what a keystroke finds out.
+#[inline(never)]
 pub fn any(set: &Set, typed: &[u8]) -> bool {
     (0..set.score.len()).any(|i| name(set, i).starts_with(typed))
 }
 
 /// The stands come by number; by region they are put afterwards.
+#[inline(never)]
 pub fn range(set: &Set, typed: &[u8], rect: Rect, found: &mut [u32]) -> Found {
     let mut count = 0;
     for i in 0..set.score.len() {
@@ -36,6 +38,7 @@ pub fn range(set: &Set, typed: &[u8], rect: Rect, found: &mut [u32]) -> Found {
 }
 
 /// Equal values keep the smaller number first, since stands come by number.
+#[inline(never)]
 pub fn ranked(set: &Set, typed: &[u8], asked: Ranking, found: &mut [u32], values: &mut [u64]) -> Found {
     let k = asked.k as usize;
     let cell = u64::from(set.grid.cell);

@@ -1,6 +1,7 @@
 -- A keystroke's outcomes, each by the tests that lead to it, on any words and any session.
 -- Assumes nothing.
-use mathlib.Core.Path.{_≡_}
+use mathlib.Core.Path.{_≡_, sym, ap, _∙_}
+use mathlib.Core.Logic.{⊎-elim}
 use mathlib.Core.Bool.{true, false}
 use mathlib.Core.List.{List}
 use Prim.Native.Nat.{ℕ, _<_, _≤_}
@@ -8,12 +9,15 @@ use native.Mathlib.Omega.{arith}
 use lib.Dec.{eqb}
 use lib.ListN.{getD}
 use borrow.Author.Tests.{lt-ltb, le-ltb, eq-eqb, ne-eqb}
+use Rattle.base.proofs.Tests.{le-or-lt}
 use Rattle.rules.specs.declared.Session.{Session}
 use Rattle.rules.specs.declared.Refusal.the-variants.{NotLawful, TextByteNotAllowed, TextTooLong, NothingToRubOut}
 use Rattle.rules.specs.Names.{allowed}
 use Rattle.walk.specs.declared.Child.the-variants.{At, Nowhere, Broken}
 use Rattle.walk.specs.Walks.{node, childIn}
-use Rattle.session.specs.Strokes.{passed, refused, lost, nextOn, shortened, arrived, typedOn, rubbedOut, reached}
+use Rattle.session.specs.declared.Led.{Led}
+use Rattle.session.specs.declared.Led.the-variants.{To, Refused}
+use Rattle.session.specs.Strokes.{passed, refused, lost, nextOn, shortened, ledTo, ledOn, struck, typedOn, rubbedOut, reached}
 
 -- ---- where the letters led, and where one more leads
 
@@ -51,23 +55,50 @@ module _ (s : Session) where
 
 -- ---- typing
 
+module _ (nodes : List ℕ) (letters last b : ℕ) where
+  pub led-full : letters ≡ 24 → ledOn nodes letters last b ≡ Refused TextTooLong
+  unfolding ledOn
+  led-full h = rw (eq-eqb letters 24 h)
+
+  module _ (room : letters ≡ 24 → ⊥) where
+    pub led-unallowed : allowed b ≡ false → ledOn nodes letters last b ≡ Refused TextByteNotAllowed
+    unfolding ledOn
+    led-unallowed h = rw (ne-eqb letters 24 room, h)
+
+    pub led-on : allowed b ≡ true → ledOn nodes letters last b ≡ ledTo (nextOn nodes letters last b)
+    unfolding ledOn
+    led-on h = rw (ne-eqb letters 24 room, h)
+
+-- only where there is room does a letter lead anywhere
+abbrev places : Led → ℕ
+places (To n) = 1
+places (Refused why) = 0
+
+pub led-room : (nodes : List ℕ) (letters last b n : ℕ) → letters ≤ 24 → ledOn nodes letters last b ≡ To n → letters < 24
+led-room nodes letters last b n h e =
+    ⊎-elim
+    (λ (f : 24 ≤ letters). let z : 0 ≡ 1 = ap places (sym (led-full nodes letters last b (omega arith)) ∙ e) in absurd (omega arith))
+    (λ (f : letters < 24). f)
+    (le-or-lt 24 letters)
+
 module _ (nodes : List ℕ) (s : Session) (b : ℕ) where
   pub typed-over : 24 < s .len → typedOn nodes s b ≡ refused NotLawful s
   unfolding typedOn
   typed-over h = rw (lt-ltb 24 (s .len) h)
 
-  pub typed-full : s .len ≡ 24 → typedOn nodes s b ≡ refused TextTooLong s
+  pub typed-led : s .len ≤ 24 → typedOn nodes s b ≡ struck s b (ledOn nodes (s .len) (getD (s .path) (s .len) 0) b)
   unfolding typedOn
-  typed-full h = rw (le-ltb 24 (s .len) (omega arith), eq-eqb (s .len) 24 h)
+  typed-led h = rw (le-ltb 24 (s .len) h)
+
+  pub typed-full : s .len ≡ 24 → typedOn nodes s b ≡ refused TextTooLong s
+  typed-full h = typed-led (omega arith) ∙ ap (struck s b) (led-full nodes (s .len) _ b h)
 
   module _ (room : s .len < 24) where
     pub typed-unallowed : allowed b ≡ false → typedOn nodes s b ≡ refused TextByteNotAllowed s
-    unfolding typedOn
-    typed-unallowed h = rw (le-ltb 24 (s .len) (omega arith), ne-eqb (s .len) 24 (λ e. omega arith), h)
+    typed-unallowed h = typed-led (omega arith) ∙ ap (struck s b) (led-unallowed nodes (s .len) _ b (λ e. omega arith) h)
 
-    pub typed-arrived : allowed b ≡ true → typedOn nodes s b ≡ arrived s b (nextOn nodes (s .len) (getD (s .path) (s .len) 0) b)
-    unfolding typedOn
-    typed-arrived h = rw (le-ltb 24 (s .len) (omega arith), ne-eqb (s .len) 24 (λ e. omega arith), h)
+    pub typed-arrived : allowed b ≡ true → typedOn nodes s b ≡ struck s b (ledTo (nextOn nodes (s .len) (getD (s .path) (s .len) 0) b))
+    typed-arrived h = typed-led (omega arith) ∙ ap (struck s b) (led-on nodes (s .len) _ b (λ e. omega arith) h)
 
 -- ---- rubbing out
 

@@ -13,6 +13,9 @@ use Rattle.walk.specs.declared.Child.{Child}
 use Rattle.walk.specs.declared.Child.the-variants.{At, Nowhere, Broken}
 use Rattle.walk.specs.Walks.{node, childIn}
 use Rattle.session.specs.declared.Stroke.{Stroke}
+use Rattle.session.specs.declared.Led.{Led}
+use Rattle.session.specs.declared.Led.the-variants.{To}
+use Rattle.session.specs.declared.Led.the-variants as leds
 
 abbrev pub passed : Session → Stroke
 passed s = record { verdict = Passed; session = s }
@@ -36,17 +39,29 @@ unfoldable pub shortened : Session → Session
 shortened s = record { text = set (s .text) (s .len - 1) 0; len = s .len - 1; path = set (s .path) (s .len) 0 }
 
 -- the letter is kept where it leads nowhere too; broken words are refused
+abbrev pub ledTo : Child → Led
+ledTo (At n) = To (n .0)
+ledTo Nowhere = To 0
+ledTo Broken = leds.Refused NotLawful
+
+-- behind at most 24 letters
+unfoldable pub ledOn : List ℕ → ℕ → ℕ → ℕ → Led
+ledOn nodes letters last b =
+    cond (eqb letters 24) (leds.Refused TextTooLong)
+    (cond (not (allowed b)) (leds.Refused TextByteNotAllowed)
+    (ledTo (nextOn nodes letters last b)))
+
+abbrev pub struck : Session → ℕ → Led → Stroke
+struck s b (To n) = passed (lengthened s b n)
+struck s b (leds.Refused why) = refused why s
+
 abbrev pub arrived : Session → ℕ → Child → Stroke
-arrived s b (At n) = passed (lengthened s b (n .0))
-arrived s b Nowhere = passed (lengthened s b 0)
-arrived s b Broken = refused NotLawful s
+arrived s b c = struck s b (ledTo c)
 
 unfoldable pub typedOn : List ℕ → Session → ℕ → Stroke
 typedOn nodes s b =
     cond (ltb 24 (s .len)) (refused NotLawful s)
-    (cond (eqb (s .len) 24) (refused TextTooLong s)
-    (cond (not (allowed b)) (refused TextByteNotAllowed s)
-    (arrived s b (nextOn nodes (s .len) (getD (s .path) (s .len) 0) b))))
+    (struck s b (ledOn nodes (s .len) (getD (s .path) (s .len) 0) b))
 
 unfoldable pub rubbedOut : Session → Stroke
 rubbedOut s =

@@ -9,14 +9,19 @@ use table::names::allowed;
 use walk::Child;
 use walk::child_of;
 ghost use mathlib.Core.Path.{_≡_};
-ghost use Prim.Native.Nat.{_<_};
 ghost use Rattle.session.specs.Promises.{TypePromise, RubPromise};
-ghost use Rattle.session.specs.Strokes.{refused, lost, nextOn, lengthened, typedOn, rubbedOut, reached};
+ghost use Rattle.session.specs.Strokes.{refused, lost, nextOn, ledOn, typedOn, rubbedOut, reached};
 
 // What a keystroke comes to: whether it is taken, and the session after it, which is the old one where it is not.
 pub struct Stroke {
     pub verdict: Verdict,
     pub session: Session,
+}
+
+// Where a letter leads: to a node, 0 for none; or it is refused.
+enum Led {
+    To(u32),
+    Refused(Refusal),
 }
 
 impl Stroke {
@@ -50,42 +55,45 @@ fn next(nodes: &[u32], letters: usize, last: Node, byte: u8) -> Child
     child_of(nodes, last, byte)
 }
 
-// The session with one letter more, which leads to this node.
-fn lengthened(session: Session, byte: u8, node: u32) -> Session
-    requires { ⌜ session .len < 24 ⌝ }
-    ensures { λ r. ⌜ r ≡ lengthened session byte node ⌝ }
+// Whether a letter is taken behind so many, and the node that it leads to. It is taken where it leads nowhere too.
+fn leads(nodes: &[u32], letters: usize, last: Node, byte: u8) -> Led
+    ensures { λ r. ⌜ r ≡ ledOn (now (nodes .entry)) letters (last .0) byte ⌝ }
 {
-    let len = session.len as usize;
-    let mut longer = session;
-    longer.text[len] = byte;
-    longer.path[len + 1] = node;
-    longer.len = session.len + 1;
-    longer
+    if letters == Stand::NAME_MOST {
+        return Led::Refused(Refusal::TextTooLong);
+    }
+    if !allowed(byte) {
+        return Led::Refused(Refusal::TextByteNotAllowed);
+    }
+    match next(nodes, letters, last, byte) {
+        Child::At(node) => Led::To(node.0),
+        Child::Nowhere => Led::To(0),
+        Child::Broken => Led::Refused(Refusal::NotLawful),
+    }
 }
 
-// A letter typed, by value: one look among the children of the last letter's node, however long the text. The letter is kept where nothing matches.
+// A letter typed, by value: one look among the children of the last letter's node, however long the text. One local is the session all
+// the way, changed only where the letter is taken, so that the record is copied once in and once out.
 pub fn typed(nodes: &[u32], session: Session, byte: u8) -> Stroke
     ensures { λ r. ⌜ r ≡ typedOn (now (nodes .entry)) session byte ⌝ }
 {
-    let len = session.len as usize;
+    let mut after = session;
+    let len = after.len as usize;
     if Stand::NAME_MOST < len {
-        return Stroke::refused(Refusal::NotLawful, session);
+        return Stroke::refused(Refusal::NotLawful, after);
     }
-    if len == Stand::NAME_MOST {
-        return Stroke::refused(Refusal::TextTooLong, session);
-    }
-    if !allowed(byte) {
-        return Stroke::refused(Refusal::TextByteNotAllowed, session);
-    }
-    let last = session.path[len];
-    let node = match next(nodes, len, Node(last), byte) {
-        Child::At(node) => node.0,
-        Child::Nowhere => 0,
-        Child::Broken => return Stroke::refused(Refusal::NotLawful, session),
-    };
-    Stroke {
-        verdict: Verdict::Passed,
-        session: lengthened(session, byte, node),
+    let last = after.path[len];
+    match leads(nodes, len, Node(last), byte) {
+        Led::To(node) => {
+            after.text[len] = byte;
+            after.path[len + 1] = node;
+            after.len += 1;
+            Stroke {
+                verdict: Verdict::Passed,
+                session: after,
+            }
+        }
+        Led::Refused(why) => Stroke::refused(why, after),
     }
 }
 

@@ -1,12 +1,10 @@
--- `session::typed` meets its contract: each return by the tests that lead there (proofs/Steps.antt), and the last by where the letter led. Assumes nothing.
+-- `session::typed` meets its contract: each return by where the letter leads (proofs/Steps.antt). Assumes nothing.
 use mathlib.Core.Path.{sym, ap, _∙_}
-use mathlib.Core.Logic.{⊎-elim}
-use Prim.Native.Nat.{ℕ}
+use Prim.Native.Nat.{_<_}
 use native.Mathlib.Omega.{arith}
 use borrow.Author.Needs.{needs}
-use Rattle.base.proofs.Tests.{breaks, holds}
-use Rattle.session.specs.Strokes.{passed, lengthened, arrived}
-use Rattle.session.proofs.Steps.{typed-over, typed-full, typed-unallowed, typed-arrived}
+use Rattle.session.specs.Strokes.{lengthened, struck}
+use Rattle.session.proofs.Steps.{led-room, typed-over, typed-led}
 use Rattle.session.proofs.typed.Statement.{statement}
 use Rattle.session.proofs.typed.Tie as tie
 
@@ -19,61 +17,49 @@ refused-requires c κs = search needs
 returns : tie.Need-returns
 returns c = c .refused .ensures ∙ sym (typed-over _ _ _ (c .before .if1 .taken))
 
-refused-requires-2 : tie.Need-refused-requires-2
-refused-requires-2 c κs = search needs
-
-returns-2 : tie.Need-returns-2
-returns-2 c = c .refused2 .ensures ∙ sym (typed-full _ _ _ (c .before .if2 .taken))
-
-allowed-requires : tie.Need-allowed-requires
-allowed-requires c κs = search needs
-
-refused-requires-3 : tie.Need-refused-requires-3
-refused-requires-3 c κs = search needs
-
-returns-3 : tie.Need-returns-3
-returns-3 c = c .refused3 .ensures ∙ sym (typed-unallowed _ _ _ (omega arith) (breaks _ _ (c .before .before .allowed .ensures) (c .before .if3 .taken)))
-
 mul-last : tie.Need-mul-last
 mul-last c = search needs
 
 element-copy-out-last : tie.Need-element-copy-out-last
 element-copy-out-last c = search needs
 
-next-requires : tie.Need-next-requires
-next-requires c κs = search needs
+leads-requires : tie.Need-leads-requires
+leads-requires c κs = search needs
 
 enum-known-node : tie.Need-enum-known-node
 enum-known-node c = search needs
 
-enum-told : tie.Need-enum-told
-enum-told c = search needs
+-- where a letter leads, there is room for it
+room : (c : tie.After-known-told) → c .before .before .before .before .before .before .before .args .session .len < 24
+room c = led-room _ _ _ _ _ (c .before .before .before .before .before .if1 .left) (sym (c .before .before .before .leads .ensures) ∙ c .before .node .given .1)
 
-enum-told-2 : tie.Need-enum-told-2
-enum-told-2 c = search needs
+element-write-after : tie.Need-element-write-after
+element-write-after c = room c
 
-refused-requires-4 : tie.Need-refused-requires-4
-refused-requires-4 c κs = search needs
+add-after : tie.Need-add-after
+add-after c = search needs
 
-returns-4 : tie.Need-returns-4
-returns-4 c =
-    let spelled = holds _ _ (c .before .before .before .before .before .before .allowed .ensures) (c .before .before .before .before .before .if3 .left) in
-    c .refused4 .ensures ∙ sym (typed-arrived _ _ _ (omega arith) spelled ∙ ap (arrived _ _) (sym (c .before .before .before .next .ensures) ∙ c .before .enum-told2 .given .1))
+mul-after : tie.Need-mul-after
+mul-after c = search needs
 
-lengthened-requires : tie.Need-lengthened-requires
-lengthened-requires c κs = search needs
+element-write-after-2 : tie.Need-element-write-after-2
+element-write-after-2 c = omega (arith, room c)
 
-returns-5 : tie.Need-returns-5
-returns-5 c =
-    let a = c .before .before .before .before .before .before .before .before .before .args in
-    let spelled = holds _ _ (c .before .before .before .before .before .allowed .ensures) (c .before .before .before .before .if3 .left) in
-    let led = sym (c .before .before .next .ensures) in
-    ap passed (c .lengthened .ensures)
-    ∙ sym (typed-arrived (a .nodes .now) (a .t2) (a .byte) (omega arith) spelled
-    ∙ ⊎-elim
-    (λ w. ap (arrived (a .t2) (a .byte)) (led ∙ w .1 .given .1) ∙ ap (λ (n : ℕ). passed (lengthened (a .t2) (a .byte) n)) (sym (w .3)))
-    (λ w. ap (arrived (a .t2) (a .byte)) (led ∙ w .1 .given .1) ∙ ap (λ (n : ℕ). passed (lengthened (a .t2) (a .byte) n)) (sym (w .2)))
-    (c .before .match .came))
+add-after-2 : tie.Need-add-after-2
+add-after-2 c = record { fits = omega (arith, room c) }
+
+enum-known-why : tie.Need-enum-known-why
+enum-known-why c = search needs
+
+refused-requires-2 : tie.Need-refused-requires-2
+refused-requires-2 c κs = search needs
+
+returns-2 : tie.Need-returns-2
+unfolding lengthened
+returns-2 c = sym (typed-led _ _ _ (c .before .before .before .before .before .if1 .left) ∙ ap (struck _ _) (sym (c .before .before .before .leads .ensures) ∙ c .before .node .given .1))
+
+returns-3 : tie.Need-returns-3
+returns-3 c = c .refused2 .ensures ∙ sym (typed-led _ _ _ (c .before .before .before .before .before .before .if1 .left) ∙ ap (struck _ _) (sym (c .before .before .before .before .leads .ensures) ∙ c .before .before .why .given .1))
 
 pub typed-spec : {M : Type 1} → statement M
 typed-spec =
@@ -82,18 +68,16 @@ typed-spec =
     cast-len
     refused-requires
     returns
-    refused-requires-2
-    returns-2
-    allowed-requires
-    refused-requires-3
-    returns-3
     mul-last
     element-copy-out-last
-    next-requires
+    leads-requires
     enum-known-node
-    enum-told
-    enum-told-2
-    refused-requires-4
-    returns-4
-    lengthened-requires
-    returns-5)
+    element-write-after
+    add-after
+    mul-after
+    element-write-after-2
+    add-after-2
+    enum-known-why
+    refused-requires-2
+    returns-2
+    returns-3)
