@@ -95,9 +95,13 @@ impl Table {
         }
     }
 
-    fn build(&mut self) {
+    /// Its index, built by the one that is not counted.
+    fn build(&mut self, counted: Who) {
         let (mut order, mut nodes, mut entries) = (self.order.clone(), self.nodes.clone(), self.entries.clone());
-        let built = finder::build(&self.set(), &mut order, &mut nodes, &mut entries);
+        let built = match counted {
+            Who::Finder => port::build(&self.set(), &mut order, &mut nodes, &mut entries),
+            _ => finder::build(&self.set(), &mut order, &mut nodes, &mut entries),
+        };
         assert_eq!(built.refusal, 0, "the figures' own table is lawful");
         nodes.truncate(8 * built.nodes as usize);
         entries.truncate(4 * built.entries as usize);
@@ -283,7 +287,7 @@ fn print_table() {
 fn compare() {
     for stands in SIZES {
         let mut t = table(stands);
-        t.build();
+        t.build(Who::Port);
         let asked = questions(&t);
         for (what, title) in WHATS {
             let ours = round(what, Who::Finder, &mut t, &asked);
@@ -309,7 +313,7 @@ fn main() {
         std::process::exit(2);
     };
     let mut t = table(stands);
-    t.build();
+    t.build(who);
     let asked = questions(&t);
     black_box(round(&words[0], who, &mut t, &asked));
 }

@@ -1,6 +1,6 @@
 -- A keystroke's outcomes, each by the tests that lead to it, on any words and any session.
 -- Assumes nothing.
-use mathlib.Core.Path.{_≡_, sym, ap, _∙_}
+use mathlib.Core.Path.{_≡_, refl, sym, ap, _∙_}
 use mathlib.Core.Logic.{⊎-elim}
 use mathlib.Core.Bool.{true, false}
 use mathlib.Core.List.{List}
@@ -17,7 +17,7 @@ use Rattle.walk.specs.declared.Child.the-variants.{At, Nowhere, Broken}
 use Rattle.walk.specs.Walks.{node, childIn}
 use Rattle.session.specs.declared.Led.{Led}
 use Rattle.session.specs.declared.Led.the-variants.{To, Refused}
-use Rattle.session.specs.Strokes.{passed, refused, lost, nextOn, shortened, ledTo, ledOn, struck, typedOn, rubbedOut, reached}
+use Rattle.session.specs.Strokes.{passed, refused, lost, nextOn, shortened, ledTo, ledOn, struck, arrived, typedOn, rubbedOut, reached}
 
 -- ---- where the letters led, and where one more leads
 
@@ -56,49 +56,64 @@ module _ (s : Session) where
 -- ---- typing
 
 module _ (nodes : List ℕ) (letters last b : ℕ) where
+  pub led-over : 24 < letters → ledOn nodes letters last b ≡ Refused NotLawful
+  unfolding ledOn
+  led-over h = rw (lt-ltb 24 letters h)
+
   pub led-full : letters ≡ 24 → ledOn nodes letters last b ≡ Refused TextTooLong
   unfolding ledOn
-  led-full h = rw (eq-eqb letters 24 h)
+  led-full h = rw (le-ltb 24 letters (omega arith), eq-eqb letters 24 h)
 
-  module _ (room : letters ≡ 24 → ⊥) where
+  module _ (room : letters < 24) where
     pub led-unallowed : allowed b ≡ false → ledOn nodes letters last b ≡ Refused TextByteNotAllowed
     unfolding ledOn
-    led-unallowed h = rw (ne-eqb letters 24 room, h)
+    led-unallowed h = rw (le-ltb 24 letters (omega arith), ne-eqb letters 24 (λ e. omega arith), h)
 
     pub led-on : allowed b ≡ true → ledOn nodes letters last b ≡ ledTo (nextOn nodes letters last b)
     unfolding ledOn
-    led-on h = rw (ne-eqb letters 24 room, h)
+    led-on h = rw (le-ltb 24 letters (omega arith), ne-eqb letters 24 (λ e. omega arith), h)
 
 -- only where there is room does a letter lead anywhere
 abbrev places : Led → ℕ
 places (To n) = 1
 places (Refused why) = 0
 
-pub led-room : (nodes : List ℕ) (letters last b n : ℕ) → letters ≤ 24 → ledOn nodes letters last b ≡ To n → letters < 24
-led-room nodes letters last b n h e =
+pub led-room : (nodes : List ℕ) (letters last b n : ℕ) → ledOn nodes letters last b ≡ To n → letters < 24
+led-room nodes letters last b n e =
     ⊎-elim
-    (λ (f : 24 ≤ letters). let z : 0 ≡ 1 = ap places (sym (led-full nodes letters last b (omega arith)) ∙ e) in absurd (omega arith))
+    (λ (f : 24 ≤ letters).
+    ⊎-elim
+    (λ (g : letters ≤ 24). let z : 0 ≡ 1 = ap places (sym (led-full nodes letters last b (omega arith)) ∙ e) in absurd (omega arith))
+    (λ (g : 24 < letters). let z : 0 ≡ 1 = ap places (sym (led-over nodes letters last b g) ∙ e) in absurd (omega arith))
+    (le-or-lt letters 24))
     (λ (f : letters < 24). f)
     (le-or-lt 24 letters)
 
 module _ (nodes : List ℕ) (s : Session) (b : ℕ) where
-  pub typed-over : 24 < s .len → typedOn nodes s b ≡ refused NotLawful s
+  -- with what the path has past the letters, or with 0 where it has nothing there
+  pub typed-led : (last : ℕ) → (s .len < 25 → last ≡ getD (s .path) (s .len) 0) → typedOn nodes s b ≡ struck s b (ledOn nodes (s .len) last b)
   unfolding typedOn
-  typed-over h = rw (lt-ltb 24 (s .len) h)
+  typed-led last h =
+      ⊎-elim
+      (λ (f : s .len ≤ 24). ap (λ (n : ℕ). struck s b (ledOn nodes (s .len) n b)) (sym (h (omega arith))))
+      (λ (f : 24 < s .len). ap (struck s b) (led-over nodes (s .len) _ b f ∙ sym (led-over nodes (s .len) last b f)))
+      (le-or-lt (s .len) 24)
 
-  pub typed-led : s .len ≤ 24 → typedOn nodes s b ≡ struck s b (ledOn nodes (s .len) (getD (s .path) (s .len) 0) b)
-  unfolding typedOn
-  typed-led h = rw (le-ltb 24 (s .len) h)
+  typed-on : typedOn nodes s b ≡ struck s b (ledOn nodes (s .len) (getD (s .path) (s .len) 0) b)
+  typed-on = typed-led _ (λ f. refl)
+
+  pub typed-over : 24 < s .len → typedOn nodes s b ≡ refused NotLawful s
+  typed-over h = typed-on ∙ ap (struck s b) (led-over nodes (s .len) _ b h)
 
   pub typed-full : s .len ≡ 24 → typedOn nodes s b ≡ refused TextTooLong s
-  typed-full h = typed-led (omega arith) ∙ ap (struck s b) (led-full nodes (s .len) _ b h)
+  typed-full h = typed-on ∙ ap (struck s b) (led-full nodes (s .len) _ b h)
 
   module _ (room : s .len < 24) where
     pub typed-unallowed : allowed b ≡ false → typedOn nodes s b ≡ refused TextByteNotAllowed s
-    typed-unallowed h = typed-led (omega arith) ∙ ap (struck s b) (led-unallowed nodes (s .len) _ b (λ e. omega arith) h)
+    typed-unallowed h = typed-on ∙ ap (struck s b) (led-unallowed nodes (s .len) _ b room h)
 
-    pub typed-arrived : allowed b ≡ true → typedOn nodes s b ≡ struck s b (ledTo (nextOn nodes (s .len) (getD (s .path) (s .len) 0) b))
-    typed-arrived h = typed-led (omega arith) ∙ ap (struck s b) (led-on nodes (s .len) _ b (λ e. omega arith) h)
+    pub typed-arrived : allowed b ≡ true → typedOn nodes s b ≡ arrived s b (nextOn nodes (s .len) (getD (s .path) (s .len) 0) b)
+    typed-arrived h = typed-on ∙ ap (struck s b) (led-on nodes (s .len) _ b room h)
 
 -- ---- rubbing out
 

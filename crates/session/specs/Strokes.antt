@@ -44,12 +44,13 @@ ledTo (At n) = To (n .0)
 ledTo Nowhere = To 0
 ledTo Broken = leds.Refused NotLawful
 
--- behind at most 24 letters
+-- where a letter leads behind so many
 unfoldable pub ledOn : List ℕ → ℕ → ℕ → ℕ → Led
 ledOn nodes letters last b =
-    cond (eqb letters 24) (leds.Refused TextTooLong)
+    cond (ltb 24 letters) (leds.Refused NotLawful)
+    (cond (eqb letters 24) (leds.Refused TextTooLong)
     (cond (not (allowed b)) (leds.Refused TextByteNotAllowed)
-    (ledTo (nextOn nodes letters last b)))
+    (ledTo (nextOn nodes letters last b))))
 
 abbrev pub struck : Session → ℕ → Led → Stroke
 struck s b (To n) = passed (lengthened s b n)
@@ -59,9 +60,7 @@ abbrev pub arrived : Session → ℕ → Child → Stroke
 arrived s b c = struck s b (ledTo c)
 
 unfoldable pub typedOn : List ℕ → Session → ℕ → Stroke
-typedOn nodes s b =
-    cond (ltb 24 (s .len)) (refused NotLawful s)
-    (struck s b (ledOn nodes (s .len) (getD (s .path) (s .len) 0) b))
+typedOn nodes s b = struck s b (ledOn nodes (s .len) (getD (s .path) (s .len) 0) b)
 
 unfoldable pub rubbedOut : Session → Stroke
 rubbedOut s =

@@ -59,6 +59,9 @@ fn next(nodes: &[u32], letters: usize, last: Node, byte: u8) -> Child
 fn leads(nodes: &[u32], letters: usize, last: Node, byte: u8) -> Led
     ensures { λ r. ⌜ r ≡ ledOn (now (nodes .entry)) letters (last .0) byte ⌝ }
 {
+    if Stand::NAME_MOST < letters {
+        return Led::Refused(Refusal::NotLawful);
+    }
     if letters == Stand::NAME_MOST {
         return Led::Refused(Refusal::TextTooLong);
     }
@@ -73,27 +76,29 @@ fn leads(nodes: &[u32], letters: usize, last: Node, byte: u8) -> Led
 }
 
 // A letter typed, by value: one look among the children of the last letter's node, however long the text. One local is the session all
-// the way, changed only where the letter is taken, so that the record is copied once in and once out.
+// the way to the one return, changed only where the letter is taken, so that the record is copied once in and once out.
 pub fn typed(nodes: &[u32], session: Session, byte: u8) -> Stroke
     ensures { λ r. ⌜ r ≡ typedOn (now (nodes .entry)) session byte ⌝ }
 {
     let mut after = session;
     let len = after.len as usize;
-    if Stand::NAME_MOST < len {
-        return Stroke::refused(Refusal::NotLawful, after);
-    }
-    let last = after.path[len];
-    match leads(nodes, len, Node(last), byte) {
+    let last = if len < Session::PATH {
+        after.path[len]
+    } else {
+        0
+    };
+    let verdict = match leads(nodes, len, Node(last), byte) {
         Led::To(node) => {
             after.text[len] = byte;
             after.path[len + 1] = node;
             after.len += 1;
-            Stroke {
-                verdict: Verdict::Passed,
-                session: after,
-            }
+            Verdict::Passed
         }
-        Led::Refused(why) => Stroke::refused(why, after),
+        Led::Refused(why) => Verdict::Refused(why),
+    };
+    Stroke {
+        verdict,
+        session: after,
     }
 }
 

@@ -1,20 +1,24 @@
 -- `session::leads` meets its contract: each return by the tests that lead there (proofs/Steps.antt). Assumes nothing.
 use mathlib.Core.Path.{sym, ap, _∙_}
+use native.Mathlib.Omega.{arith}
 use borrow.Author.Needs.{needs}
 use Rattle.base.proofs.Tests.{breaks, holds}
 use Rattle.session.specs.Strokes.{ledTo}
-use Rattle.session.proofs.Steps.{led-full, led-unallowed, led-on}
+use Rattle.session.proofs.Steps.{led-over, led-full, led-unallowed, led-on}
 use Rattle.session.proofs.leads.Statement.{statement}
 use Rattle.session.proofs.leads.Tie as tie
 
 returns : tie.Need-returns
-returns c = sym (led-full _ _ _ _ (c .if1 .taken))
+returns c = sym (led-over _ _ _ _ (c .if1 .taken))
+
+returns-2 : tie.Need-returns-2
+returns-2 c = sym (led-full _ _ _ _ (c .if2 .taken))
 
 allowed-requires : tie.Need-allowed-requires
 allowed-requires c κs = search needs
 
-returns-2 : tie.Need-returns-2
-returns-2 c = sym (led-unallowed _ _ _ _ (c .before .before .if1 .left) (breaks _ _ (c .before .allowed .ensures) (c .if2 .taken)))
+returns-3 : tie.Need-returns-3
+returns-3 c = sym (led-unallowed _ _ _ _ (omega arith) (breaks _ _ (c .before .allowed .ensures) (c .if3 .taken)))
 
 next-requires : tie.Need-next-requires
 next-requires c κs = search needs
@@ -28,26 +32,27 @@ enum-told c = search needs
 enum-told-2 : tie.Need-enum-told-2
 enum-told-2 c = search needs
 
-returns-3 : tie.Need-returns-3
-returns-3 c = sym (led-on _ _ _ _ (c .before .before .before .before .before .before .if1 .left) (holds _ _ (c .before .before .before .before .before .allowed .ensures) (c .before .before .before .before .if2 .left)) ∙ ap ledTo (sym (c .before .before .before .next .ensures) ∙ c .before .node .given .1))
-
 returns-4 : tie.Need-returns-4
-returns-4 c = sym (led-on _ _ _ _ (c .before .before .before .before .before .if1 .left) (holds _ _ (c .before .before .before .before .allowed .ensures) (c .before .before .before .if2 .left)) ∙ ap ledTo (sym (c .before .before .next .ensures) ∙ c .enum-told .given .1))
+returns-4 c = sym (led-on _ _ _ _ (omega arith) (holds _ _ (c .before .before .before .before .before .allowed .ensures) (c .before .before .before .before .if3 .left)) ∙ ap ledTo (sym (c .before .before .before .next .ensures) ∙ c .before .node .given .1))
 
 returns-5 : tie.Need-returns-5
-returns-5 c = sym (led-on _ _ _ _ (c .before .before .before .before .before .if1 .left) (holds _ _ (c .before .before .before .before .allowed .ensures) (c .before .before .before .if2 .left)) ∙ ap ledTo (sym (c .before .before .next .ensures) ∙ c .enum-told2 .given .1))
+returns-5 c = sym (led-on _ _ _ _ (omega arith) (holds _ _ (c .before .before .before .before .allowed .ensures) (c .before .before .before .if3 .left)) ∙ ap ledTo (sym (c .before .before .next .ensures) ∙ c .enum-told .given .1))
+
+returns-6 : tie.Need-returns-6
+returns-6 c = sym (led-on _ _ _ _ (omega arith) (holds _ _ (c .before .before .before .before .allowed .ensures) (c .before .before .before .if3 .left)) ∙ ap ledTo (sym (c .before .before .next .ensures) ∙ c .enum-told2 .given .1))
 
 pub leads-spec : {M : Type 1} → statement M
 leads-spec =
     tie.close
     (tie.spec
     returns
-    allowed-requires
     returns-2
+    allowed-requires
+    returns-3
     next-requires
     enum-known-node
     enum-told
     enum-told-2
-    returns-3
     returns-4
-    returns-5)
+    returns-5
+    returns-6)

@@ -1,21 +1,16 @@
 -- `session::typed` meets its contract: each return by where the letter leads (proofs/Steps.antt). Assumes nothing.
-use mathlib.Core.Path.{sym, ap, _∙_}
+use mathlib.Core.Path.{_≡_, sym, ap, _∙_}
+use mathlib.Core.Logic.{⊎-elim}
 use Prim.Native.Nat.{_<_}
 use native.Mathlib.Omega.{arith}
 use borrow.Author.Needs.{needs}
-use Rattle.session.specs.Strokes.{lengthened, struck}
-use Rattle.session.proofs.Steps.{led-room, typed-over, typed-led}
+use Rattle.session.specs.Strokes.{lengthened, struck, typedOn}
+use Rattle.session.proofs.Steps.{led-room, typed-led}
 use Rattle.session.proofs.typed.Statement.{statement}
 use Rattle.session.proofs.typed.Tie as tie
 
 cast-len : tie.Need-cast-len
 cast-len c = search needs
-
-refused-requires : tie.Need-refused-requires
-refused-requires c κs = search needs
-
-returns : tie.Need-returns
-returns c = c .refused .ensures ∙ sym (typed-over _ _ _ (c .before .if1 .taken))
 
 mul-last : tie.Need-mul-last
 mul-last c = search needs
@@ -29,9 +24,17 @@ leads-requires c κs = search needs
 enum-known-node : tie.Need-enum-known-node
 enum-known-node c = search needs
 
+-- what is typed comes to, by where the letter leads
+led : (c : tie.After-leads) → let a = c .before .before .before .args in typedOn (a .nodes .now) (a .session) (a .byte) ≡ struck (a .session) (a .byte) (c .leads .result)
+led c =
+    let a = c .before .before .before .args in
+    typed-led (a .nodes .now) (a .session) (a .byte) (c .before .if1 .last)
+    (λ (f : a .session .len < 25). ⊎-elim (λ w. w .2) (λ w. absurd (omega (arith, w .0 .left, f))) (c .before .if1 .came))
+    ∙ ap (struck (a .session) (a .byte)) (sym (c .leads .ensures))
+
 -- where a letter leads, there is room for it
-room : (c : tie.After-known-told) → c .before .before .before .before .before .before .before .args .session .len < 24
-room c = led-room _ _ _ _ _ (c .before .before .before .before .before .if1 .left) (sym (c .before .before .before .leads .ensures) ∙ c .before .node .given .1)
+room : (c : tie.After-known-told) → c .before .before .before .before .before .before .args .session .len < 24
+room c = led-room _ _ _ _ _ (sym (c .before .before .before .leads .ensures) ∙ c .before .node .given .1)
 
 element-write-after : tie.Need-element-write-after
 element-write-after c = room c
@@ -51,23 +54,18 @@ add-after-2 c = record { fits = omega (arith, room c) }
 enum-known-why : tie.Need-enum-known-why
 enum-known-why c = search needs
 
-refused-requires-2 : tie.Need-refused-requires-2
-refused-requires-2 c κs = search needs
+returns : tie.Need-returns
+unfolding lengthened
+returns c = sym (led (c .before .before .before) ∙ ap (struck _ _) (c .before .node .given .1))
 
 returns-2 : tie.Need-returns-2
-unfolding lengthened
-returns-2 c = sym (typed-led _ _ _ (c .before .before .before .before .before .if1 .left) ∙ ap (struck _ _) (sym (c .before .before .before .leads .ensures) ∙ c .before .node .given .1))
-
-returns-3 : tie.Need-returns-3
-returns-3 c = c .refused2 .ensures ∙ sym (typed-led _ _ _ (c .before .before .before .before .before .before .if1 .left) ∙ ap (struck _ _) (sym (c .before .before .before .before .leads .ensures) ∙ c .before .before .why .given .1))
+returns-2 c = sym (led (c .before .before .before) ∙ ap (struck _ _) (c .before .why .given .1))
 
 pub typed-spec : {M : Type 1} → statement M
 typed-spec =
     tie.close
     (tie.spec
     cast-len
-    refused-requires
-    returns
     mul-last
     element-copy-out-last
     leads-requires
@@ -78,6 +76,5 @@ typed-spec =
     element-write-after-2
     add-after-2
     enum-known-why
-    refused-requires-2
-    returns-2
-    returns-3)
+    returns
+    returns-2)
