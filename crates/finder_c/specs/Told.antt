@@ -6,14 +6,12 @@ use mathlib.Core.List.{List}
 use Prim.Native.Nat.{ℕ}
 use lib.ListN.{length}
 use Rattle.rules.specs.Names.{restOf, restAt}
-use Rattle.rules.specs.Numbers.{Told, BuildTold, CheckTold, verdictNumber}
-use Rattle.session.specs.declared.Stroke.{Stroke}
+use Rattle.rules.specs.Numbers.{Told, BuildTold, CheckTold}
 use Rattle.finder_c.specs.declared.Located.{Located}
 use Rattle.finder_c.specs.declared.Built.{Built}
 use Rattle.finder_c.specs.declared.Checked.{Checked}
 use Rattle.finder_c.specs.declared.Found.{Found}
 use Rattle.finder_c.specs.declared.Part.{Part}
-use Rattle.finder_c.specs.declared.Struck.{Struck}
 
 abbrev pub locatedTold : Located → Told
 locatedTold r = record { refusal = r .refusal; number = r .region }
@@ -26,9 +24,6 @@ checkedTold r = record { lawful = r .lawful; nodes = r .nodes; entries = r .entr
 
 abbrev pub foundTold : Found → Told
 foundTold r = record { refusal = r .refusal; number = r .count }
-
-abbrev pub struckBy : Stroke → Struck
-struckBy s = record { refusal = verdictNumber (s .verdict); session = s .session }
 
 -- these are the numbers of an answer that keeps a promise
 pub record Tells {Answer Numbers : Type 0} (numbers : Answer → Numbers) (Promise : Answer → Type 0) (told : Numbers) : Type 0 where

@@ -10,9 +10,8 @@ ghost use Rattle.index.specs.Promises.{BuildPromise};
 ghost use Rattle.range.specs.Promises.{RangePromise};
 ghost use Rattle.ranked_means.specs.Promises.{RankedPromise};
 ghost use Rattle.session.specs.Promises.{TypePromise, RubPromise};
-ghost use Rattle.session.specs.Strokes.{typedOn, rubbedOut};
 ghost use Rattle.typed.specs.Promises.{TypedRangePromise, TypedRankedPromise};
-ghost use Rattle.finder_c.specs.Told.{Tells, locatedTold, builtTold, checkedTold, foundTold, RestPart, struckBy};
+ghost use Rattle.finder_c.specs.Told.{Tells, locatedTold, builtTold, checkedTold, foundTold, RestPart};
 use finder::Grid;
 use finder::Place;
 use finder::RangeAnswer;
@@ -21,7 +20,8 @@ use finder::Ranking;
 use finder::Rect;
 use finder::Session;
 use finder::Stand;
-use session::Stroke;
+use session::rubbed_out;
+use session::typed;
 use table::names::Span;
 use table::names::rest_span;
 
@@ -51,12 +51,6 @@ pub struct Checked {
 pub struct Found {
     pub refusal: u32,
     pub count: u32,
-}
-
-// What a keystroke comes to: its refusal's number, and the session after it.
-struct Struck {
-    refusal: u32,
-    session: Session,
 }
 
 // A part of the table's text: where it begins, and how many bytes it has.
@@ -142,31 +136,6 @@ impl Found {
             },
         }
     }
-}
-
-impl Struck {
-    fn of(stroke: Stroke) -> Struck
-        ensures { λ r. ⌜ r ≡ struckBy stroke ⌝ }
-    {
-        let verdict = stroke.verdict;
-        let session = stroke.session;
-        Struck {
-            refusal: verdict.number(),
-            session,
-        }
-    }
-}
-
-fn typed(nodes: &[u32], session: Session, byte: u8) -> Struck
-    ensures { λ r. ⌜ r ≡ struckBy (typedOn (now (nodes .entry)) session byte) ⌝ }
-{
-    Struck::of(session::typed(nodes, session, byte))
-}
-
-fn rubbed_out(session: Session) -> Struck
-    ensures { λ r. ⌜ r ≡ struckBy (rubbedOut session) ⌝ }
-{
-    Struck::of(session::rubbed_out(session))
 }
 
 #[no_mangle]
@@ -396,7 +365,7 @@ pub extern "C" fn krz_type(
 {
     let out = typed(nodes, *session, byte);
     *session = out.session;
-    out.refusal
+    out.verdict.number()
 }
 
 // It takes the whole set so that all calls on a session look alike in C.
@@ -417,7 +386,7 @@ pub extern "C" fn krz_rub_out(
 {
     let out = rubbed_out(*session);
     *session = out.session;
-    out.refusal
+    out.verdict.number()
 }
 
 #[no_mangle]
