@@ -1,6 +1,7 @@
 //! The figures: how many instructions the finder takes for a question, a name typed, a build and a check, beside a scan of all stands
 //! (`plain`) and the same method in safe Rust (`port`). Every answer is compared before it is counted.
-//! With no argument it counts by valgrind and prints the table; `figures WHAT WHO STANDS` runs one of them, for valgrind to count.
+//!     figures LIBRARY              counts by valgrind, prints the table, and the library's code size and largest stack frame
+//!     figures WHAT WHO STANDS      runs one of them, for valgrind to count
 
 mod finder;
 mod plain;
@@ -144,6 +145,10 @@ enum Who {
     Finder,
     Plain,
     Port,
+    /// A scan that tests the rectangle before the text.
+    Near,
+    /// A port that changes the session in place.
+    InPlace,
 }
 
 /// What one round answers, so that answers can be compared; nothing that a room had before is in it.
@@ -179,7 +184,8 @@ fn round(what: &str, who: Who, t: &mut Table, asked: &[Question]) -> Vec<u64> {
                         let a = match who {
                             Who::Finder => finder::range(&set, letters, q.rect, &mut found),
                             Who::Plain => plain::range(&set, letters, q.rect, &mut found),
-                            Who::Port => port::range(&set, letters, q.rect, &mut found),
+                            Who::Near => plain::range_near(&set, letters, q.rect, &mut found),
+                            _ => port::range(&set, letters, q.rect, &mut found),
                         };
                         told.push(u64::from(a.count));
                         told.extend(found[..a.count as usize].iter().take(16).map(|&s| u64::from(s)));
@@ -188,7 +194,7 @@ fn round(what: &str, who: Who, t: &mut Table, asked: &[Question]) -> Vec<u64> {
                         let a = match who {
                             Who::Finder => finder::ranked(&set, letters, q.asked, &mut found, &mut values),
                             Who::Plain => plain::ranked(&set, letters, q.asked, &mut found, &mut values),
-                            Who::Port => port::ranked(&set, letters, q.asked, &mut found, &mut values),
+                            _ => port::ranked(&set, letters, q.asked, &mut found, &mut values),
                         };
                         told.push(u64::from(a.count));
                         told.extend(found[..a.count as usize].iter().map(|&s| u64::from(s)));
@@ -203,7 +209,11 @@ fn round(what: &str, who: Who, t: &mut Table, asked: &[Question]) -> Vec<u64> {
                                     session.path[i + 1] != 0
                                 }
                                 Who::Plain => plain::any(&set, &name[..=i]),
-                                Who::Port => {
+                                Who::InPlace => {
+                                    port::type_in_place(set.nodes, &mut session, byte);
+                                    session.path[i + 1] != 0
+                                }
+                                _ => {
                                     port::type_byte(set.nodes, &mut session, byte);
                                     session.path[i + 1] != 0
                                 }
@@ -231,6 +241,8 @@ fn who_of(word: &str) -> Option<Who> {
         "finder" => Some(Who::Finder),
         "plain" => Some(Who::Plain),
         "port" => Some(Who::Port),
+        "near" => Some(Who::Near),
+        "in-place" => Some(Who::InPlace),
         _ => None,
     }
 }
@@ -241,6 +253,8 @@ fn counted(what: &str, who: &str) -> String {
         ("typing", "finder") => String::from("krz_type"),
         ("typing", "plain") => String::from("figures::plain::any"),
         ("typing", "port") => String::from("figures::port::type_byte"),
+        ("typing", "in-place") => String::from("figures::port::type_in_place"),
+        ("range", "near") => String::from("figures::plain::range_near"),
         (_, "finder") => format!("krz_{what}"),
         _ => format!("figures::{who}::{what}"),
     }
@@ -282,6 +296,39 @@ fn print_table() {
             println!("| {stands} | {title} | {ours:.0} | {scan} | {port:.0} | {ratio} | {:.2} |", ours / port);
         }
     }
+    println!();
+    println!("At 1024 stands a scan that tests the rectangle before the text takes {:.0} for the range,", instructions("range", "near", 1_024));
+    println!("and a port that changes the session in place {:.0} for the name typed.", instructions("typing", "in-place", 1_024));
+}
+
+/// Of each function of the library what its code takes off the stack: all that it subtracts and pushes, so at most a little too much.
+fn frames(library: &str) -> Vec<(usize, String)> {
+    let out = Command::new("objdump").args(["-d", "--no-show-raw-insn", library]).output().expect("objdump runs");
+    let mut frames: Vec<(usize, String)> = Vec::new();
+    for line in String::from_utf8_lossy(&out.stdout).lines() {
+        if let Some((_, name)) = line.strip_suffix(">:").and_then(|l| l.split_once('<')) {
+            frames.push((0, name.to_string()));
+        }
+        let words: Vec<&str> = line.split_whitespace().collect();
+        let taken = match words[..] {
+            [_, "push", _] => 8,
+            [_, "sub", by] => by.strip_suffix(",%rsp").and_then(|n| usize::from_str_radix(n.strip_prefix("$0x")?, 16).ok()).unwrap_or(0),
+            _ => 0,
+        };
+        if let Some(last) = frames.last_mut() {
+            last.0 += taken;
+        }
+    }
+    frames
+}
+
+fn print_sizes(library: &str) {
+    let out = Command::new("size").arg(library).output().expect("size runs");
+    let text = String::from_utf8_lossy(&out.stdout).into_owned();
+    let code = text.lines().nth(1).and_then(|l| l.split_whitespace().next()).unwrap_or("?");
+    println!("The library has {code} bytes of code and constants.");
+    let (bytes, name) = frames(library).into_iter().max().unwrap_or_default();
+    println!("Its largest stack frame is {name}'s, {bytes} bytes.");
 }
 
 fn compare() {
@@ -296,6 +343,10 @@ fn compare() {
             assert_eq!(words, (t.order.clone(), t.nodes.clone(), t.entries.clone()), "{title}: words of finder and port");
             if !matches!(what, "build" | "check") {
                 assert_eq!(ours, round(what, Who::Plain, &mut t, &asked), "{title}: finder and scan");
+                assert_eq!(ours, round(what, Who::InPlace, &mut t, &asked), "{title}: finder and port in place");
+            }
+            if what == "range" {
+                assert_eq!(ours, round(what, Who::Near, &mut t, &asked), "{title}: finder and scan by rectangle");
             }
         }
     }
@@ -303,17 +354,22 @@ fn compare() {
 
 fn main() {
     let words: Vec<String> = std::env::args().skip(1).collect();
-    if words.is_empty() {
-        compare();
-        print_table();
-        return;
+    match &words[..] {
+        [library] => {
+            compare();
+            print_table();
+            print_sizes(library);
+        }
+        [what, who, stands] => {
+            let (who, stands) = (who_of(who).expect("one who answers"), stands.parse().expect("a number of stands"));
+            let mut t = table(stands);
+            t.build(who);
+            let asked = questions(&t);
+            black_box(round(what, who, &mut t, &asked));
+        }
+        _ => {
+            eprintln!("usage: figures LIBRARY | figures WHAT WHO STANDS");
+            std::process::exit(2);
+        }
     }
-    let (Some(who), Ok(stands)) = (who_of(&words[1]), words[2].parse()) else {
-        eprintln!("usage: figures [WHAT finder|plain|port STANDS]");
-        std::process::exit(2);
-    };
-    let mut t = table(stands);
-    t.build(who);
-    let asked = questions(&t);
-    black_box(round(&words[0], who, &mut t, &asked));
 }

@@ -12,29 +12,43 @@ pub fn any(set: &Set, typed: &[u8]) -> bool {
     (0..set.score.len()).any(|i| name(set, i).starts_with(typed))
 }
 
-/// The stands come by number; by region they are put afterwards.
-#[inline(never)]
-pub fn range(set: &Set, typed: &[u8], rect: Rect, found: &mut [u32]) -> Found {
+fn in_rect(set: &Set, i: usize, rect: Rect) -> bool {
+    let (east, north) = (set.east[i], set.north[i]);
+    rect.west <= east && east <= rect.east && rect.south <= north && north <= rect.north
+}
+
+/// The stands that pass a test, by region. They come by number, so those of a region stay by number.
+fn listed(set: &Set, found: &mut [u32], wanted: impl Fn(usize) -> bool) -> Found {
     let mut count = 0;
     for i in 0..set.score.len() {
-        let (east, north) = (set.east[i], set.north[i]);
-        let inside = rect.west <= east && east <= rect.east && rect.south <= north && north <= rect.north;
-        if inside && name(set, i).starts_with(typed) {
+        if wanted(i) {
             if let Some(place) = found.get_mut(count) {
                 *place = i as u32;
             }
             count += 1;
         }
     }
-    let refusal = if found.len() < count { 13 } else { 0 };
     let region = |&stand: &u32| {
         let strip = |edge: i32, x: i32| (i64::from(x) - i64::from(edge)) / i64::from(set.grid.cell);
         let i = stand as usize;
         strip(set.grid.south, set.north[i]) * 8 + strip(set.grid.west, set.east[i])
     };
-    let held = count.min(found.len());
-    found[..held].sort_by_key(region);
-    Found { refusal, count: count as u32 }
+    if found.len() < count {
+        return Found { refusal: 13, count: count as u32 };
+    }
+    found[..count].sort_by_key(region);
+    Found { refusal: 0, count: count as u32 }
+}
+
+#[inline(never)]
+pub fn range(set: &Set, typed: &[u8], rect: Rect, found: &mut [u32]) -> Found {
+    listed(set, found, |i| name(set, i).starts_with(typed) && in_rect(set, i, rect))
+}
+
+/// The rectangle is tested first, which is four comparisons.
+#[inline(never)]
+pub fn range_near(set: &Set, typed: &[u8], rect: Rect, found: &mut [u32]) -> Found {
+    listed(set, found, |i| in_rect(set, i, rect) && name(set, i).starts_with(typed))
 }
 
 /// Equal values keep the smaller number first, since stands come by number.
