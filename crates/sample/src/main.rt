@@ -1,5 +1,5 @@
 // The index of the small scheme and of some generated tables, printed word by word.
-// tests/scan.rs prints the same from a scan of every stand; the file stdout is what both print.
+// tests/src/words.rs prints the same from a scan of every stand; the file stdout is what both print.
 use libc::STDOUT_FILENO;
 use rules::Built;
 use rules::Grid;
