@@ -1,0 +1,3 @@
+-- Laws of what is printed: digits, and lines one behind the other.
+pub mod Digits
+pub mod Appending
