@@ -1,0 +1,63 @@
+use borrow.Author.Needs.{needs}
+use Rattle.desk_answer.proofs.reply.ask.Statement.{statement}
+use Rattle.desk_answer.proofs.reply.ask.Tie as tie
+use Rattle.desk_answer.proofs.reply.ask.Reads as reads
+use Rattle.desk_answer.proofs.reply.ask.Lts as lts
+use Rattle.desk_answer.proofs.hits.put_hits.Reads as put-hits-reads
+use Rattle.desk_answer.proofs.lines.put_refusal.Reads as put-refusal-reads
+use Rattle.ranked_means.proofs.ranked.Reads as ranked-reads
+
+-- src/reply.rt:59:9
+slice-aggregate-ranked : tie.Need-slice-aggregate-ranked
+slice-aggregate-ranked c = search needs
+
+-- src/reply.rt:60:9
+slice-aggregate-ranked-2 : tie.Need-slice-aggregate-ranked-2
+slice-aggregate-ranked-2 c = search needs
+
+-- src/reply.rt:47:9
+ranked-requires : tie.Need-ranked-requires
+ranked-requires c κs = search needs
+
+-- src/reply.rt:63:29
+enum-known-answer : tie.Need-enum-known-answer
+enum-known-answer c = search needs
+
+-- src/reply.rt:63:84
+cast-put-hits : tie.Need-cast-put-hits
+cast-put-hits c = search needs
+
+-- src/reply.rt:63:39
+put-hits-requires : tie.Need-put-hits-requires
+put-hits-requires c κs = search needs
+
+-- src/reply.rt:64:31
+enum-known-answer-2 : tie.Need-enum-known-answer-2
+enum-known-answer-2 c = search needs
+
+-- src/reply.rt:64:39
+put-refusal-requires : tie.Need-put-refusal-requires
+put-refusal-requires c κs = search needs
+
+-- src/reply.rt:28:1
+returns : tie.Need-returns
+returns c = search needs
+
+-- src/reply.rt:28:1
+returns-2 : tie.Need-returns-2
+returns-2 c = search needs
+
+pub ask-spec : {M : Type 1} → statement M
+ask-spec =
+    tie.close
+    (tie.spec
+    slice-aggregate-ranked
+    slice-aggregate-ranked-2
+    ranked-requires
+    enum-known-answer
+    cast-put-hits
+    put-hits-requires
+    enum-known-answer-2
+    put-refusal-requires
+    returns
+    returns-2)
