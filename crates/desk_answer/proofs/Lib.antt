@@ -2,3 +2,5 @@
 pub mod Digits
 pub mod Appending
 pub mod Listing
+pub mod Asking
+pub mod Building

@@ -1,4 +1,8 @@
+use mathlib.Core.Path.{refl}
+use native.Mathlib.Omega.{arith}
 use borrow.Author.Needs.{needs}
+use Rattle.desk_answer.proofs.Appending.{within}
+use Rattle.desk_answer.proofs.Asking.{refusal-told, names-short, hits-told}
 use Rattle.desk_answer.proofs.reply.ask.Statement.{statement}
 use Rattle.desk_answer.proofs.reply.ask.Tie as tie
 use Rattle.desk_answer.proofs.reply.ask.Reads as reads
@@ -29,7 +33,9 @@ cast-put-hits c = search needs
 
 -- src/reply.rt:63:39
 put-hits-requires : tie.Need-put-hits-requires
-put-hits-requires c κs = search needs
+put-hits-requires c κs =
+    let law = c .before .before .before .before .before .before .before .before .before .before .before .before .before .before .before .before .before .before .pre in
+    names-short _ _ _ _ _ _ _ _ _ law refl refl _ (rw (c .before .before .before .before .answer .given .1) at (c .before .before .before .before .before .before .before .before .ranked .ensures .lawful law))
 
 -- src/reply.rt:64:31
 enum-known-answer-2 : tie.Need-enum-known-answer-2
@@ -41,11 +47,15 @@ put-refusal-requires c κs = search needs
 
 -- src/reply.rt:28:1
 returns : tie.Need-returns
-returns c = search needs
+returns c =
+    let law = c .before .before .before .before .before .before .before .before .before .before .before .before .before .before .before .before .before .before .before .pre in
+    rw (hits-told _ _ _ _ _ _ _ _ _ law refl refl _ (rw (c .before .before .before .before .before .answer .given .1) at (c .before .before .before .before .before .before .before .before .before .ranked .ensures .lawful law))) at (c .put-hits .ensures)
 
 -- src/reply.rt:28:1
 returns-2 : tie.Need-returns-2
-returns-2 c = search needs
+returns-2 c =
+    let law = c .before .before .before .before .before .before .before .before .before .before .before .before .before .before .before .before .before .pre in
+    within 1600 (omega arith) (rw (refusal-told _ _ _ _ _ _ _ _ _ law refl refl _ (rw (c .before .before .before .answer2 .given .1) at (c .before .before .before .before .before .before .before .ranked .ensures .lawful law))) at (c .put-refusal .ensures))
 
 pub ask-spec : {M : Type 1} → statement M
 ask-spec =

@@ -1,4 +1,7 @@
+use native.Mathlib.Omega.{arith}
 use borrow.Author.Needs.{needs}
+use Rattle.desk_answer.proofs.Appending.{within}
+use Rattle.desk_answer.proofs.Building.{accepted, never-refused, build-refused}
 use Rattle.desk_answer.proofs.reply.reply.Statement.{statement}
 use Rattle.desk_answer.proofs.reply.reply.Tie as tie
 use Rattle.desk_answer.proofs.reply.reply.Reads as reads
@@ -22,7 +25,9 @@ put-refusal-requires c κs = search needs
 
 -- src/reply.rt:98:9
 returns : tie.Need-returns
-returns c = search needs
+returns c =
+    let a = c .before .before .before .before .before .before .before .before .before .before .before .before .before .args in
+    within 1600 (omega arith) (rw (build-refused _ _ _ (c .before .before .before .before .before .before .before .before .before .before .before .before .before .pre) (record { order = c .before .before .before .before .before .before .before .before .build-arg .given .0 .1; nodes = c .before .before .before .before .before .before .before .build-arg2 .given .0 .1; entries = c .before .before .before .before .before .before .build-arg3 .given .0 .1 }) (a .typed .now) (a .asked) _ _ (rw (c .before .before .before .built .given .1) at (c .before .before .before .before .before .build .ensures))) at (c .put-refusal .ensures))
 
 enum-told : tie.Need-enum-told
 enum-told c = search needs
@@ -44,15 +49,16 @@ put-refusal-requires-2 c κs = search needs
 
 -- src/reply.rt:112:9
 returns-2 : tie.Need-returns-2
-returns-2 c = search needs
+returns-2 c =
+    never-refused _ _ _ _ _ _ (rw (c .before .before .before .before .before .before .before .before .before .before .before .enum-told .given .1) at (c .before .before .before .before .before .before .before .before .before .before .before .before .before .build .ensures)) (rw (c .before .before .enum-told3 .given .1) at (c .before .before .before .before .check .ensures))
 
 -- src/reply.rt:114:5
 ask-requires : tie.Need-ask-requires
-ask-requires c κs = search needs
+ask-requires c κs = accepted _ _ _ _ _ (rw (c .before .before .before .before .before .before .before .enum-told2 .given .1) at (c .before .before .before .before .before .before .before .before .before .check .ensures))
 
 -- src/reply.rt:69:1
 returns-3 : tie.Need-returns-3
-returns-3 c = search needs
+returns-3 c = c .ask .ensures
 
 pub reply-spec : {M : Type 1} → statement M
 reply-spec =
