@@ -4,3 +4,4 @@ pub mod Appending
 pub mod Listing
 pub mod Asking
 pub mod Building
+pub mod Readings
