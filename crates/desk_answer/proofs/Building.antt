@@ -38,22 +38,23 @@ module _ (t : Table) (g : Grid) where
   unfolding replyTo
   reply-first p q h = rw (first-given (tableRefusal t g) (rankedRefusal g p q) h, ne-eqb (tableRefusal t g) 0 (λ e. omega arith))
 
-  -- what checking accepts is lawful
-  pub accepted : (x : Index) (n e : ℕ) → checkedNumbers (checked.Lawful n e) ≡ checkTold t g x → setLawful t g x ≡ true
+  -- a lawful set is not told to be none
+  pub never-unlawful : {A : Type 0} (x : Index) → setLawful t g x ≡ true → checkedNumbers checked.Unlawful ≡ checkTold t g x → A
   unfolding checkTold
-  accepted x n e c = step (which (setLawful t g x))
-    where
-      step : (setLawful t g x ≡ true) ⊎ (setLawful t g x ≡ false) → setLawful t g x ≡ true
-      step (inl q) = q
-      step (inr q) = let z : _≡_ {A = ℕ} 1 0 = ap (λ (b : CheckTold). b .lawful) (rw q at c) in absurd (omega arith)
+  never-unlawful x law c = let z : _≡_ {A = ℕ} 0 1 = ap (λ (b : CheckTold). b .lawful) (rw law at c) in absurd (omega arith)
 
   module _ (x : Index) where
-    -- and it accepts what was built
-    pub never-refused : {A : Type 0} (n e : ℕ) (y : Index) → BuildPromise t g x (built.Index n e) y → checkedNumbers checked.Unlawful ≡ checkTold t g y → A
-    never-refused n e y p c =
-        let same : checked.Unlawful ≡ checked.Lawful n e = build-then-check t g x n e y checked.Unlawful p c in
-        let z : _≡_ {A = ℕ} 0 1 = cc in
-        absurd (omega arith)
+    -- what was built is lawful, since checking accepts it
+    pub built-lawful : (n e : ℕ) (y : Index) → BuildPromise t g x (built.Index n e) y → setLawful t g y ≡ true
+    unfolding checkTold
+    built-lawful n e y p = step (which (setLawful t g y))
+      where
+        step : (setLawful t g y ≡ true) ⊎ (setLawful t g y ≡ false) → setLawful t g y ≡ true
+        step (inl q) = q
+        step (inr q) =
+            let same : checked.Unlawful ≡ checked.Lawful n e = build-then-check t g x n e y checked.Unlawful p (rw q) in
+            let z : _≡_ {A = ℕ} 0 1 = cc in
+            absurd (omega arith)
 
     module _ (few : stands t ≤ 64) (rooms : Rooms x) where
       enough : tableRefusal t g ≡ 0 → buildRefusal t g x ≡ 0

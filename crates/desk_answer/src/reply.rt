@@ -65,7 +65,55 @@ fn ask(
     }
 }
 
-// The rooms are enough for 64 stands, so building refuses a table only for what the table is; and what it wrote, checking accepts.
+// Checks an index, then asks. On a lawful set the refusal here is never given.
+fn check_and_ask(
+    out: &mut [u8; OUTPUT_MOST],
+    text: &[u8],
+    starts: &[u32],
+    east: &[i32],
+    north: &[i32],
+    score: &[u32],
+    grid: Grid,
+    order: &[u32],
+    nodes: &[u32],
+    entries: &[u32],
+    typed: &[u8],
+    asked: Ranking,
+) -> usize
+    requires { ⌜ setLawful (tableOf (now text) (now starts) (now east) (now north) (now score)) grid (indexOf (now order) (now nodes) (now entries)) ≡ true ⌝ }
+    ensures { λ r. ⌜ Puts (replyTo (tableOf (now (text .entry)) (now (starts .entry)) (now (east .entry)) (now (north .entry)) (now (score .entry))) grid (now (typed .entry)) asked) 1600 (now (out .entry)) 0 (now (out .exit)) r ⌝ }
+{
+    let checked = check(
+        text,
+        starts,
+        east,
+        north,
+        score,
+        grid,
+        order,
+        nodes,
+        entries,
+    );
+    let Checked::Lawful { .. } = checked else {
+        return put_refusal(out, Refusal::NotLawful);
+    };
+    ask(
+        out,
+        text,
+        starts,
+        east,
+        north,
+        score,
+        grid,
+        order,
+        nodes,
+        entries,
+        typed,
+        asked,
+    )
+}
+
+// The rooms are enough for 64 stands, so building refuses a table only for what the table is.
 pub fn reply(
     out: &mut [u8; OUTPUT_MOST],
     text: &[u8],
@@ -97,21 +145,7 @@ pub fn reply(
     if let Built::Refused(why) = built {
         return put_refusal(out, why);
     }
-    let checked = check(
-        text,
-        starts,
-        east,
-        north,
-        score,
-        grid,
-        order,
-        nodes,
-        entries,
-    );
-    let Checked::Lawful { .. } = checked else {
-        return put_refusal(out, Refusal::NotLawful);
-    };
-    ask(
+    check_and_ask(
         out,
         text,
         starts,

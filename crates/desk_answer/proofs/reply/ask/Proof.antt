@@ -1,3 +1,5 @@
+-- `reply::ask`: on a lawful set the answer and both rooms are what the rules give, so that the lines are the reply.
+-- Assumes nothing.
 use mathlib.Core.Path.{refl}
 use native.Mathlib.Omega.{arith}
 use borrow.Author.Needs.{needs}
@@ -5,53 +7,38 @@ use Rattle.desk_answer.proofs.Appending.{within}
 use Rattle.desk_answer.proofs.Asking.{refusal-told, names-short, hits-told}
 use Rattle.desk_answer.proofs.reply.ask.Statement.{statement}
 use Rattle.desk_answer.proofs.reply.ask.Tie as tie
-use Rattle.desk_answer.proofs.reply.ask.Reads as reads
-use Rattle.desk_answer.proofs.reply.ask.Lts as lts
-use Rattle.desk_answer.proofs.hits.put_hits.Reads as put-hits-reads
-use Rattle.desk_answer.proofs.lines.put_refusal.Reads as put-refusal-reads
-use Rattle.ranked_means.proofs.ranked.Reads as ranked-reads
 
--- src/reply.rt:59:9
 slice-aggregate-ranked : tie.Need-slice-aggregate-ranked
 slice-aggregate-ranked c = search needs
 
--- src/reply.rt:60:9
 slice-aggregate-ranked-2 : tie.Need-slice-aggregate-ranked-2
 slice-aggregate-ranked-2 c = search needs
 
--- src/reply.rt:47:9
 ranked-requires : tie.Need-ranked-requires
 ranked-requires c κs = search needs
 
--- src/reply.rt:63:29
 enum-known-answer : tie.Need-enum-known-answer
 enum-known-answer c = search needs
 
--- src/reply.rt:63:84
 cast-put-hits : tie.Need-cast-put-hits
 cast-put-hits c = search needs
 
--- src/reply.rt:63:39
 put-hits-requires : tie.Need-put-hits-requires
 put-hits-requires c κs =
     let law = c .before .before .before .before .before .before .before .before .before .before .before .before .before .before .before .before .before .before .pre in
     names-short _ _ _ _ _ _ _ _ _ law refl refl _ (rw (c .before .before .before .before .answer .given .1) at (c .before .before .before .before .before .before .before .before .ranked .ensures .lawful law))
 
--- src/reply.rt:64:31
 enum-known-answer-2 : tie.Need-enum-known-answer-2
 enum-known-answer-2 c = search needs
 
--- src/reply.rt:64:39
 put-refusal-requires : tie.Need-put-refusal-requires
 put-refusal-requires c κs = search needs
 
--- src/reply.rt:28:1
 returns : tie.Need-returns
 returns c =
     let law = c .before .before .before .before .before .before .before .before .before .before .before .before .before .before .before .before .before .before .before .pre in
     rw (hits-told _ _ _ _ _ _ _ _ _ law refl refl _ (rw (c .before .before .before .before .before .answer .given .1) at (c .before .before .before .before .before .before .before .before .before .ranked .ensures .lawful law))) at (c .put-hits .ensures)
 
--- src/reply.rt:28:1
 returns-2 : tie.Need-returns-2
 returns-2 c =
     let law = c .before .before .before .before .before .before .before .before .before .before .before .before .before .before .before .before .before .pre in
