@@ -2,12 +2,11 @@
 -- Assumes nothing.
 use mathlib.Core.Path.{_≡_, refl, sym, ap, _∙_}
 use mathlib.Core.Logic.{_⊎_, inl, inr}
-use mathlib.Core.Bool.{Bool, true, false, cond, _||_}
-use mathlib.Core.List.{List, [], _∷_, _++_, append-assoc}
-use Prim.Native.Nat.{ℕ, zero, suc, _+_, _≤_, _<_}
+use mathlib.Core.Bool.{true, false, cond}
+use mathlib.Core.List.{List, _++_, append-assoc}
+use Prim.Native.Nat.{ℕ, zero, suc, _≤_, _<_}
 use native.Mathlib.Omega.{arith}
-use lib.Dec.{eqb, ltb}
-use lib.ListN.{length, getD, take, List·getD-append}
+use lib.ListN.{length, getD, List·getD-append}
 use borrow.Author.Tests.{le-ltb, leb-true, ne-eqb}
 use Rattle.base.specs.Lists.{In, upTo, each, eachList, written}
 use Rattle.base.proofs.Members.{getD-in, length-each, getD-each, eachList-each, eachList-in}
@@ -18,10 +17,10 @@ use Rattle.rules.specs.declared.Ranking.{Ranking}
 use Rattle.rules.specs.declared.Hit.{Hit}
 use Rattle.rules.specs.declared.Refusal.{Refusal}
 use Rattle.rules.specs.declared.RankedAnswer.the-variants.{Found, Refused}
-use Rattle.rules.specs.Numbers.{Told, firstGiven, telling, refusing, refusalNumber, rankedNumbers}
+use Rattle.rules.specs.Numbers.{Told, firstGiven, refusalNumber}
 use Rattle.rules.specs.Names.{name, textRefusal}
-use Rattle.rules.specs.Tables.{Table, stands, nameOf, tableRefusal}
-use Rattle.rules.specs.Questions.{rankedList, rankingLawful, rankedRefusal, rankedTold}
+use Rattle.rules.specs.Tables.{Table, nameOf, tableRefusal}
+use Rattle.rules.specs.Questions.{rankedList, rankingLawful, rankedRefusal}
 use Rattle.rules.specs.Indexes.{Index, setLawful}
 use Rattle.rules.proofs.Lawful.{lawful, taken, set-parts}
 use Rattle.rules.proofs.Outcomes.{refusal-some}

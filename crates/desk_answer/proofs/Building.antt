@@ -1,12 +1,11 @@
 -- Building into the program's rooms: 64 stands always fit, so only the table can be refused, and checking accepts what was built.
 -- Assumes nothing.
-use mathlib.Core.Path.{_≡_, refl, sym, ap, _∙_}
+use mathlib.Core.Path.{_≡_, ap}
 use mathlib.Core.Logic.{_⊎_, inl, inr}
-use mathlib.Core.Bool.{Bool, true, false, cond, _||_}
+use mathlib.Core.Bool.{true, false, cond}
 use mathlib.Core.List.{List}
-use Prim.Native.Nat.{ℕ, zero, suc, _+_, _*_, _≤_, _<_}
+use Prim.Native.Nat.{ℕ, _*_, _≤_, _<_}
 use native.Mathlib.Omega.{arith}
-use lib.Dec.{eqb, ltb}
 use lib.ListN.{length}
 use borrow.Author.Tests.{le-ltb, ne-eqb, eq-eqb}
 use Rattle.base.proofs.Tests.{which, le-or-lt}
@@ -15,7 +14,7 @@ use Rattle.rules.specs.declared.Ranking.{Ranking}
 use Rattle.rules.specs.declared.Refusal.{Refusal}
 use Rattle.rules.specs.declared.Built.the-variants as built
 use Rattle.rules.specs.declared.Checked.the-variants as checked
-use Rattle.rules.specs.Numbers.{firstGiven, BuildTold, CheckTold, refusalNumber, checkedNumbers}
+use Rattle.rules.specs.Numbers.{BuildTold, CheckTold, refusalNumber, checkedNumbers}
 use Rattle.rules.specs.Tables.{Table, stands, tableRefusal}
 use Rattle.rules.specs.Questions.{rankedRefusal}
 use Rattle.rules.specs.Indexes.{Index, nodeCount, entryCount, tooSmall, buildRefusal, buildTold, setLawful, checkTold}

@@ -1,11 +1,11 @@
 -- The hits are put one behind the other: Listing is the invariant of that loop.
 -- Assumes nothing.
-use mathlib.Core.Path.{_≡_, refl, sym, ap, _∙_}
+use mathlib.Core.Path.{_≡_, sym, ap, _∙_}
 use mathlib.Core.List.{List, [], _∷_, _++_, append-nil}
-use Prim.Native.Nat.{ℕ, suc, _+_, _*_, _≤_, _<_}
+use Prim.Native.Nat.{ℕ, _+_, _*_, _≤_, _<_}
 use native.Mathlib.Numerals.{add-one}
 use native.Mathlib.Omega.{arith}
-use lib.ListN.{length, take, getD}
+use lib.ListN.{take, getD}
 use Rattle.base.specs.Lists.{upTo, eachList}
 use Rattle.base.proofs.Members.{eachList-append}
 use Rattle.base.proofs.Runs.{upTo-suc}

@@ -1,12 +1,9 @@
 -- From what reading an input promises to what is printed: the parts that are handed to the finder are those of the input's record.
 -- Assumes nothing.
 use mathlib.Core.Path.{_≡_, refl, sym, ap, _∙_}
-use mathlib.Core.Logic.{_⊎_, inl, inr, ⊎-elim}
-use mathlib.Core.List.{List, [], _∷_, _++_, append-assoc}
-use Prim.Native.Nat.{ℕ, suc, _+_, _-_, _≤_}
-use native.Mathlib.Numerals.{add-one}
+use mathlib.Core.List.{List, _++_, append-assoc}
+use Prim.Native.Nat.{ℕ, _+_, _-_, _≤_}
 use native.Mathlib.Omega.{arith}
-use lib.IntN.{ℤ}
 use lib.ListN.{length, take, drop, length-append, length-take}
 use lib.Seq.{length-take-le, take-append-seam, drop-append-seam}
 use Rattle.base.specs.Lists.{each, eachList}
@@ -23,7 +20,7 @@ use Rattle.desk_form.specs.Form.{StandLines, Input, gridText, standText, questi
 use Rattle.desk_form.specs.Columns.{namesOf, startsFrom, tableFrom, laid, laidTable, textAt}
 use Rattle.desk_form.specs.Answers.{readingOf, ReadsInput}
 use Rattle.desk_form.specs.Reads.{readInput}
-use Rattle.desk_form.specs.Printed.{printedRefusal, replyTo, outputOf, Prints}
+use Rattle.desk_form.specs.Printed.{printedRefusal, replyTo, outputOf}
 use Rattle.desk_form.specs.declared.Reading.the-variants.{Of, Refused}
 use Rattle.desk_form.proofs.Inputs.{read-back, read-sound}
 use Rattle.desk_form.proofs.Layouts.{length-starts, same-table}
