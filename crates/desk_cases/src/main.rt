@@ -73,199 +73,180 @@ fn print_case(name: &[u8], head: &[u8], lines: &[u8], times: usize, tail: &[u8])
     print_answer(&input, at);
 }
 
-// The small scheme with one part changed: its opening, its stands or its question.
-fn print_scheme(name: &[u8], opening: &[u8], stands: &[u8], question: &[u8]) {
-    print_case(name, opening, stands, 1, question);
+// An input with this line in its place; the line names the case.
+fn print_line(before: &[u8], line: &[u8], after: &[u8]) {
+    print_case(line, before, line, 1, after);
 }
 
-fn print_opening(name: &[u8], opening: &[u8]) {
-    print_scheme(
-        name,
-        opening,
-        b"name=kibo\neast=5\nnorth=5\nscore=100\n",
-        b"text=ki\neast=5\nnorth=5\nweight=8\nk=2\n",
-    );
-}
-
-fn print_stands(name: &[u8], stands: &[u8]) {
-    print_scheme(
-        name,
-        b"west=0\nsouth=0\ncell=10\nstands=2\n",
-        stands,
-        b"text=ki\neast=5\nnorth=5\nweight=8\nk=2\n",
-    );
-}
-
-fn print_question(name: &[u8], question: &[u8]) {
-    print_scheme(
-        name,
-        b"west=0\nsouth=0\ncell=10\nstands=5\n",
-        b"name=kibo\neast=5\nnorth=5\nscore=100\nname=kibo\neast=75\nnorth=75\nscore=900\nname=kibori\neast=12\nnorth=5\nscore=400\nname=kito\neast=9\nnorth=9\nscore=400\nname=mto\neast=10\nnorth=9\nscore=0\n",
-        question,
-    );
-}
-
-// Lines that are not of the form.
-fn print_malformed() {
-    print_case(b"no byte", b"", b"", 0, b"");
-    print_case(b"no line", b"\x00\xff", b"\x80", 3, b"");
-    print_opening(b"a leading zero", b"west=0\nsouth=0\ncell=010\nstands=1\n");
-    print_opening(b"minus zero", b"west=-0\nsouth=0\ncell=10\nstands=1\n");
-    print_opening(b"a plus sign", b"west=+1\nsouth=0\ncell=10\nstands=1\n");
-    print_opening(b"no digit", b"west=-\nsouth=0\ncell=10\nstands=1\n");
-    print_opening(b"no value", b"west=\nsouth=0\ncell=10\nstands=1\n");
-    print_opening(b"a space", b"west=0\nsouth=0 \ncell=10\nstands=1\n");
-    print_opening(
-        b"a carriage return",
-        b"west=0\r\nsouth=0\ncell=10\nstands=1\n",
-    );
-    print_opening(b"33 bits", b"west=2147483648\nsouth=0\ncell=10\nstands=1\n");
-    print_opening(
-        b"33 bits below zero",
-        b"west=0\nsouth=-2147483649\ncell=10\nstands=1\n",
-    );
-    print_opening(b"17 bits", b"west=0\nsouth=0\ncell=65536\nstands=1\n");
-    print_opening(b"another key", b"West=0\nsouth=0\ncell=10\nstands=1\n");
-    print_opening(b"another order", b"south=0\nwest=0\ncell=10\nstands=1\n");
-    print_opening(
-        b"a stand less than said",
-        b"west=0\nsouth=0\ncell=10\nstands=2\n",
-    );
-    print_opening(
-        b"a stand more than said",
-        b"west=0\nsouth=0\ncell=10\nstands=0\n",
-    );
-    print_question(
-        b"no last line feed",
-        b"text=ki\neast=5\nnorth=5\nweight=8\nk=2",
-    );
-    print_question(
-        b"an empty line more",
-        b"text=ki\neast=5\nnorth=5\nweight=8\nk=2\n\n",
-    );
-    print_question(
-        b"a line more",
-        b"text=ki\neast=5\nnorth=5\nweight=8\nk=2\nk=2\n",
-    );
-    print_question(
-        b"before all others",
-        b"text=KI\neast=80\nnorth=5\nweight=17\nk=02\n",
-    );
-}
-
-// Inputs of the form that the finder refuses, each kind in the order of the numbers.
-fn print_refused() {
-    print_opening(b"no cell", b"west=0\nsouth=0\ncell=0\nstands=1\n");
-    print_opening(
-        b"a cell too wide",
-        b"west=0\nsouth=0\ncell=8193\nstands=1\n",
-    );
-    print_opening(
-        b"an edge too far west",
-        b"west=-1000001\nsouth=0\ncell=10\nstands=1\n",
-    );
-    print_opening(
-        b"32 bits",
-        b"west=-2147483648\nsouth=2147483647\ncell=65535\nstands=1\n",
-    );
-    print_stands(
-        b"no name",
-        b"name=\neast=5\nnorth=5\nscore=0\nname=kito\neast=5\nnorth=5\nscore=0\n",
-    );
-    print_stands(
-        b"a capital",
-        b"name=Kibo\neast=5\nnorth=5\nscore=0\nname=kito\neast=5\nnorth=5\nscore=0\n",
-    );
-    print_stands(
-        b"a name like a line",
-        b"name=name=a\neast=5\nnorth=5\nscore=0\nname=kito\neast=5\nnorth=5\nscore=0\n",
-    );
-    print_stands(
-        b"a name of 25",
-        b"name=aaaaaaaaaaaaaaaaaaaaaaaaa\neast=5\nnorth=5\nscore=0\nname=kito\neast=5\nnorth=5\nscore=0\n",
-    );
-    print_stands(
-        b"out of order",
-        b"name=kito\neast=5\nnorth=5\nscore=0\nname=kibo\neast=5\nnorth=5\nscore=0\n",
-    );
-    print_stands(
-        b"off the grid",
-        b"name=kibo\neast=80\nnorth=5\nscore=0\nname=kito\neast=5\nnorth=5\nscore=0\n",
-    );
-    print_stands(
-        b"a score too high",
-        b"name=kibo\neast=5\nnorth=5\nscore=1001\nname=kito\neast=5\nnorth=5\nscore=0\n",
-    );
-    print_question(b"a text byte", b"text=k!\neast=5\nnorth=5\nweight=8\nk=2\n");
-    print_question(
-        b"a text of 25",
-        b"text=AAAAAAAAAAAAAAAAAAAAAAAAA\neast=80\nnorth=5\nweight=17\nk=0\n",
-    );
-    print_question(
-        b"a place off the grid",
-        b"text=ki\neast=80\nnorth=79\nweight=8\nk=2\n",
-    );
-    print_question(
-        b"a weight too large",
-        b"text=ki\neast=5\nnorth=5\nweight=17\nk=2\n",
-    );
-    print_question(
-        b"none asked for",
-        b"text=ki\neast=5\nnorth=5\nweight=8\nk=0\n",
-    );
-    print_question(
-        b"17 asked for",
-        b"text=ki\neast=5\nnorth=5\nweight=8\nk=17\n",
-    );
-}
-
-// What is answered, up to the limits.
-fn print_found() {
-    print_question(
-        b"ties by number",
-        b"text=ki\neast=5\nnorth=5\nweight=16\nk=2\n",
-    );
-    print_question(b"no text", b"text=\neast=5\nnorth=5\nweight=0\nk=16\n");
-    print_question(
-        b"the last place",
-        b"text=m\neast=79\nnorth=79\nweight=16\nk=1\n",
-    );
-    print_question(
-        b"nothing begins so",
-        b"text=kiz\neast=5\nnorth=5\nweight=8\nk=2\n",
-    );
-    print_case(
-        b"no stand",
-        b"west=0\nsouth=0\ncell=10\nstands=0\n",
+fn print_west(line: &[u8]) {
+    print_line(
         b"",
-        0,
-        b"text=\neast=5\nnorth=5\nweight=8\nk=2\n",
-    );
-    print_case(
-        b"the largest value",
-        b"west=-1000000\nsouth=1000000\ncell=8192\nstands=1\n",
-        b"name=a name of 24 bytes 01234\neast=-934465\nnorth=1065535\nscore=1000\n",
-        1,
-        b"text=a name\neast=-934465\nnorth=1065535\nweight=16\nk=16\n",
-    );
-    print_case(
-        b"64 stands",
-        b"west=0\nsouth=0\ncell=1\nstands=64\n",
-        b"name=a\neast=7\nnorth=7\nscore=1000\n",
-        64,
-        b"text=a\neast=0\nnorth=0\nweight=1\nk=16\n",
-    );
-    print_case(
-        b"65 stands",
-        b"west=0\nsouth=0\ncell=1\nstands=65\n",
-        b"name=a\neast=7\nnorth=7\nscore=1000\n",
-        65,
-        b"text=a\neast=0\nnorth=0\nweight=1\nk=16\n",
+        line,
+        b"\nsouth=0\ncell=10\nstands=0\ntext=\neast=5\nnorth=5\nweight=8\nk=2\n",
     );
 }
 
-// Of 16,384 bytes all but 65 are the text's.
-fn print_long() {
+fn print_cell(line: &[u8]) {
+    print_line(
+        b"west=0\nsouth=0\n",
+        line,
+        b"\nstands=0\ntext=\neast=5\nnorth=5\nweight=8\nk=2\n",
+    );
+}
+
+// One stand follows.
+fn print_stands(line: &[u8]) {
+    print_line(
+        b"west=0\nsouth=0\ncell=10\n",
+        line,
+        b"\nname=kibo\neast=5\nnorth=5\nscore=100\ntext=\neast=5\nnorth=5\nweight=8\nk=2\n",
+    );
+}
+
+// The first of two stands; the other one's name is kito.
+fn print_name(line: &[u8]) {
+    print_line(
+        b"west=0\nsouth=0\ncell=10\nstands=2\n",
+        line,
+        b"\neast=5\nnorth=5\nscore=100\nname=kito\neast=9\nnorth=9\nscore=400\ntext=ki\neast=5\nnorth=5\nweight=8\nk=2\n",
+    );
+}
+
+fn print_east(line: &[u8]) {
+    print_line(
+        b"west=0\nsouth=0\ncell=10\nstands=1\nname=kibo\n",
+        line,
+        b"\nnorth=5\nscore=100\ntext=ki\neast=5\nnorth=5\nweight=8\nk=2\n",
+    );
+}
+
+fn print_score(line: &[u8]) {
+    print_line(
+        b"west=0\nsouth=0\ncell=10\nstands=1\nname=kibo\neast=5\nnorth=5\n",
+        line,
+        b"\ntext=ki\neast=5\nnorth=5\nweight=16\nk=2\n",
+    );
+}
+
+// A question on a stand.
+fn print_text(line: &[u8]) {
+    print_line(
+        b"west=0\nsouth=0\ncell=10\nstands=1\nname=kibo\neast=5\nnorth=5\nscore=100\n",
+        line,
+        b"\neast=5\nnorth=5\nweight=8\nk=2\n",
+    );
+}
+
+// The question's last lines.
+fn print_asked(lines: &[u8]) {
+    print_line(
+        b"west=0\nsouth=0\ncell=10\nstands=1\nname=kibo\neast=5\nnorth=5\nscore=100\ntext=ki\n",
+        lines,
+        b"\n",
+    );
+}
+
+// Numbers, as they are written.
+fn print_numbers() {
+    print_west(b"west=-0");
+    print_west(b"west=00");
+    print_west(b"west=+1");
+    print_west(b"west=-");
+    print_west(b"west=");
+    print_west(b"west=0 ");
+    print_west(b"West=0");
+}
+
+// And their ranges, then the grid's.
+fn print_grids() {
+    print_west(b"west=2147483648");
+    print_west(b"west=-2147483649");
+    print_west(b"west=2147483647");
+    print_west(b"west=-1000001");
+    print_west(b"west=-1000000");
+    print_west(b"west=-1");
+    print_cell(b"cell=65536");
+    print_cell(b"cell=65535");
+    print_cell(b"cell=8193");
+    print_cell(b"cell=8192");
+    print_cell(b"cell=0");
+}
+
+fn print_names() {
+    print_name(b"name=");
+    print_name(b"name=Kibo");
+    print_name(b"name=name=kibo");
+    print_name(b"name=kiaaaaaaaaaaaaaaaaaaaaaaa");
+    print_name(b"name=kiaaaaaaaaaaaaaaaaaaaaaa");
+    print_name(b"name=kito a");
+    print_name(b"name=kito");
+}
+
+fn print_columns() {
+    print_stands(b"stands=0");
+    print_stands(b"stands=2");
+    print_stands(b"stands=1");
+    print_east(b"east=80");
+    print_east(b"east=-1");
+    print_east(b"east=79");
+    print_score(b"score=1001");
+    print_score(b"score=1000");
+}
+
+fn print_texts() {
+    print_text(b"text=k!");
+    print_text(b"text=aaaaaaaaaaaaaaaaaaaaaaaa!");
+    print_text(b"text=aaaaaaaaaaaaaaaaaaaaaaaa");
+    print_text(b"text=");
+}
+
+fn print_questions() {
+    print_asked(b"east=80\nnorth=79\nweight=8\nk=2");
+    print_asked(b"east=79\nnorth=79\nweight=0\nk=16");
+    print_asked(b"east=5\nnorth=5\nweight=17\nk=2");
+    print_asked(b"east=5\nnorth=5\nweight=8\nk=0");
+    print_asked(b"east=5\nnorth=5\nweight=8\nk=17");
+    print_asked(b"east=5\nnorth=5\nweight=8\nk=02");
+    print_asked(b"east=5\nnorth=5\nweight=8\nk=2\nk=2");
+    print_asked(b"north=5\neast=5\nweight=8\nk=2");
+}
+
+// Inputs that two refusals fit.
+fn print_firsts() {
+    print_case(
+        b"2 before 9",
+        b"west=0\nsouth=0\ncell=0\nstands=0\ntext=",
+        b"a",
+        25,
+        b"\neast=5\nnorth=5\nweight=8\nk=2\n",
+    );
+    print_case(
+        b"9 before 8",
+        b"west=0\nsouth=0\ncell=10\nstands=0\ntext=",
+        b"!",
+        25,
+        b"\neast=5\nnorth=5\nweight=8\nk=2\n",
+    );
+    print_case(
+        b"8 before 12",
+        b"west=0\nsouth=0\ncell=10\nstands=0\ntext=",
+        b"!",
+        1,
+        b"\neast=5\nnorth=5\nweight=8\nk=0\n",
+    );
+    print_case(
+        b"14, for want of the last line feed, before 2",
+        b"west=0\nsouth=0\ncell=0\nstands=0\ntext=",
+        b"a",
+        1,
+        b"\neast=5\nnorth=5\nweight=8\nk=2",
+    );
+}
+
+// How many bytes there may be: of 16,384 all but 65 are the text's.
+fn print_bytes() {
+    print_case(b"no byte", b"", b"", 0, b"");
+    print_case(b"bytes that are no line", b"\x00\xff", b"\x80", 3, b"");
     print_case(
         b"16384 bytes",
         b"west=0\nsouth=0\ncell=1\nstands=0\ntext=",
@@ -282,9 +263,32 @@ fn print_long() {
     );
 }
 
+// And how many stands.
+fn print_tables() {
+    print_case(
+        b"64 stands",
+        b"west=0\nsouth=0\ncell=1\nstands=64\n",
+        b"name=a\neast=7\nnorth=7\nscore=1000\n",
+        64,
+        b"text=a\neast=0\nnorth=0\nweight=1\nk=16\n",
+    );
+    print_case(
+        b"65 stands",
+        b"west=0\nsouth=0\ncell=1\nstands=65\n",
+        b"name=a\neast=7\nnorth=7\nscore=1000\n",
+        65,
+        b"text=a\neast=0\nnorth=0\nweight=1\nk=16\n",
+    );
+}
+
 fn main() {
-    print_malformed();
-    print_refused();
-    print_found();
-    print_long();
+    print_numbers();
+    print_grids();
+    print_names();
+    print_columns();
+    print_texts();
+    print_questions();
+    print_firsts();
+    print_bytes();
+    print_tables();
 }
