@@ -1,10 +1,10 @@
--- `columns::lay_name` copies byte by byte: the invariant is Copying.
+-- `columns::lay_bytes` copies byte by byte: the invariant is Copying.
 -- Assumes nothing.
 use Prim.Native.Nat.{_-_}
 use borrow.Author.Needs.{needs}
 use Rattle.desk_form.proofs.Copies.{Copying, copy-none, copy-one, copy-all}
-use Rattle.desk_form.proofs.columns.lay_name.Statement.{statement}
-use Rattle.desk_form.proofs.columns.lay_name.Tie as tie
+use Rattle.desk_form.proofs.columns.lay_bytes.Statement.{statement}
+use Rattle.desk_form.proofs.columns.lay_bytes.Tie as tie
 
 abbrev Inv-loop : tie.InvT-loop
 Inv-loop text₀ to input from past i₀ text i = Copying text₀ to input from past text i
@@ -58,8 +58,8 @@ same-length c = search needs
 returns : tie.Need-returns Inv-loop μ-loop
 returns c = copy-all _ _ _ _ _ _ _ (c .loop-test .left) (c .before .loop .inv)
 
-pub lay-name-spec : {M : Type 1} → statement M
-lay-name-spec =
+pub lay-bytes-spec : {M : Type 1} → statement M
+lay-bytes-spec =
     tie.close
     (tie.spec
     Inv-loop
