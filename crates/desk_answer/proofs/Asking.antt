@@ -26,8 +26,8 @@ use Rattle.rules.proofs.Lawful.{lawful, taken, set-parts}
 use Rattle.rules.proofs.Outcomes.{refusal-some}
 use Rattle.trie.specs.Meaning.{noHit}
 use Rattle.trie.proofs.Meaning.{table-means}
-use Rattle.ranked_means.specs.Promises.{Exact, tooShort}
-use Rattle.ranked_means.proofs.Told.{told-refused, told-list}
+use Rattle.ranked.specs.Promises.{Exact, tooShort}
+use Rattle.ranked.proofs.Told.{told-refused, told-list}
 use Rattle.desk_line.specs.Writing.{ascii, decimalOf, line}
 use Rattle.desk_form.specs.Printed.{printedRefusal, printedHit, printedHits, replyTo}
 use Rattle.desk_answer.specs.Puts.{lineOf, hitLines, hitsTo, foundLines, Listed}

@@ -23,7 +23,7 @@ use Rattle.rules.proofs.Outcomes.{refusal-some}
 use Rattle.trie.proofs.Sizes.{sizes-bounded}
 use Rattle.index.specs.Promises.{BuildPromise}
 use Rattle.index.proofs.Outcomes.{build-then-check}
-use Rattle.ranked_means.proofs.Told.{first-given}
+use Rattle.ranked.proofs.Told.{first-given}
 use Rattle.desk_form.specs.Printed.{printedRefusal, replyTo}
 
 -- the sizes of the program's rooms

@@ -8,7 +8,7 @@ use crate::hits::put_hits;
 use crate::lines::put_refusal;
 use index::build;
 use index::check;
-use ranked_means::ranked;
+use ranked::ranked;
 use rules::Built;
 use rules::Checked;
 use rules::Grid;
