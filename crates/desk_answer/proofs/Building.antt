@@ -26,11 +26,11 @@ use Rattle.index.proofs.Outcomes.{build-then-check}
 use Rattle.ranked.proofs.Told.{first-given}
 use Rattle.desk_form.specs.Printed.{printedRefusal, replyTo}
 
--- the sizes of the program's rooms
+-- the program's rooms have at least so many words
 pub record Rooms (x : Index) : Type 0 where
-  pub order : length (x .order) ≡ 64
-  pub nodes : length (x .nodes) ≡ 12296
-  pub entries : length (x .entries) ≡ 6400
+  pub order : 64 ≤ length (x .order)
+  pub nodes : 12296 ≤ length (x .nodes)
+  pub entries : 6400 ≤ length (x .entries)
 
 module _ (t : Table) (g : Grid) where
   reply-first : (p : List ℕ) (q : Ranking) → 0 < tableRefusal t g → printedRefusal (tableRefusal t g) ≡ replyTo t g p q

@@ -1,6 +1,7 @@
 -- From what reading an input promises to what is printed: the parts that are handed to the finder are those of the input's record.
 -- Assumes nothing.
 use mathlib.Core.Path.{_≡_, refl, sym, ap, _∙_}
+use mathlib.Core.Logic.{_⊎_, inl, inr}
 use mathlib.Core.List.{List, _++_, append-assoc}
 use Prim.Native.Nat.{ℕ, _+_, _-_, _≤_}
 use native.Mathlib.Omega.{arith}
@@ -26,6 +27,17 @@ use Rattle.desk_form.proofs.Inputs.{read-back, read-sound}
 use Rattle.desk_form.proofs.Layouts.{length-starts, same-table}
 use Rattle.desk_answer.specs.Puts.{Puts}
 use Rattle.desk_answer.specs.Promises.{Answers}
+
+-- any input is of the form, or is not
+abbrev pub OfForm : List ℕ → Type 0
+OfForm input = (r : Input) × InRanges r × (textOf r ≡ input)
+
+pub of-form-or-not : (input : List ℕ) → OfForm input ⊎ (OfForm input → ⊥)
+of-form-or-not input = step (readInput input) refl
+  where
+    step : (f : Found Input) → readInput input ≡ f → OfForm input ⊎ (OfForm input → ⊥)
+    step (found r rest) e = let s = read-sound input r rest e in inl (r, s .0, s .1)
+    step nothing e = inr (λ f. lost (sym e ∙ ap readInput (sym (f .2)) ∙ read-back (f .0) (f .1)))
 
 -- the first n of a list are these
 pub record Front {A : Type 0} (n : ℕ) (l w : List A) : Type 0 where
@@ -92,15 +104,14 @@ module _ (input : List ℕ) (rooms after : Table) (stands bytes : ℕ) (grid : G
 
   -- an input that was read has a record
   pub parts-read : ReadsInput input rooms (Of stands bytes grid from past ranking) after → (r : Input) × Parts input after stands bytes from past (tableFrom (r .stands)) (r .text)
-  parts-read reads = step (readInput input) refl
+  parts-read reads = step (of-form-or-not input)
     where
-      step : (f : Found Input) → readInput input ≡ f → (r : Input) × Parts input after stands bytes from past (tableFrom (r .stands)) (r .text)
-      step (found r rest) e =
-          let s = read-sound input r rest e in
-          let a = reads .of-form r (s .0) (s .1) in
-          (r, parts r (s .0) (s .1) (a .0) (a .1))
-      step nothing e =
-          let none : Of stands bytes grid from past ranking ≡ Refused _ = reads .other (λ r h t. lost (sym e ∙ ap readInput (sym t) ∙ read-back r h)) in
+      step : OfForm input ⊎ (OfForm input → ⊥) → (r : Input) × Parts input after stands bytes from past (tableFrom (r .stands)) (r .text)
+      step (inl f) =
+          let a = reads .of-form (f .0) (f .1) (f .2) in
+          (f .0, parts (f .0) (f .1) (f .2) (a .0) (a .1))
+      step (inr n) =
+          let none : Of stands bytes grid from past ranking ≡ Refused _ = reads .other (λ r h t. n (r, h, t)) in
           let z : _≡_ {A = ℕ} 0 1 = cc in
           absurd (omega arith)
 

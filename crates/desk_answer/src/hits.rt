@@ -3,6 +3,7 @@ use crate::HITS_MOST;
 use crate::OUTPUT_MOST;
 use crate::lines::put_hit;
 use crate::lines::put_number;
+use rules::Stand;
 ghost use Rattle.desk_answer.specs.Puts.{Puts, Listed, foundLines};
 
 // How many hits there are, then each.
@@ -20,7 +21,7 @@ pub fn put_hits(
     let mut at = put_number(out, 0, b"found=", count as u64);
     let mut i = 0;
     while i < count {
-        at = put_hit(out, at, text, starts, found[i], values[i]);
+        at = put_hit(out, at, text, starts, Stand(found[i]), values[i]);
         i += 1;
     }
     at

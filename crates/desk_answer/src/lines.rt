@@ -46,14 +46,14 @@ pub fn put_hit(
     at: usize,
     text: &[u8],
     starts: &[u32],
-    stand: u32,
+    stand: Stand,
     value: u64,
 ) -> usize
-    requires { ⌜ (at + 96 ≤ 2048) × (length (name (now text) (now starts) stand) ≤ 24) ⌝ }
-    ensures { λ r. ⌜ Puts (hitLines (now (text .entry)) (now (starts .entry)) stand value) 96 (now (out .entry)) at (now (out .exit)) r ⌝ }
+    requires { ⌜ (at + 96 ≤ 2048) × (length (name (now text) (now starts) (stand .0)) ≤ 24) ⌝ }
+    ensures { λ r. ⌜ Puts (hitLines (now (text .entry)) (now (starts .entry)) (stand .0) value) 96 (now (out .entry)) at (now (out .exit)) r ⌝ }
 {
-    let name = name_of(text, starts, Stand(stand));
-    let at = put_number(out, at, b"object=", stand as u64);
+    let name = name_of(text, starts, stand);
+    let at = put_number(out, at, b"object=", stand.0 as u64);
     let at = put_line(out, at, b"name=", name);
     put_number(out, at, b"value=", value)
 }

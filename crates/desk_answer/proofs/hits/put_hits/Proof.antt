@@ -20,19 +20,20 @@ put-number-requires : tie.Need-put-number-requires Inv-loop μ-loop
 put-number-requires c κs = search needs
 
 loop-holds : tie.Need-loop-holds Inv-loop μ-loop
-loop-holds c = none-listed _ _ _ _ _ _ _
+loop-holds c =
+    none-listed _ _ _ _ _ _ _
+
+mul-t16 : tie.Need-mul-t16 Inv-loop μ-loop
+mul-t16 c = search needs
+
+element-copy-out-t19 : tie.Need-element-copy-out-t19 Inv-loop μ-loop
+element-copy-out-t19 c = search needs
 
 mul-put-hit : tie.Need-mul-put-hit Inv-loop μ-loop
 mul-put-hit c = search needs
 
 element-copy-out-put-hit : tie.Need-element-copy-out-put-hit Inv-loop μ-loop
 element-copy-out-put-hit c = search needs
-
-mul-put-hit-2 : tie.Need-mul-put-hit-2 Inv-loop μ-loop
-mul-put-hit-2 c = search needs
-
-element-copy-out-put-hit-2 : tie.Need-element-copy-out-put-hit-2 Inv-loop μ-loop
-element-copy-out-put-hit-2 c = search needs
 
 put-hit-requires : tie.Need-put-hit-requires Inv-loop μ-loop
 put-hit-requires c κs =
@@ -48,10 +49,12 @@ loop-less : tie.Need-loop-less Inv-loop μ-loop
 loop-less c = search needs
 
 loop-again : tie.Need-loop-again Inv-loop μ-loop
-loop-again c = let a = c .before .before .before .before .before .before .before .before .before .before .before .args in listed-more (a .text .now) (a .starts .now) (a .found .now) (a .values .now) (c .before .before .before .before .loop-test .taken) (c .before .before .before .before .before .loop .inv) (c .put-hit .ensures)
+loop-again c =
+    let a = c .before .before .before .before .before .before .before .before .before .before .before .args in listed-more (a .text .now) (a .starts .now) (a .found .now) (a .values .now) (c .before .before .before .before .loop-test .taken) (c .before .before .before .before .before .loop .inv) (c .put-hit .ensures)
 
 returns : tie.Need-returns Inv-loop μ-loop
-returns c = let s = c .before .before .before .before .before .before .before in let a = s .args in all-listed (a .text .now) (a .starts .now) (a .found .now) (a .values .now) (s .pre .few) (c .loop-test .left) (c .before .before .put-number .ensures) (c .before .loop .inv)
+returns c =
+    let s = c .before .before .before .before .before .before .before in let a = s .args in all-listed (a .text .now) (a .starts .now) (a .found .now) (a .values .now) (s .pre .few) (c .loop-test .left) (c .before .before .put-number .ensures) (c .before .loop .inv)
 
 pub put-hits-spec : {M : Type 1} → statement M
 put-hits-spec =
@@ -62,10 +65,10 @@ put-hits-spec =
     slice-aggregate-put-number
     put-number-requires
     loop-holds
+    mul-t16
+    element-copy-out-t19
     mul-put-hit
     element-copy-out-put-hit
-    mul-put-hit-2
-    element-copy-out-put-hit-2
     put-hit-requires
     add-i
     loop-less

@@ -20,7 +20,7 @@ put-refusal-requires c κs = search needs
 returns : tie.Need-returns
 returns c =
     let a = c .before .before .before .before .before .before .before .before .before .before .before .before .before .args in
-    let rooms : Rooms (indexOf (a .order .now) (a .nodes .now) (a .entries .now)) = record { order = c .before .before .before .before .before .before .before .before .build-arg .given .0 .1; nodes = c .before .before .before .before .before .before .before .build-arg2 .given .0 .1; entries = c .before .before .before .before .before .before .build-arg3 .given .0 .1 } in
+    let rooms : Rooms (indexOf (a .order .now) (a .nodes .now) (a .entries .now)) = record { order = omega (arith, c .before .before .before .before .before .before .before .before .build-arg .given .0 .1); nodes = omega (arith, c .before .before .before .before .before .before .before .build-arg2 .given .0 .1); entries = omega (arith, c .before .before .before .before .before .before .build-arg3 .given .0 .1) } in
     within 1600 (omega arith) (rw (build-refused _ _ _ (c .before .before .before .before .before .before .before .before .before .before .before .before .before .pre) rooms (a .typed .now) (a .asked) _ _ (rw (c .before .before .before .built .given .1) at (c .before .before .before .before .before .build .ensures))) at (c .put-refusal .ensures))
 
 enum-told : tie.Need-enum-told
