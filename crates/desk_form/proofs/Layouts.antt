@@ -47,7 +47,7 @@ column f stands s room h = rw (each-snoc f stands s, ← length-each f stands) (
 names-snoc : (stands : List StandLines) (s : StandLines) → namesOf (stands ++ (s ∷ [])) ≡ namesOf stands ++ s .name
 names-snoc stands s = eachList-append (λ s. s .name) stands (s ∷ []) ∙ ap (λ m. namesOf stands ++ m) (append-nil (s .name))
 
-length-starts : (at : ℕ) (stands : List StandLines) → length (startsFrom at stands) ≡ suc (length stands)
+pub length-starts : (at : ℕ) (stands : List StandLines) → length (startsFrom at stands) ≡ suc (length stands)
 unfolding startsFrom
 length-starts at [] = refl
 length-starts at (s ∷ stands) = ap suc (length-starts (at + length (s .name)) stands)
@@ -59,7 +59,7 @@ starts-snoc at (t ∷ stands) s =
     let e : at + length (t .name) + length (namesOf stands) + length (s .name) ≡ at + length (t .name ++ namesOf stands) + length (s .name) = omega (arith, length-append (t .name) (namesOf stands)) in
     ap (λ m. at ∷ m) (starts-snoc (at + length (t .name)) stands s ∙ ap (λ k. startsFrom (at + length (t .name)) stands ++ (k ∷ [])) e)
 
-same-table : {text text′ starts starts′ score score′ : List ℕ} {east east′ north north′ : List ℤ} → text ≡ text′ → starts ≡ starts′ → east ≡ east′ → north ≡ north′ → score ≡ score′ → tableOf text starts east north score ≡ tableOf text′ starts′ east′ north′ score′
+pub same-table : {text text′ starts starts′ score score′ : List ℕ} {east east′ north north′ : List ℤ} → text ≡ text′ → starts ≡ starts′ → east ≡ east′ → north ≡ north′ → score ≡ score′ → tableOf text starts east north score ≡ tableOf text′ starts′ east′ north′ score′
 same-table a b c d e = rw (a, b, c, d, e)
 
 -- the whole table with one more stand

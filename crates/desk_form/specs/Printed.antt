@@ -7,6 +7,8 @@ use Prim.Native.Nat.{ℕ}
 use lib.Dec.{eqb}
 use lib.ListN.{length}
 use Rattle.base.specs.Lists.{eachList}
+use Rattle.rules.specs.declared.Grid.{Grid}
+use Rattle.rules.specs.declared.Ranking.{Ranking}
 use Rattle.rules.specs.declared.Hit.{Hit}
 use Rattle.rules.specs.Numbers.{firstGiven}
 use Rattle.rules.specs.Tables.{Table, nameOf, tableRefusal}
@@ -24,12 +26,15 @@ printedHit t h = line "object=" (decimalOf (h .stand)) ++ line "name=" (nameOf t
 unfoldable pub printedHits : Table → List Hit → List ℕ
 printedHits t hits = line "found=" (decimalOf (length hits)) ++ eachList (printedHit t) hits
 
--- for an input of the form: what building refuses, then what the question does, or the best k of its stands
+-- what building refuses, then what the question does, or the best k of the stands
+unfoldable pub replyTo : Table → Grid → List ℕ → Ranking → List ℕ
+replyTo t g p q =
+    let refusal : ℕ = firstGiven (tableRefusal t g) (rankedRefusal g p q) in
+    cond (eqb refusal 0) (printedHits t (rankedList t g p q)) (printedRefusal refusal)
+
+-- for an input of the form
 unfoldable pub outputOf : Input → List ℕ
-outputOf r =
-    let t : Table = tableFrom (r .stands) in
-    let refusal : ℕ = firstGiven (tableRefusal t (r .grid)) (rankedRefusal (r .grid) (r .text) (r .ranking)) in
-    cond (eqb refusal 0) (printedHits t (rankedList t (r .grid) (r .text) (r .ranking))) (printedRefusal refusal)
+outputOf r = replyTo (tableFrom (r .stands)) (r .grid) (r .text) (r .ranking)
 
 -- for any input: 14 comes before all others
 pub record Prints (input output : List ℕ) : Type 0 where

@@ -16,8 +16,8 @@ pub enum Stands {
     Malformed,
 }
 
-// Puts a part of the input at a place of the names.
-fn lay_name(text: &mut [u8], to: usize, input: &[u8], from: usize, past: usize)
+// Puts a part of some bytes at a place of a text, as a name's behind the names before it.
+pub fn lay_bytes(text: &mut [u8], to: usize, input: &[u8], from: usize, past: usize)
     requires { ⌜ (from ≤ past) × (past ≤ length (now input)) × (to + (past - from) ≤ length (now text)) ⌝ }
     ensures { λ _. ⌜ now (text .exit) ≡ paste (now (text .entry)) to (drop from (now (input .entry))) (past - from) ⌝ }
 {
@@ -78,7 +78,7 @@ pub fn read_stands(
         else {
             return Stands::Malformed;
         };
-        lay_name(text, bytes, input, from, past);
+        lay_bytes(text, bytes, input, from, past);
         bytes += past - from;
         lay_numbers(i, bytes as u32, x, y, value, starts, east, north, score);
         next = behind;

@@ -4,6 +4,7 @@ mod columns;
 mod group;
 
 use columns::Stands;
+pub use columns::lay_bytes;
 use columns::read_stands;
 use group::Opening;
 use group::Question;

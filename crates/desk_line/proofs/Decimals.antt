@@ -30,12 +30,12 @@ enough (suc r) (suc r′) n h k = step (λ q. enough r r′ (n / 10) (omega (ari
     step below (inr q) = rw (lt-ltb n 10 q)
 
 -- one digit
-small : (n : ℕ) → n < 10 → decimalOf n ≡ (48 + n) ∷ []
+pub small : (n : ℕ) → n < 10 → decimalOf n ≡ (48 + n) ∷ []
 unfolding decimalOf digitsOf
 small n h = rw (lt-ltb n 10 h)
 
 -- one digit more
-longer : (a d : ℕ) → 0 < a → d < 10 → decimalOf (a * 10 + d) ≡ decimalOf a ++ ((48 + d) ∷ [])
+pub longer : (a d : ℕ) → 0 < a → d < 10 → decimalOf (a * 10 + d) ≡ decimalOf a ++ ((48 + d) ∷ [])
 unfolding decimalOf digitsOf
 longer a d h k =
     let e : (a * 10 + d) / 10 ≡ a = omega arith in

@@ -16,7 +16,7 @@ use Rattle.rules.specs.Tables.{Table}
 use Rattle.rules.specs.Indexes.{Index}
 use Rattle.rules.specs.Sessions.{sessionOf, typeRefusal, lettersTyped, rubRefusal, lettersRubbed}
 use Rattle.range.specs.Promises as range
-use Rattle.ranked_means.specs.Promises as ranked
+use Rattle.ranked.specs.Promises as ranked
 use Rattle.session.specs.Promises.{TypePromise, RubPromise}
 use Rattle.typed.specs.Promises.{TypedRangePromise, TypedRankedPromise}
 

@@ -4,7 +4,7 @@ pub use grid::locate;
 pub use index::build;
 pub use index::check;
 pub use range::range;
-pub use ranked_means::ranked;
+pub use ranked::ranked;
 pub use rules::Built;
 pub use rules::Checked;
 pub use rules::Grid;

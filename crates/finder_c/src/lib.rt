@@ -8,7 +8,7 @@ ghost use Rattle.rules.specs.Indexes.{indexOf, checkTold};
 ghost use Rattle.rules.specs.Sessions.{freshSession};
 ghost use Rattle.index.specs.Promises.{BuildPromise};
 ghost use Rattle.range.specs.Promises.{RangePromise};
-ghost use Rattle.ranked_means.specs.Promises.{RankedPromise};
+ghost use Rattle.ranked.specs.Promises.{RankedPromise};
 ghost use Rattle.session.specs.Promises.{TypePromise, RubPromise};
 ghost use Rattle.typed.specs.Promises.{TypedRangePromise, TypedRankedPromise};
 ghost use Rattle.finder_c.specs.Told.{Tells, locatedTold, builtTold, checkedTold, foundTold, RestPart};

@@ -1,13 +1,14 @@
--- The two walks of `fill`: the first is lent the empty end of the room, so that it only counts; the second writes.
--- Assumes nothing.
-use mathlib.Core.Path.{_≡_, refl, sym, ap, _∙_, subst}
-use mathlib.Core.List.{List, [], _∷_, _++_}
-use Prim.Native.Nat.{ℕ, _-_, _≤_, _<_}
+-- The two walks of `fill`: the first counts and keeps what a small room holds; what it kept is put into the caller's room,
+-- or where that is not all of it a second walk writes. Assumes nothing.
+use mathlib.Core.Path.{_≡_, refl, sym, ap, _∙_}
+use mathlib.Core.List.{List, []}
+use Prim.Native.Nat.{ℕ, _≤_, _<_}
 use native.Mathlib.Omega.{arith}
 use lib.IntN.{ℤ}
-use lib.ListN.{length, take, drop, length-take}
+use lib.ListN.{length, take, drop}
+use lib.Seq.{take-at}
 use borrow.Author.Tests.{lt-ltb, le-ltb}
-use borrow.Rule.Slice.PartMut.{midOf, putMid, put-same}
+use Rattle.base.specs.Lists.{written}
 use Rattle.rules.specs.declared.Rect.{Rect}
 use Rattle.rules.specs.declared.RangeAnswer.{RangeAnswer}
 use Rattle.rules.specs.declared.RangeAnswer.the-variants.{Found, Refused}
@@ -15,47 +16,40 @@ use Rattle.rules.specs.declared.Refusal.the-variants.{RoomTooSmall}
 use Rattle.range.specs.declared.gather.Tally.{Tally}
 use Rattle.range.specs.declared.gather.Tally.the-variants.{Count, Broken}
 use Rattle.range.specs.Fetches.{Gathered, tallied, gathered, touched, Outcome, outcome, unlawful, filled}
-use Rattle.range.proofs.Gathers.{walk-size}
+use Rattle.range.proofs.Gathers.{hits, sets-written, walk-tally, walk-size, walk-counts}
 
-none-of : (l : List ℕ) → length l ≡ 0 → l ≡ []
-none-of [] h = refl
-none-of (x ∷ l) h = absurd (omega arith)
+module _ (east north : List ℤ) (order firsts pasts regions : List ℕ) (rect : Rect) (room near₀ near : List ℕ) (t : Tally)
+    (counted : tallied t near ≡ gathered east north rect near₀ 0 (touched order firsts pasts regions)) where
+  abbrev seen : List ℕ
+  seen = touched order firsts pasts regions
 
--- the end of a room, past its last place
-abbrev pub endOf : List ℕ → List ℕ
-endOf room = midOf (length room) (length room - length room) room
+  count : gathered east north rect [] 0 seen .tally ≡ t
+  count = walk-tally east north rect seen [] near₀ 0 ∙ ap (λ (g : Gathered). g .tally) (sym counted)
 
-end-none : (room : List ℕ) → endOf room ≡ []
-end-none room = none-of (endOf room) (omega (arith, length-take (length room - length room) (drop (length room) room)))
-
--- the room with another end
-abbrev pub ended : List ℕ → List ℕ → List ℕ
-ended room end = putMid (length room) (length room - length room) room end
-
-module _ (east north : List ℤ) (order firsts pasts regions : List ℕ) (rect : Rect) (room end : List ℕ) (t : Tally)
-    (counted : tallied t end ≡ gathered east north rect (endOf room) 0 (touched order firsts pasts regions)) where
-  -- the first walk leaves the room as it was
-  kept : ended room end ≡ room
-  kept =
-      let size = ap (λ (g : Gathered). length (g .room)) counted ∙ walk-size east north rect (touched order firsts pasts regions) (endOf room) 0 in
-      let same : end ≡ endOf room = none-of end (size ∙ ap length (end-none room)) ∙ sym (end-none room) in
-      ap (ended room) same ∙ put-same (length room) (length room - length room) room
-
-  -- and counts
-  count : gathered east north rect [] 0 (touched order firsts pasts regions) .tally ≡ t
-  count = rw (end-none room) at (ap (λ (g : Gathered). g .tally) (sym counted))
-
-  pub fill-breaks : (a : RangeAnswer) → a ≡ unlawful → t ≡ Broken → outcome a (ended room end) ≡ filled east north order firsts pasts regions rect room
+  pub fill-breaks : (a : RangeAnswer) → a ≡ unlawful → t ≡ Broken → outcome a room ≡ filled east north order firsts pasts regions rect room
   unfolding filled
-  fill-breaks a u e = rw (count, e, u, kept)
+  fill-breaks a u e = rw (count, e, u)
 
-  pub fill-over : (m : ℕ) → t ≡ Count m → length (ended room end) < m → outcome (Refused RoomTooSmall m) (ended room end) ≡ filled east north order firsts pasts regions rect room
-  unfolding filled
-  fill-over m e h = rw (count, e, lt-ltb (length room) m (rw kept at h), kept)
+  module _ (m : ℕ) (e : t ≡ Count m) where
+    pub fill-over : length room < m → outcome (Refused RoomTooSmall m) room ≡ filled east north order firsts pasts regions rect room
+    unfolding filled
+    fill-over h = rw (count, e, lt-ltb (length room) m h)
 
-  pub fill-writes : (m : ℕ) → t ≡ Count m → m ≤ length (ended room end) → (r : Tally) (after : List ℕ) → tallied r after ≡ gathered east north rect (ended room end) 0 (touched order firsts pasts regions)
-      → outcome (Found m) after ≡ filled east north order firsts pasts regions rect room
-  unfolding filled
-  fill-writes m e h r after w =
-      let same : after ≡ gathered east north rect room 0 (touched order firsts pasts regions) .room = rw kept at (ap (λ (g : Gathered). g .room) w) in
-      rw (count, e, le-ltb (length room) m (rw kept at h), same)
+    module _ (h : m ≤ length room) where
+      pub fill-writes : (r : Tally) (after : List ℕ) → tallied r after ≡ gathered east north rect room 0 seen
+          → outcome (Found m) after ≡ filled east north order firsts pasts regions rect room
+      unfolding filled
+      fill-writes r after w = rw (count, e, le-ltb (length room) m h, ap (λ (g : Gathered). g .room) w)
+
+      -- all that was found was kept
+      pub fill-keeps : m ≤ length near → (after : List ℕ) → after ≡ written (take m near) room → outcome (Found m) after ≡ filled east north order firsts pasts regions rect room
+      unfolding filled
+      fill-keeps k after w =
+          let found = walk-counts east north rect seen [] 0 m (count ∙ e) in
+          let all : List ℕ = hits east north rect seen in
+          let many : length all ≡ m = omega (arith, found .0) in
+          let size : length near ≡ length near₀ = ap (λ (g : Gathered). length (g .room)) counted ∙ walk-size east north rect seen near₀ 0 in
+          let here : near ≡ written all near₀ = ap (λ (g : Gathered). g .room) counted ∙ found .1 near₀ ∙ sets-written all near₀ (omega arith) in
+          let kept : take m near ≡ all = ap (take m) here ∙ take-at all (drop (length all) near₀) m many in
+          let same : after ≡ gathered east north rect room 0 seen .room = w ∙ ap (λ (l : List ℕ). written l room) kept ∙ sym (found .1 room ∙ sets-written all room (omega arith)) in
+          rw (count, e, le-ltb (length room) m h, same)

@@ -8,15 +8,21 @@ use Prim.Native.Nat.{ℕ, suc, _+_, _≤_, _<_}
 use native.Mathlib.Omega.{arith}
 use lib.Dec.{ltb}
 use lib.IntN.{ℤ}
-use lib.ListN.{length, set, length-set}
-use lib.Seq.{sets}
+use lib.ListN.{length, drop, set, length-set}
+use lib.Seq.{sets, sets-eq}
 use borrow.Author.Tests.{lt-ltb, le-ltb}
-use Rattle.base.specs.Lists.{keep, In}
+use Rattle.base.specs.Lists.{keep, In, written}
 use Rattle.base.proofs.Tests.{which, le-or-lt}
 use Rattle.rules.specs.declared.Rect.{Rect}
 use Rattle.range.specs.declared.gather.Tally.{Tally}
 use Rattle.range.specs.declared.gather.Tally.the-variants.{Count, Broken}
 use Rattle.range.specs.Fetches.{inside, Gathered, tallied, gathered}
+
+-- the room after as many as fit are written at its start
+pub sets-written : (words room : List ℕ) → length words ≤ length room → sets room 0 words ≡ written words room
+sets-written words room h =
+    let z : 0 + length words ≡ length words = omega arith in
+    sets-eq words room 0 (omega arith) ∙ ap (λ (k : ℕ). words ++ drop k room) z
 
 module _ (east north : List ℤ) (rect : Rect) where
   -- ---- one stand
@@ -85,6 +91,18 @@ module _ (east north : List ℤ) (rect : Rect) where
       step (off h) below = rw (le-ltb s (length east) h)
       step (hit h e) below = rw (lt-ltb s (length east) h, e) (below (set room n s) (suc n) ∙ length-set room n s)
       step (miss h e) below = rw (lt-ltb s (length east) h, e) (below room n)
+
+  -- what is counted does not hang on the room
+  pub walk-tally : (l room other : List ℕ) (n : ℕ) → gathered east north rect room n l .tally ≡ gathered east north rect other n l .tally
+  unfolding gathered
+  walk-tally [] room other n = refl
+  walk-tally (s ∷ l) room other n = step (first s) (walk-tally l)
+    where
+      step : First s → ((room other : List ℕ) (n : ℕ) → gathered east north rect room n l .tally ≡ gathered east north rect other n l .tally)
+          → gathered east north rect room n (s ∷ l) .tally ≡ gathered east north rect other n (s ∷ l) .tally
+      step (off h) below = rw (le-ltb s (length east) h)
+      step (hit h e) below = rw (lt-ltb s (length east) h, e) (below (set room n s) (set other n s) (suc n))
+      step (miss h e) below = rw (lt-ltb s (length east) h, e) (below room other n)
 
   -- stands of the table are counted, and written as far as the room goes
   pub walk-whole : (l room : List ℕ) (n : ℕ) → ((s : ℕ) → In s l → s < length east) → gathered east north rect room n l ≡ tallied (Count (n + length (hits l))) (sets room n (hits l))

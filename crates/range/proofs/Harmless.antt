@@ -28,13 +28,7 @@ use Rattle.range.specs.declared.gather.Tally.the-variants.{Count, Broken
 use Rattle.range.specs.Fetches.{Notes, gathered, touched, agree, Outcome, outcome, byCount, filled, notesIn, fetchedBy, fetched}
 use Rattle.range.specs.Promises.{Harmless}
 use Rattle.range.specs.Promises.Harmless.{noticed, over, found}
-use Rattle.range.proofs.Gathers.{walk-counts, hits}
-
--- the room after as many as fit are written at its start
-pub sets-written : (words room : List ℕ) → length words ≤ length room → sets room 0 words ≡ written words room
-sets-written words room h =
-    let z : 0 + length words ≡ length words = omega arith in
-    sets-eq words room 0 (omega arith) ∙ ap (λ (k : ℕ). words ++ drop k room) z
+use Rattle.range.proofs.Gathers.{sets-written, walk-counts, hits}
 
 module _ (p : List ℕ) (rect : Rect) (passed : rangeRefusal p rect ≡ 0) (room : List ℕ) where
   -- an outcome is harmless

@@ -8,7 +8,7 @@ use Prim.Native.Nat.{ℕ, suc, _+_, _-_, _*_, _/_, _≤_, _<_}
 use native.Mathlib.Omega.{arith}
 use lib.Dec.{ltb}
 use lib.ListN.{length, getD, take, drop, length-replicate}
-use lib.Seq.{slice, sets, sets-eq}
+use lib.Seq.{slice, sets}
 use borrow.Author.Tests.{lt-ltb, le-ltb, ltb-true, ltb-false, eqb-true, le-leb}
 use Rattle.base.specs.Lists.{upTo, keep, each, eachList, written, begins, In}
 use Rattle.base.proofs.Tests.{which, never, every-of}
@@ -40,7 +40,7 @@ use Rattle.walk.proofs.Listed.{listing-found}
 use Rattle.range.specs.declared.gather.Tally.the-variants.{Count}
 use Rattle.range.specs.Fetches.{Notes, notesOf, entryWord, gathered, tallied, runOf, touched, agree, Outcome, outcome, byCount, filled, blank, notesIn, fetchedBy, fetched}
 use Rattle.range.specs.Promises.{fitted}
-use Rattle.range.proofs.Gathers.{walk-whole}
+use Rattle.range.proofs.Gathers.{sets-written, walk-whole}
 use Rattle.range.proofs.Noted.{Spells, Sound, putAll, note-list, put-at}
 
 regions-is : regions ≡ 64
@@ -218,9 +218,7 @@ module _ (t : Table) (g : Grid) (x : Index) (s : SetParts t g x) (j : ℕ) (lt :
           step : (ltb (length room) (length L) ≡ true) ⊎ (ltb (length room) (length L) ≡ false) → byCount (Count (length L)) (sets room 0 L) room ≡ fitted L room
           step (inl q) = rw q
           step (inr q) =
-              let z : 0 + length L ≡ length L = omega arith in
-              let all : sets room 0 L ≡ written L room = sets-eq L room 0 (omega (arith, ltb-false (length room) (length L) q)) ∙ ap (λ (k : ℕ). L ++ drop k room) z in
-              rw (q, all)
+              rw (q, sets-written L room (ltb-false (length room) (length L) q))
 
       pub fetch-means : fetched (t .east) (t .north) g (x .order) (x .nodes) (x .entries) j rect room ≡ fitted L room
       unfolding fetched

@@ -1,9 +1,10 @@
 // The stands of some regions' runs, region by region, each tested against the rectangle: counted, and those that the room holds written.
-// With no room they are only counted, so that one walk serves for both.
+// So a small room of one's own serves to count, and to keep what was found until it is known to fit the caller's.
 ghost use mathlib.Core.Path.{_≡_};
 ghost use Prim.Native.Nat.{_+_, _≤_, _<_};
-ghost use lib.ListN.{length, set};
+ghost use lib.ListN.{length, set, take};
 ghost use lib.Seq.{slice};
+ghost use Rattle.base.specs.Lists.{written};
 ghost use Rattle.grid.specs.Cells.{regionsIn};
 ghost use Rattle.range.specs.Fetches.{tallied, gathered, touched, Ready};
 use crate::runs::Places;
@@ -19,6 +20,21 @@ pub(crate) enum Tally {
     Count(u32),
     // A place of the order has no stand of the table.
     Broken,
+}
+
+// How many matches are kept while they are counted: more than fit a handheld's screen.
+pub(crate) const NEAR: usize = 32;
+
+// The first so many words put at the start of a room.
+pub(crate) fn copy(words: &[u32], count: usize, room: &mut [u32])
+    requires { ⌜ (count ≤ length (now words)) × (count ≤ length (now room)) ⌝ }
+    ensures { λ _. ⌜ now (room .exit) ≡ written (take count (now (words .entry))) (now (room .entry)) ⌝ }
+{
+    let mut i = 0;
+    while i < count {
+        room[i] = words[i];
+        i += 1;
+    }
 }
 
 // A stand put at a place of the room; past its end nothing is put.

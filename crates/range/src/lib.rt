@@ -11,7 +11,9 @@ ghost use Rattle.range.specs.Fetches.{agree, outcome, unlawful, Ready, f
 mod gather;
 mod runs;
 
+use gather::NEAR;
 use gather::Tally;
+use gather::copy;
 use gather::gather;
 use grid::cells::Cells;
 use grid::cells::cells_of;
@@ -54,7 +56,8 @@ fn agree(east: &[i32], north: &[i32], order: &[u32]) -> bool
     east.len() <= order.len()
 }
 
-// The regions' matches counted with no room, and written once they are known to fit.
+// The regions' matches, written once they are known to fit the room. Up to NEAR of them are kept from the count;
+// only for more the regions are gone through again.
 fn fill(
     east: &[i32],
     north: &[i32],
@@ -68,26 +71,23 @@ fn fill(
     requires { ⌜ Ready (now east) (now north) (now order) (now pasts) ⌝ }
     ensures { λ r. ⌜ outcome r (now (found .exit)) ≡ filled (now (east .entry)) (now (north .entry)) (now (order .entry)) (now (firsts .entry)) (now (pasts .entry)) (regionsIn regions) rect (now (found .entry)) ⌝ }
 {
-    let end = found.len();
-    let Tally::Count(matches) = gather(
-        east,
-        north,
-        order,
-        regions,
-        firsts,
-        pasts,
-        rect,
-        &mut found[end..],
-    ) else {
+    let mut near = [0u32; NEAR];
+    let Tally::Count(matches) = gather(east, north, order, regions, firsts, pasts, rect, &mut near)
+    else {
         return unlawful();
     };
-    if found.len() < matches as usize {
+    let count = matches as usize;
+    if found.len() < count {
         return RangeAnswer::Refused {
             why: Refusal::RoomTooSmall,
             matches,
         };
     }
-    gather(east, north, order, regions, firsts, pasts, rect, found);
+    if count <= NEAR {
+        copy(&near, count, found);
+    } else {
+        gather(east, north, order, regions, firsts, pasts, rect, found);
+    }
     RangeAnswer::Found(matches)
 }
 

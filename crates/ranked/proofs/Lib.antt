@@ -1,9 +1,8 @@
--- Laws of the search, one turn or one way out at a time.
-pub mod Asking
-pub mod Reading
-pub mod Keeping
-pub mod Offering
-pub mod Taking
-pub mod Writing
-pub mod Answering
-pub mod PassingOver
+-- That the search's model is the meaning on a lawful set, and what follows of answers and rooms.
+pub mod Offers
+pub mod Entries
+pub mod Under
+pub mod Told
+pub mod Ways
+pub mod Limits
+pub mod Outcomes

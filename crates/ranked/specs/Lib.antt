@@ -1,3 +1,2 @@
--- What the search computes, on any words; what is meant stands in the crate `rules`, and that both agree in `ranked_means`.
-pub mod Searches
-pub mod PassingOver
+-- What the ranked question promises.
+pub mod Promises

@@ -1,59 +1,39 @@
-// The search behind the ranked question: from a node of the index to the k best stands under it, written to the caller's rooms.
-// `stands` offers stands, `entries` passes a node's entries over or takes them. The words may be anything:
-// those that no building writes are Broken, and nothing outside them is read.
+// The ranked question. On a lawful set its answer and both rooms are what the rules give; on any other it is harmless.
+// Refusals 9 and 8 are the text's, then come 12, 13 and 7; the search itself is the crate `search`.
 ghost use mathlib.Core.Path.{_≡_};
-ghost use Prim.Native.Nat.{_≤_};
-ghost use lib.ListN.{length, take};
-ghost use Rattle.best.specs.Holds.{Holds};
-ghost use Rattle.ranked.specs.Searches.{columns, Asks, bestUnder, Answered, Written};
-
-mod entries;
-mod stands;
-
-use best::Held;
-use best::stand_of;
-use best::value_of;
-use entries::take_entries;
+ghost use Rattle.rules.specs.Tables.{tableOf};
+ghost use Rattle.rules.specs.Questions.{rankingLawful};
+ghost use Rattle.rules.specs.Indexes.{indexOf};
+ghost use Rattle.search.specs.Searches.{columns};
+ghost use Rattle.ranked.specs.Promises.{RankedPromise, FromPromise};
 use rules::Grid;
-use rules::Node;
-use rules::OrderPlace;
 use rules::RankedAnswer;
 use rules::Ranking;
 use rules::Refusal;
-use walk::listing::Listing;
-use walk::listing::listing_of;
+use rules::Verdict;
+use search::best_under;
+use table::typed::text_verdict;
+use walk::Child;
+use walk::node_of;
 
-// An entry's words: a region, the largest score there, and the places of its stands in the order.
-pub struct Entry {
-    pub region: u32,
-    pub score: u32,
-    pub first: OrderPlace,
-    pub past: OrderPlace,
-}
-
-// How many keys are held after a step of the search.
-pub enum Kept {
-    Held(usize),
-    // These are not the words of an index.
-    Broken,
-}
-
-// The stands and values of the len keys held, best first; the rest of the rooms stays.
-fn write_held(held: &Held, len: usize, found: &mut [u32], values: &mut [u64])
-    requires { ⌜ (length (now held) ≡ 16) × (len ≤ 16) × (len ≤ length (now found)) × (len ≤ length (now values)) ⌝ }
-    ensures { λ _. ⌜ Written (take len (now (held .entry))) (now (found .entry)) (now (values .entry)) (now (found .exit)) (now (values .exit)) ⌝ }
+// Refusal 12 is for a question that is outside its limits.
+fn rankable(grid: Grid, asked: Ranking) -> bool
+    ensures { λ r. ⌜ r ≡ rankingLawful grid asked ⌝ }
 {
-    let mut i = 0;
-    while i < len {
-        let key = held[i];
-        found[i] = stand_of(key);
-        values[i] = value_of(key);
-        i += 1;
+    if !grid::holds(grid, asked.place) {
+        return false;
     }
+    if Ranking::WEIGHT_MOST < asked.weight {
+        return false;
+    }
+    if asked.k < 1 {
+        return false;
+    }
+    asked.k <= Ranking::K_MOST
 }
 
-// The k best stands under a node, best first.
-pub fn best_under(
+// The question from where the walk along a text came to; the text itself is no more needed.
+pub fn ranked_from(
     east: &[i32],
     north: &[i32],
     score: &[u32],
@@ -61,34 +41,78 @@ pub fn best_under(
     order: &[u32],
     nodes: &[u32],
     entries: &[u32],
-    node: Node,
+    at: Child,
     asked: Ranking,
     found: &mut [u32],
     values: &mut [u64],
 ) -> RankedAnswer
-    requires { ⌜ (Asks grid asked) × (asked .k ≤ length (now found)) × (asked .k ≤ length (now values)) ⌝ }
-    ensures { λ r. ⌜ Answered (bestUnder (columns (now (east .entry)) (now (north .entry)) (now (score .entry))) grid asked (now (order .entry)) (now (nodes .entry)) (now (entries .entry)) (node .0)) (asked .k) r (now (found .entry)) (now (values .entry)) (now (found .exit)) (now (values .exit)) ⌝ }
+    ensures { λ r. ⌜ FromPromise (columns (now (east .entry)) (now (north .entry)) (now (score .entry))) grid (indexOf (now (order .entry)) (now (nodes .entry)) (now (entries .entry))) at asked r (now (found .entry)) (now (values .entry)) (now (found .exit)) (now (values .exit)) ⌝ }
 {
-    let Listing::Entries(regions, first) = listing_of(nodes, node) else {
+    if !rankable(grid, asked) {
+        return RankedAnswer::Refused(Refusal::QuestionOutsideLimits);
+    }
+    let k = asked.k as usize;
+    if found.len() < k {
+        return RankedAnswer::Refused(Refusal::RoomTooSmall);
+    }
+    if values.len() < k {
+        return RankedAnswer::Refused(Refusal::RoomTooSmall);
+    }
+    if !grid::lawful(grid) {
         return RankedAnswer::Refused(Refusal::NotLawful);
-    };
-    let mut held: Held = [0; Ranking::K_MOST as usize];
-    match take_entries(
+    }
+    match at {
+        Child::At(node) => best_under(
+            east,
+            north,
+            score,
+            grid,
+            order,
+            nodes,
+            entries,
+            node,
+            asked,
+            found,
+            values,
+        ),
+        Child::Nowhere => RankedAnswer::Found(0),
+        Child::Broken => RankedAnswer::Refused(Refusal::NotLawful),
+    }
+}
+
+// The best k stands whose name begins with the typed text, best first, each with its value.
+pub fn ranked(
+    text: &[u8],
+    starts: &[u32],
+    east: &[i32],
+    north: &[i32],
+    score: &[u32],
+    grid: Grid,
+    order: &[u32],
+    nodes: &[u32],
+    entries: &[u32],
+    typed: &[u8],
+    asked: Ranking,
+    found: &mut [u32],
+    values: &mut [u64],
+) -> RankedAnswer
+    ensures { λ r. ⌜ RankedPromise (tableOf (now (text .entry)) (now (starts .entry)) (now (east .entry)) (now (north .entry)) (now (score .entry))) grid (indexOf (now (order .entry)) (now (nodes .entry)) (now (entries .entry))) (now (typed .entry)) asked r (now (found .entry)) (now (values .entry)) (now (found .exit)) (now (values .exit)) ⌝ }
+{
+    if let Verdict::Refused(why) = text_verdict(typed) {
+        return RankedAnswer::Refused(why);
+    }
+    let at = node_of(nodes, typed);
+    ranked_from(
         east,
         north,
         score,
         grid,
         order,
+        nodes,
         entries,
-        first,
-        regions.count(),
+        at,
         asked,
-        &mut held,
-    ) {
-        Kept::Held(len) => {
-            write_held(&held, len, found, values);
-            RankedAnswer::Found(len as u32)
-        }
-        Kept::Broken => RankedAnswer::Refused(Refusal::NotLawful),
-    }
+        found,
+        values,
+    )
 }

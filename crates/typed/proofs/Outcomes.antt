@@ -15,8 +15,8 @@ use Rattle.rules.specs.Indexes.{Index}
 use Rattle.rules.specs.Sessions.{lettersOf}
 use Rattle.range.specs.Promises.{RangePromise}
 use Rattle.range.proofs.Promises as range-laws
-use Rattle.ranked_means.specs.Promises.{RankedPromise}
-use Rattle.ranked_means.proofs.Outcomes as ranked-laws
+use Rattle.ranked.specs.Promises.{RankedPromise}
+use Rattle.ranked.proofs.Outcomes as ranked-laws
 use Rattle.typed.specs.Promises.{LawfulBoth, TypedRangePromise, TypedRankedPromise}
 
 module _ (t : Table) (g : Grid) (x : Index) (s : Session) (l : LawfulBoth t g x s) where

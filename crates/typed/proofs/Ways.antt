@@ -27,9 +27,9 @@ use Rattle.session.proofs.Sessions.{lawful-short, lawful-reached}
 use Rattle.range.specs.Promises as range
 use Rattle.range.specs.Promises.Harmless.{noticed}
 use Rattle.range.proofs.Promises as range-laws
-use Rattle.ranked.specs.Searches.{columns}
-use Rattle.ranked_means.specs.Promises as ranked
-use Rattle.ranked_means.proofs.Ways as ranked-laws
+use Rattle.search.specs.Searches.{columns}
+use Rattle.ranked.specs.Promises as ranked
+use Rattle.ranked.proofs.Ways as ranked-laws
 use Rattle.typed.specs.Letters.{lettersRefusal}
 use Rattle.typed.specs.Promises.{LawfulBoth, TypedRangePromise, TypedRankedPromise}
 

@@ -13,7 +13,7 @@ use Rattle.rules.specs.Tables.{Table}
 use Rattle.rules.specs.Indexes.{Index, setLawful}
 use Rattle.rules.specs.Sessions.{lettersOf, LawfulSession}
 use Rattle.range.specs.Promises.{RangeKept}
-use Rattle.ranked_means.specs.Promises.{RankedKept}
+use Rattle.ranked.specs.Promises.{RankedKept}
 
 -- the set is lawful, and the session is one of its table
 pub record LawfulBoth (t : Table) (g : Grid) (x : Index) (s : Session) : Type 0 where

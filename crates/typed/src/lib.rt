@@ -7,7 +7,7 @@ ghost use Rattle.rules.specs.Indexes.{indexOf};
 ghost use Rattle.typed.specs.Letters.{lettersRefusal};
 ghost use Rattle.typed.specs.Promises.{TypedRangePromise, TypedRankedPromise};
 use range::range_from;
-use ranked_means::ranked_from;
+use ranked::ranked_from;
 use rules::Grid;
 use rules::RangeAnswer;
 use rules::RankedAnswer;

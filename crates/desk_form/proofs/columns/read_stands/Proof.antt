@@ -85,8 +85,8 @@ returns : tie.Need-returns Inv-loop μ-loop
 returns c = no-stand _ _ _ _ _ _ _ _ (c .before .before .before .loop-test .taken) (rw (c .enum-told .given .1) at (c .before .before .read-stand .ensures)) (c .before .before .before .before .loop .inv)
 
 -- src/columns.rt:73:9
-lay-name-requires : tie.Need-lay-name-requires Inv-loop μ-loop
-lay-name-requires c κs =
+lay-bytes-requires : tie.Need-lay-bytes-requires Inv-loop μ-loop
+lay-bytes-requires c κs =
     let now = c .before .before .before .before .before .before in
     let s = there (c .before) in
     (s .forward, s .inside, omega (arith, grows _ _ _ _ _ _ _ _ _ _ _ _ _ _ s (now .loop .inv), long now .text, room now .text))
@@ -121,7 +121,7 @@ loop-less c = omega arith
 -- src/columns.rt:69:5
 loop-again : tie.Need-loop-again Inv-loop μ-loop
 loop-again c =
-    let named = c .before .before .before .before .before .before .before .before .before .before .before .before .before .lay-name in
+    let named = c .before .before .before .before .before .before .before .before .before .before .before .before .before .lay-bytes in
     let put = c .before .before .before .before .before .before .lay-numbers in
     let at = c .before .before .before .before .before .before .before .before .before .before .before .before .before .before .before in
     let read = at .before .from .given .0 in
@@ -169,7 +169,7 @@ read-stands-spec =
     same-length-4
     same-length-5
     returns
-    lay-name-requires
+    lay-bytes-requires
     sub-bytes
     add-bytes
     cast-lay-numbers

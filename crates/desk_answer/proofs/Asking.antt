@@ -1,0 +1,150 @@
+-- What the ranked question answers on a lawful set, with rooms for 16, as lines: they are the reply.
+-- Assumes nothing.
+use mathlib.Core.Path.{_≡_, refl, sym, ap, _∙_}
+use mathlib.Core.Logic.{_⊎_, inl, inr}
+use mathlib.Core.Bool.{true, false, cond}
+use mathlib.Core.List.{List, _++_, append-assoc}
+use Prim.Native.Nat.{ℕ, zero, suc, _≤_, _<_}
+use native.Mathlib.Omega.{arith}
+use lib.ListN.{length, getD, List·getD-append}
+use borrow.Author.Tests.{le-ltb, leb-true, ne-eqb}
+use Rattle.base.specs.Lists.{In, upTo, each, eachList, written}
+use Rattle.base.proofs.Members.{getD-in, length-each, getD-each, eachList-each, eachList-in}
+use Rattle.base.proofs.Runs.{each-getD, in-from}
+use Rattle.base.proofs.Tests.{which, le-or-lt, every-at}
+use Rattle.rules.specs.declared.Grid.{Grid}
+use Rattle.rules.specs.declared.Ranking.{Ranking}
+use Rattle.rules.specs.declared.Hit.{Hit}
+use Rattle.rules.specs.declared.Refusal.{Refusal}
+use Rattle.rules.specs.declared.RankedAnswer.the-variants.{Found, Refused}
+use Rattle.rules.specs.Numbers.{Told, firstGiven, refusalNumber}
+use Rattle.rules.specs.Names.{name, textRefusal}
+use Rattle.rules.specs.Tables.{Table, nameOf, tableRefusal}
+use Rattle.rules.specs.Questions.{rankedList, rankingLawful, rankedRefusal}
+use Rattle.rules.specs.Indexes.{Index, setLawful}
+use Rattle.rules.proofs.Lawful.{lawful, taken, set-parts}
+use Rattle.rules.proofs.Outcomes.{refusal-some}
+use Rattle.trie.specs.Meaning.{noHit}
+use Rattle.trie.proofs.Meaning.{table-means}
+use Rattle.ranked.specs.Promises.{Exact, tooShort}
+use Rattle.ranked.proofs.Told.{told-refused, told-list}
+use Rattle.desk_line.specs.Writing.{ascii, decimalOf, line}
+use Rattle.desk_form.specs.Printed.{printedRefusal, printedHit, printedHits, replyTo}
+use Rattle.desk_answer.specs.Puts.{lineOf, hitLines, hitsTo, foundLines, Listed}
+
+first-last : (a b : ℕ) → firstGiven a b ≡ 0 → b ≡ 0
+first-last zero b e = e
+first-last (suc a) b e = absurd (omega arith)
+
+-- a hit's lines, by its columns and by its table
+same-lines : (t : Table) (h : Hit) → hitLines (t .text) (t .starts) (h .stand) (h .value) ≡ printedHit t h
+unfolding hitLines printedHit line
+same-lines t h =
+    sym (append-assoc (line "object=" (decimalOf (h .stand))) (line "name=" (nameOf t (h .stand))) (line "value=" (decimalOf (h .value))))
+
+module _ (g : Grid) (p : List ℕ) (q : Ranking) where
+  -- a question that is not refused asks for at most 16
+  k-most : rankedRefusal g p q ≡ 0 → q .k ≤ 16
+  unfolding rankingLawful
+  k-most e = step (which (rankingLawful g q))
+    where
+      step : (rankingLawful g q ≡ true) ⊎ (rankingLawful g q ≡ false) → q .k ≤ 16
+      step (inl f) = leb-true (q .k) 16 (every-at _ 3 f)
+      step (inr f) = let z : _≡_ {A = ℕ} 12 0 = rw f at (first-last (textRefusal p) (cond (rankingLawful g q) 0 12) e) in absurd (omega arith)
+
+module _ (t : Table) (g : Grid) (p : List ℕ) (q : Ranking) (fine : tableRefusal t g ≡ 0) where
+  reply-refused : 0 < rankedRefusal g p q → printedRefusal (rankedRefusal g p q) ≡ replyTo t g p q
+  unfolding replyTo
+  reply-refused h = rw (fine, ne-eqb (rankedRefusal g p q) 0 (λ e. omega arith))
+
+  reply-hits : rankedRefusal g p q ≡ 0 → printedHits t (rankedList t g p q) ≡ replyTo t g p q
+  unfolding replyTo
+  reply-hits e = rw (fine, e)
+
+module _ (t : Table) (g : Grid) (x : Index) (p : List ℕ) (q : Ranking) (room values room′ values′ : List ℕ) (law : setLawful t g x ≡ true) (wide : length room ≡ 16) (wide′ : length values ≡ 16) where
+  hits : List Hit
+  hits = rankedList t g p q
+
+  fine : tableRefusal t g ≡ 0
+  fine = taken t g (set-parts t g x law .table)
+
+  enough : rankedRefusal g p q ≡ 0 → tooShort (q .k) room values ≡ false
+  enough e =
+      let k = k-most g p q e in
+      rw (le-ltb (length room) (q .k) (omega arith), le-ltb (length values) (q .k) (omega arith))
+
+  pub refusal-told : (why : Refusal) → Exact t g p q (Refused why) room values room′ values′ → printedRefusal (refusalNumber why) ≡ replyTo t g p q
+  refusal-told why x = step (le-or-lt (rankedRefusal g p q) 0)
+    where
+      step : (rankedRefusal g p q ≤ 0) ⊎ (0 < rankedRefusal g p q) → printedRefusal (refusalNumber why) ≡ replyTo t g p q
+      step (inl h) =
+          let e : rankedRefusal g p q ≡ 0 = omega arith in
+          let z : refusalNumber why ≡ 0 = ap (λ (a : Told). a .refusal) (x .told ∙ told-list t g p q room values e (enough e)) in
+          absurd (refusal-some why z)
+      step (inr h) =
+          let e : refusalNumber why ≡ rankedRefusal g p q = ap (λ (a : Told). a .refusal) (x .told ∙ told-refused t g p q room values (rankedRefusal g p q) h refl) in
+          rw e (reply-refused t g p q fine h)
+
+  -- what an answer with a count says
+  record Answered (n : ℕ) : Type 0 where
+    asked : rankedRefusal g p q ≡ 0
+    counted : n ≡ length hits
+    found : room′ ≡ written (each (λ h. h .stand) hits) room
+    worths : values′ ≡ written (each (λ h. h .value) hits) values
+
+  answered : (n : ℕ) → Exact t g p q (Found n) room values room′ values′ → Answered n
+  unfolding hits
+  answered n x = step (le-or-lt (rankedRefusal g p q) 0)
+    where
+      step : (rankedRefusal g p q ≤ 0) ⊎ (0 < rankedRefusal g p q) → Answered n
+      step (inl h) =
+          let e : rankedRefusal g p q ≡ 0 = omega arith in
+          let told = told-list t g p q room values e (enough e) in
+          record {
+            asked = e;
+            counted = ap (λ (a : Told). a .number) (x .told ∙ told);
+            found = rw told at (x .found);
+            worths = rw told at (x .worths);
+          }
+      step (inr h) =
+          let z : 0 ≡ rankedRefusal g p q = ap (λ (a : Told). a .refusal) (x .told ∙ told-refused t g p q room values (rankedRefusal g p q) h refl) in
+          absurd (omega arith)
+
+  -- a place of a room after its question
+  at-room : (f : Hit → ℕ) (l : List Hit) (before : List ℕ) (i : ℕ) → i < length l → getD (written (each f l) before) i 0 ≡ f (getD l i noHit)
+  at-room f l before i h = List·getD-append (each f l) _ 0 i (rw (length-each f l) h) ∙ getD-each f l i noHit 0 h
+
+  pub names-short : (n : ℕ) → Exact t g p q (Found n) room values room′ values′ → Listed (t .text) (t .starts) room′ n
+  unfolding hits
+  names-short n x =
+      let a = answered n x in
+      let m = table-means t g fine .ranked p q in
+      record { few = omega (arith, m .many, a .counted, k-most g p q (a .asked)); short = short }
+    where
+      short : (i : ℕ) → i < n → length (name (t .text) (t .starts) (getD room′ i 0)) ≤ 24
+      short i h =
+          let a = answered n x in
+          let inside : i < length hits = omega (arith, a .counted) in
+          let o = table-means t g fine .ranked p q .only (getD hits i noHit) (getD-in noHit hits i inside) in
+          let e : getD room′ i 0 ≡ o .0 = ap (λ l. getD l i 0) (a .found) ∙ at-room (λ h. h .stand) hits room i inside ∙ ap (λ (h : Hit). h .stand) (o .2) in
+          rw e (lawful t g fine .short (o .0) (o .1 .stand))
+
+  pub hits-told : (n : ℕ) → Exact t g p q (Found n) room values room′ values′ → foundLines (t .text) (t .starts) room′ values′ n ≡ replyTo t g p q
+  unfolding hits foundLines hitsTo printedHits line
+  hits-told n x = rw (a .counted) (ap (λ l. lineOf (ascii "found=") (decimalOf (length hits)) ++ l) each-hit ∙ reply-hits t g p q fine (a .asked))
+    where
+      a : Answered n
+      a = answered n x
+
+      one : (i : ℕ) → In i (upTo (length hits)) → hitLines (t .text) (t .starts) (getD room′ i 0) (getD values′ i 0) ≡ printedHit t (getD hits i noHit)
+      one i h =
+          let inside : i < length hits = omega (arith, in-from 0 (length hits) i h .1) in
+          let stand : getD room′ i 0 ≡ getD hits i noHit .stand = ap (λ l. getD l i 0) (a .found) ∙ at-room (λ h. h .stand) hits room i inside in
+          let value : getD values′ i 0 ≡ getD hits i noHit .value = ap (λ l. getD l i 0) (a .worths) ∙ at-room (λ h. h .value) hits values i inside in
+          rw (stand, value) (same-lines t (getD hits i noHit))
+
+      each-hit : eachList (λ i. hitLines (t .text) (t .starts) (getD room′ i 0) (getD values′ i 0)) (upTo (length hits)) ≡ eachList (printedHit t) hits
+      each-hit =
+          eachList-in _ (λ i. printedHit t (getD hits i noHit)) (upTo (length hits)) one
+          ∙ sym (eachList-each (printedHit t) (λ i. getD hits i noHit) (upTo (length hits)))
+          ∙ ap (eachList (printedHit t)) (sym (each-getD noHit hits))

@@ -1,0 +1,82 @@
+-- Building into the program's rooms: 64 stands always fit, so only the table can be refused, and checking accepts what was built.
+-- Assumes nothing.
+use mathlib.Core.Path.{_≡_, ap}
+use mathlib.Core.Logic.{_⊎_, inl, inr}
+use mathlib.Core.Bool.{true, false, cond}
+use mathlib.Core.List.{List}
+use Prim.Native.Nat.{ℕ, _*_, _≤_, _<_}
+use native.Mathlib.Omega.{arith}
+use lib.ListN.{length}
+use borrow.Author.Tests.{le-ltb, ne-eqb, eq-eqb}
+use Rattle.base.proofs.Tests.{which, le-or-lt}
+use Rattle.rules.specs.declared.Grid.{Grid}
+use Rattle.rules.specs.declared.Ranking.{Ranking}
+use Rattle.rules.specs.declared.Refusal.{Refusal}
+use Rattle.rules.specs.declared.Built.the-variants as built
+use Rattle.rules.specs.declared.Checked.the-variants as checked
+use Rattle.rules.specs.Numbers.{BuildTold, CheckTold, refusalNumber, checkedNumbers}
+use Rattle.rules.specs.Tables.{Table, stands, tableRefusal}
+use Rattle.rules.specs.Questions.{rankedRefusal}
+use Rattle.rules.specs.Indexes.{Index, nodeCount, entryCount, tooSmall, buildRefusal, buildTold, setLawful, checkTold}
+use Rattle.rules.proofs.Lawful.{lawful}
+use Rattle.rules.proofs.Outcomes.{refusal-some}
+use Rattle.trie.proofs.Sizes.{sizes-bounded}
+use Rattle.index.specs.Promises.{BuildPromise}
+use Rattle.index.proofs.Outcomes.{build-then-check}
+use Rattle.ranked.proofs.Told.{first-given}
+use Rattle.desk_form.specs.Printed.{printedRefusal, replyTo}
+
+-- the program's rooms have at least so many words
+pub record Rooms (x : Index) : Type 0 where
+  pub order : 64 ≤ length (x .order)
+  pub nodes : 12296 ≤ length (x .nodes)
+  pub entries : 6400 ≤ length (x .entries)
+
+module _ (t : Table) (g : Grid) where
+  reply-first : (p : List ℕ) (q : Ranking) → 0 < tableRefusal t g → printedRefusal (tableRefusal t g) ≡ replyTo t g p q
+  unfolding replyTo
+  reply-first p q h = rw (first-given (tableRefusal t g) (rankedRefusal g p q) h, ne-eqb (tableRefusal t g) 0 (λ e. omega arith))
+
+  -- a lawful set is not told to be none
+  pub never-unlawful : {A : Type 0} (x : Index) → setLawful t g x ≡ true → checkedNumbers checked.Unlawful ≡ checkTold t g x → A
+  unfolding checkTold
+  never-unlawful x law c = let z : _≡_ {A = ℕ} 0 1 = ap (λ (b : CheckTold). b .lawful) (rw law at c) in absurd (omega arith)
+
+  module _ (x : Index) where
+    -- what was built is lawful, since checking accepts it
+    pub built-lawful : (n e : ℕ) (y : Index) → BuildPromise t g x (built.Index n e) y → setLawful t g y ≡ true
+    unfolding checkTold
+    built-lawful n e y p = step (which (setLawful t g y))
+      where
+        step : (setLawful t g y ≡ true) ⊎ (setLawful t g y ≡ false) → setLawful t g y ≡ true
+        step (inl q) = q
+        step (inr q) =
+            let same : checked.Unlawful ≡ checked.Lawful n e = build-then-check t g x n e y checked.Unlawful p (rw q) in
+            let z : _≡_ {A = ℕ} 0 1 = cc in
+            absurd (omega arith)
+
+    module _ (few : stands t ≤ 64) (rooms : Rooms x) where
+      enough : tableRefusal t g ≡ 0 → buildRefusal t g x ≡ 0
+      unfolding buildRefusal tooSmall
+      enough e =
+          let s = sizes-bounded t g (lawful t g e) in
+          rw (
+            e,
+            le-ltb (length (x .order)) (stands t) (omega (arith, rooms .order)),
+            le-ltb (length (x .nodes)) (8 * nodeCount t) (omega (arith, rooms .nodes, s .nodes)),
+            le-ltb (length (x .entries)) (4 * entryCount t g) (omega (arith, rooms .entries, s .entries)),
+          )
+
+      pub build-refused : (p : List ℕ) (q : Ranking) (why : Refusal) (y : Index) → BuildPromise t g x (built.Refused why) y → printedRefusal (refusalNumber why) ≡ replyTo t g p q
+      unfolding buildRefusal buildTold
+      build-refused p q why y b = step (le-or-lt (tableRefusal t g) 0)
+        where
+          step : (tableRefusal t g ≤ 0) ⊎ (0 < tableRefusal t g) → printedRefusal (refusalNumber why) ≡ replyTo t g p q
+          step (inl h) =
+              let none : buildRefusal t g x ≡ 0 = enough (omega arith) in
+              let z : refusalNumber why ≡ 0 = ap (λ (a : BuildTold). a .refusal) (rw (eq-eqb (buildRefusal t g x) 0 none) at (b .told)) in
+              absurd (refusal-some why z)
+          step (inr h) =
+              let first : buildRefusal t g x ≡ tableRefusal t g = first-given (tableRefusal t g) (cond (tooSmall t g x) 6 0) h in
+              let z : refusalNumber why ≡ buildRefusal t g x = ap (λ (a : BuildTold). a .refusal) (rw (ne-eqb (buildRefusal t g x) 0 (λ e. omega arith)) at (b .told)) in
+              rw (z, first) (reply-first p q h)

@@ -1,0 +1,77 @@
+// The desk program without its reading and writing: from the bytes of an input to the bytes that are printed.
+mod hits;
+mod lines;
+mod reply;
+
+use desk_form::Reading;
+use desk_form::read_input;
+use lines::put_refusal;
+use reply::reply;
+use rules::Ranking;
+use rules::Refusal;
+use rules::Stand;
+use rules::layout::ENTRY_WORDS;
+use rules::layout::NODE_WORDS;
+ghost use Rattle.desk_answer.specs.Promises.{Answers};
+
+// Room for the index of as many stands as an input has at most: a root and a node for each byte of a name, and for each stand an
+// entry in each node that it is under.
+pub const ORDER_ROOM: usize = Reading::STANDS_ROOM;
+
+pub const NODES_ROOM: usize = (Reading::STANDS_ROOM * Stand::NAME_MOST + 1) * NODE_WORDS;
+
+pub const ENTRIES_ROOM: usize = Reading::STANDS_ROOM * (Stand::NAME_MOST + 1) * ENTRY_WORDS;
+
+pub const HITS_MOST: usize = Ranking::K_MOST as usize;
+
+// How many bytes are printed at most: some 30 for the first line, and at most 96 for a hit.
+pub const OUTPUT_MOST: usize = 2_048;
+
+// Reads an input, finds what it asks for, and puts what is printed at the start of `out`; the answer is how many bytes that is.
+// The other rooms are for the table and its index.
+pub fn answer(
+    input: &[u8],
+    text: &mut [u8; Reading::BYTES_MOST],
+    starts: &mut [u32; Reading::STARTS_ROOM],
+    east: &mut [i32; Reading::STANDS_ROOM],
+    north: &mut [i32; Reading::STANDS_ROOM],
+    score: &mut [u32; Reading::STANDS_ROOM],
+    order: &mut [u32; ORDER_ROOM],
+    nodes: &mut [u32; NODES_ROOM],
+    entries: &mut [u32; ENTRIES_ROOM],
+    out: &mut [u8; OUTPUT_MOST],
+) -> usize
+    ensures { λ r. ⌜ Answers (now (input .entry)) (now (out .exit)) r ⌝ }
+{
+    let reading = read_input(input, text, starts, east, north, score);
+    let Reading::Of {
+        stands,
+        bytes,
+        grid,
+        from,
+        past,
+        ranking,
+    } = reading
+    else {
+        return put_refusal(out, Refusal::InputMalformed);
+    };
+    let text: &[u8] = text;
+    let starts: &[u32] = starts;
+    let east: &[i32] = east;
+    let north: &[i32] = north;
+    let score: &[u32] = score;
+    reply(
+        out,
+        &text[..bytes],
+        &starts[..stands + 1],
+        &east[..stands],
+        &north[..stands],
+        &score[..stands],
+        grid,
+        order,
+        nodes,
+        entries,
+        &input[from..past],
+        ranking,
+    )
+}

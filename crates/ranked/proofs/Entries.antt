@@ -1,0 +1,127 @@
+-- At a lawful set: a node's entries as the search reads them are the rules' entries, and each is sound, so that it may be taken or passed over.
+-- Assumes nothing.
+use mathlib.Core.Path.{_≡_, refl, sym, ap, _∙_, subst}
+use mathlib.Core.Logic.{inl}
+use mathlib.Core.Bool.{true}
+use mathlib.Core.List.{List, _∷_}
+use Prim.Native.Nat.{ℕ, suc, _+_, _-_, _≤_, _<_}
+use native.Mathlib.Omega.{arith}
+use lib.ListN.{length, take, drop, getD}
+use lib.Seq.{slice, slice-cons, take-add, drop-at, length-take-le}
+use Rattle.base.specs.Lists.{In, firstOf, begins}
+use Rattle.base.proofs.Members.{in-at}
+use Rattle.base.proofs.Begins.{begins-part, begins-length}
+use Rattle.base.proofs.Pairs.{Less, less-first, pairs-keep}
+use Rattle.rules.specs.declared.Grid.{Grid}
+use Rattle.rules.specs.declared.Ranking.{Ranking}
+use Rattle.rules.specs.Places.{regions}
+use Rattle.rules.specs.Worth.{boundOf}
+use Rattle.rules.specs.Tables.{Table, stands, placeOf, scoreOf, LawfulTable}
+use Rattle.rules.specs.Questions.{under, regionOfStand, inRegion, hitOf}
+use Rattle.rules.specs.Indexes.{orderWords, entriesOf}
+use Rattle.rules.specs.Indexes as indexes
+use Rattle.grid.proofs.Values.{value-within-bound}
+use Rattle.trie.specs.Meaning.{StandUnder, noEntry, entryAt}
+use Rattle.trie.proofs.Regions.{region-small}
+use Rattle.trie.proofs.Listing.{under-rises, order-means, standsIn, in-region}
+use Rattle.trie.proofs.Entries.{entries-mean}
+use Rattle.best.proofs.Keys.{key-most}
+use Rattle.search.specs.declared.Entry.{Entry}
+use Rattle.search.specs.Searches.{Columns, columns, readableStand, boundHit}
+use Rattle.search.proofs.Reading.{stand-read}
+use Rattle.ranked.proofs.Offers.{Sound}
+
+-- an entry as the code has it
+abbrev pub asRead : indexes.Entry → Entry
+asRead e = record { region = e .region; score = e .score; first = record { 0 = e .first }; past = record { 0 = e .past } }
+
+abbrev pub columnsOf : Table → Columns
+columnsOf t = columns (t .east) (t .north) (t .score)
+
+-- a part of a list from a place on, both ways
+part-from : (f p : ℕ) (l : List ℕ) → f ≤ p → p ≤ length l → slice f p l ≡ take (p - f) (drop f l)
+part-from f p l h k =
+    let e : p ≡ f + (p - f) = omega arith in
+    ap (λ (n : ℕ). drop f (take n l)) e
+    ∙ ap (drop f) (take-add f (p - f) l)
+    ∙ drop-at (take f l) (take (p - f) (drop f l)) f (length-take-le f l (omega arith))
+
+below-64 : (r : ℕ) → r < regions → r < 64
+unfolding regions
+below-64 r h = h
+
+module _ (t : Table) (g : Grid) (l : LawfulTable t g) where
+  pub stand-seen : (i : ℕ) → i < stands t → readableStand (columnsOf t) g i ≡ true
+  stand-seen i h =
+      let s = l .shaped in
+      stand-read (columnsOf t) g i
+      (record {
+        small = omega (arith, s .few);
+        has-east = omega (arith, s .easts);
+        has-north = omega (arith, s .norths);
+        has-score = h;
+        scored = l .scored i h;
+        inside = l .placed i h;
+      })
+
+  -- no stand is worth more than the bound of its region with no smaller a score
+  within-bound : (q : Ranking) (i score : ℕ) → i < stands t → scoreOf t i ≤ score → hitOf t g q i .value ≤ boundOf g (q .weight) score (regionOfStand g t i) (q .place)
+  unfolding regionOfStand
+  within-bound q i score h k = value-within-bound g (q .weight) (scoreOf t i) score (placeOf t i) (q .place) (l .gridded) (l .placed i h) k
+
+  -- an entry with what the rules say of it: its stands under p stand in the order's words from its first place on
+  module _ (p words order : List ℕ) (whole : length words ≡ stands t) (written : begins words order ≡ true) (q : Ranking) (e : indexes.Entry)
+      (attained : (i : ℕ) × StandUnder t p i × (regionOfStand g t i ≡ e .region) × (scoreOf t i ≡ e .score))
+      (largest : (i : ℕ) → StandUnder t p i → regionOfStand g t i ≡ e .region → scoreOf t i ≤ e .score)
+      (bounds : (e .first < e .past) × (e .past ≤ stands t))
+      (places : take (e .past - e .first) (drop (e .first) words) ≡ standsIn t g p (e .region)) where
+    listed : slice (e .first) (e .past) order ≡ standsIn t g p (e .region)
+    listed =
+        ap (drop (e .first)) (begins-part words order (e .past) written (omega arith))
+        ∙ part-from (e .first) (e .past) words (omega arith) (omega arith)
+        ∙ places
+
+    -- the first of them stands at the entry's first place, and is the least
+    first-is : standsIn t g p (e .region) ≡ getD order (e .first) 0 ∷ slice (suc (e .first)) (e .past) order
+    first-is = sym listed ∙ slice-cons (e .first) (e .past) order 0 (bounds .0) (omega (arith, begins-length words order written))
+
+    first-least : (i : ℕ) → In i (standsIn t g p (e .region)) → getD order (e .first) 0 ≤ i
+    first-least i h =
+        let least = less-first (standsIn t g p (e .region)) (pairs-keep Less (inRegion g t (e .region)) (under t p) (under-rises t p)) i h in
+        omega (arith, ap firstOf first-is)
+
+    first-there : In (getD order (e .first) 0) (standsIn t g p (e .region))
+    first-there = subst (λ (s : List ℕ). In (getD order (e .first) 0) s) (sym first-is) (inl refl)
+
+    stand-of : (i : ℕ) → In i (standsIn t g p (e .region)) → i < stands t
+    stand-of i h = in-region t g p (e .region) i h .0 .stand
+
+    bounded : (i : ℕ) → In i (standsIn t g p (e .region)) → hitOf t g q i .value ≤ boundOf g (q .weight) (e .score) (e .region) (q .place)
+    bounded i h =
+        let u = in-region t g p (e .region) i h in
+        rw (u .1) at (within-bound q i (e .score) (u .0 .stand) (largest i (u .0) (u .1)))
+
+    of-entry : Sound (columnsOf t) g q order (standsIn t g p (e .region)) (asRead e)
+    of-entry =
+        record {
+          facts = record {
+            region = below-64 (e .region) (subst (λ (r : ℕ). r < regions) (attained .2) (region-small t g l (attained .0) (attained .1 .stand)));
+            scored = omega (arith, attained .3, l .scored (attained .0) (attained .1 .stand));
+            some = bounds .0;
+            inside = omega (arith, begins-length words order written);
+            small = omega (arith, stand-of (getD order (e .first) 0) first-there, l .shaped .few);
+          };
+          listed = listed;
+          readable = λ i h. stand-seen i (stand-of i h);
+          covered = λ i h. key-most (hitOf t g q i) (boundHit g q order (asRead e)) (bounded i h) (first-least i h);
+        }
+
+  -- each of a text's entries
+  pub entry-sound : (order : List ℕ) → begins (orderWords t g) order ≡ true → (q : Ranking) (p : List ℕ) (e : indexes.Entry) → In e (entriesOf t g p)
+      → Sound (columnsOf t) g q order (standsIn t g p (e .region)) (asRead e)
+  entry-sound order written q p e h =
+      let m = entries-mean t g l p in
+      let s = in-at noEntry e (entriesOf t g p) h in
+      subst (λ (e : indexes.Entry). Sound (columnsOf t) g q order (standsIn t g p (e .region)) (asRead e)) (s .2)
+      (of-entry p (orderWords t g) order (order-means t g l .whole) written q (entryAt t g p (s .0))
+      (m .attained (s .0) (s .1)) (m .largest (s .0) (s .1)) (m .bounds (s .0) (s .1)) (m .places (s .0) (s .1)))

@@ -1,0 +1,49 @@
+-- `ranked::ranked` meets its promise: the text is refused, or the walk along it goes before. Assumes nothing.
+use borrow.Author.Needs.{needs}
+use mathlib.Core.Path.{sym, ap, _∙_}
+use Rattle.rules.specs.Numbers.{verdictNumber}
+use Rattle.ranked.proofs.Ways.{text-refused, text-walked}
+use Rattle.ranked.proofs.ranked.Statement.{statement}
+use Rattle.ranked.proofs.ranked.Tie as tie
+
+text-verdict-requires : tie.Need-text-verdict-requires
+text-verdict-requires c κs = search needs
+
+enum-known-why : tie.Need-enum-known-why
+enum-known-why c = search needs
+
+returns : tie.Need-returns
+returns c = text-refused _ _ _ _ _ _ _ _ (ap verdictNumber (sym (c .before .why .given .1)) ∙ c .before .before .before .text-verdict .ensures)
+
+enum-told : tie.Need-enum-told
+enum-told c = search needs
+
+node-of-requires : tie.Need-node-of-requires
+node-of-requires c κs = search needs
+
+ranked-from-requires : tie.Need-ranked-from-requires
+ranked-from-requires c κs = search needs
+
+same-length : tie.Need-same-length
+same-length c = search needs
+
+same-length-2 : tie.Need-same-length-2
+same-length-2 c = search needs
+
+returns-2 : tie.Need-returns-2
+returns-2 c =
+    text-walked _ _ _ _ _ _ _ _ _ _ _ (sym (c .before .before .before .before .before .before .before .before .before .before .text-verdict .ensures) ∙ ap verdictNumber (c .before .before .before .before .before .before .before .before .enum-told .given .1)) (c .before .before .before .before .before .before .before .node-of .ensures) (c .before .before .before .before .ranked-from .ensures)
+
+pub ranked-spec : {M : Type 1} → statement M
+ranked-spec =
+    tie.close
+    (tie.spec
+    text-verdict-requires
+    enum-known-why
+    returns
+    enum-told
+    node-of-requires
+    ranked-from-requires
+    same-length
+    same-length-2
+    returns-2)

@@ -1,2 +1,0 @@
--- What the ranked question promises.
-pub mod Promises

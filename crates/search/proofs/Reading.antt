@@ -1,0 +1,120 @@
+-- What it says that a stand or an entry can be read, both ways.
+-- Assumes nothing.
+use mathlib.Core.Path.{_≡_, sym}
+use mathlib.Core.Bool.{true, false}
+use mathlib.Core.List.{List}
+use Prim.Native.Nat.{ℕ, _≤_, _<_}
+use lib.Dec.{ltb}
+use lib.ListN.{length, getD}
+use borrow.Author.Tests.{ltb-true, leb-true, lt-ltb, le-ltb, le-leb, lt-leb}
+use Rattle.base.specs.Lists.{every}
+use Rattle.base.proofs.Tests.{and-true, every-at, every-of, every-not}
+use Rattle.rules.specs.declared.Grid.{Grid}
+use Rattle.rules.specs.Places.{inGrid}
+use Rattle.rules.specs.Tables.{placeIn}
+use Rattle.search.specs.declared.Entry.{Entry}
+use Rattle.search.specs.Searches.{Columns, readableStand, readableEntry}
+
+-- ---- a stand
+
+pub record StandFacts (c : Columns) (g : Grid) (s : ℕ) : Type 0 where
+  pub small : s < 1024
+  pub has-east : s < length (c .east)
+  pub has-north : s < length (c .north)
+  pub has-score : s < length (c .score)
+  pub scored : getD (c .score) s 0 ≤ 1000
+  pub inside : inGrid g (placeIn (c .east) (c .north) s) ≡ true
+
+module _ (c : Columns) (g : Grid) (s : ℕ) where
+  pub stand-facts : readableStand c g s ≡ true → StandFacts c g s
+  unfolding readableStand
+  stand-facts e =
+      record {
+        small = ltb-true _ _ (every-at _ 0 e);
+        has-east = ltb-true _ _ (every-at _ 1 e);
+        has-north = ltb-true _ _ (every-at _ 2 e);
+        has-score = ltb-true _ _ (every-at _ 3 e);
+        scored = leb-true _ _ (every-at _ 4 e);
+        inside = every-at _ 5 e;
+      }
+
+  pub stand-read : StandFacts c g s → readableStand c g s ≡ true
+  unfolding readableStand
+  stand-read f =
+      every-of _
+      (lt-ltb _ _ (f .small), (lt-ltb _ _ (f .has-east), (lt-ltb _ _ (f .has-north), (lt-ltb _ _ (f .has-score), (le-leb _ _ (f .scored), (f .inside, tt))))))
+
+  -- the ways out of the test
+  pub stand-large : 1024 ≤ s → false ≡ readableStand c g s
+  unfolding readableStand
+  stand-large h = sym (every-not _ 0 (le-ltb _ _ h))
+
+  pub no-east : length (c .east) ≤ s → false ≡ readableStand c g s
+  unfolding readableStand
+  no-east h = sym (every-not _ 1 (le-ltb _ _ h))
+
+  pub no-north : length (c .north) ≤ s → false ≡ readableStand c g s
+  unfolding readableStand
+  no-north h = sym (every-not _ 2 (le-ltb _ _ h))
+
+  pub no-score : length (c .score) ≤ s → false ≡ readableStand c g s
+  unfolding readableStand
+  no-score h = sym (every-not _ 3 (le-ltb _ _ h))
+
+  pub score-over : 1000 < getD (c .score) s 0 → false ≡ readableStand c g s
+  unfolding readableStand
+  score-over h = sym (every-not _ 4 (lt-leb _ _ h))
+
+  pub place-decides : s < 1024 → s < length (c .east) → s < length (c .north) → s < length (c .score) → getD (c .score) s 0 ≤ 1000
+      → inGrid g (placeIn (c .east) (c .north) s) ≡ readableStand c g s
+  unfolding readableStand every
+  place-decides a b d e f =
+      rw (lt-ltb _ _ a, lt-ltb _ _ b, lt-ltb _ _ d, lt-ltb _ _ e, le-leb _ _ f) (sym (and-true (inGrid g (placeIn (c .east) (c .north) s))))
+
+-- ---- an entry
+
+pub record EntryFacts (order : List ℕ) (x : Entry) : Type 0 where
+  pub region : x .region < 64
+  pub scored : x .score ≤ 1000
+  pub some : x .first .0 < x .past .0
+  pub inside : x .past .0 ≤ length order
+  pub small : getD order (x .first .0) 0 < 1024
+
+module _ (order : List ℕ) (x : Entry) where
+  pub entry-facts : readableEntry order x ≡ true → EntryFacts order x
+  unfolding readableEntry
+  entry-facts e =
+      record {
+        region = ltb-true _ _ (every-at _ 0 e);
+        scored = leb-true _ _ (every-at _ 1 e);
+        some = ltb-true _ _ (every-at _ 2 e);
+        inside = leb-true _ _ (every-at _ 3 e);
+        small = ltb-true _ _ (every-at _ 4 e);
+      }
+
+  pub entry-read : EntryFacts order x → readableEntry order x ≡ true
+  unfolding readableEntry
+  entry-read f =
+      every-of _
+      (lt-ltb _ _ (f .region), (le-leb _ _ (f .scored), (lt-ltb _ _ (f .some), (le-leb _ _ (f .inside), (lt-ltb _ _ (f .small), tt)))))
+
+  pub no-region : 64 ≤ x .region → false ≡ readableEntry order x
+  unfolding readableEntry
+  no-region h = sym (every-not _ 0 (le-ltb _ _ h))
+
+  pub entry-over : 1000 < x .score → false ≡ readableEntry order x
+  unfolding readableEntry
+  entry-over h = sym (every-not _ 1 (lt-leb _ _ h))
+
+  pub no-places : x .past .0 ≤ x .first .0 → false ≡ readableEntry order x
+  unfolding readableEntry
+  no-places h = sym (every-not _ 2 (le-ltb _ _ h))
+
+  pub past-order : length order < x .past .0 → false ≡ readableEntry order x
+  unfolding readableEntry
+  past-order h = sym (every-not _ 3 (lt-leb _ _ h))
+
+  pub first-decides : x .region < 64 → x .score ≤ 1000 → x .first .0 < x .past .0 → x .past .0 ≤ length order
+      → ltb (getD order (x .first .0) 0) 1024 ≡ readableEntry order x
+  unfolding readableEntry every
+  first-decides a b d e = rw (lt-ltb _ _ a, le-leb _ _ b, lt-ltb _ _ d, le-leb _ _ e) (sym (and-true (ltb (getD order (x .first .0) 0) 1024)))

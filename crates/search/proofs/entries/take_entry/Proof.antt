@@ -1,0 +1,78 @@
+-- `entries::take_entry` meets its contract: the bound's key decides whether the entry's stands are offered. Assumes nothing.
+use borrow.Author.Needs.{needs}
+use native.Mathlib.Omega.{arith}
+use mathlib.Core.Path.{_≡_, sym, ap, _∙_}
+use Prim.Native.Nat.{ℕ}
+use lib.ListN.{take, getD}
+use Rattle.best.specs.Keys.{keyOf}
+use Rattle.search.specs.Searches.{passedOver, boundHit}
+use Rattle.search.proofs.Asking.{asked-inside, weighable, bound-most}
+use Rattle.search.proofs.Reading.{EntryFacts, entry-facts}
+use Rattle.search.proofs.Taking.{passed, not-passed}
+use Rattle.search.proofs.entries.take_entry.Statement.{statement}
+use Rattle.search.proofs.entries.take_entry.Tie as tie
+
+-- what decides is the key of the bound and the entry's first stand
+decided : (c : tie.After-passed-over) →
+    let a = c .before .before .before .before .before .before .before .before .before .args in
+    c .passed-over .result ≡ passedOver (a .asked .k) (take (a .len) (a .held .now)) (keyOf (boundHit (a .grid) (a .asked) (a .order .now) (a .entry)))
+decided c =
+    let a = c .before .before .before .before .before .before .before .before .before .args in
+    let first = getD (a .order .now) (a .entry .first .0) 0 in
+    c .passed-over .ensures
+    ∙ ap (passedOver (a .asked .k) (take (a .len) (a .held .now)))
+    (c .before .before .before .key-of .ensures ∙ ap (λ (v : ℕ). keyOf (record { stand = first; value = v })) (c .before .before .before .before .before .before .bound .ensures))
+
+bound-requires : tie.Need-bound-requires
+bound-requires c κs =
+    let p = c .before .before .pre in
+    let f = entry-facts _ _ (p .2) in
+    (weighable _ _ (p .0) _ (f .scored), asked-inside _ _ (p .0), f .region)
+
+cast-first : tie.Need-cast-first
+cast-first c = search needs
+
+mul-stand : tie.Need-mul-stand
+mul-stand c = search needs
+
+shared-slice-read-stand : tie.Need-shared-slice-read-stand
+shared-slice-read-stand c = let f = entry-facts _ _ (c .before .before .before .before .before .pre .2) in omega arith
+
+key-of-requires : tie.Need-key-of-requires
+key-of-requires c κs =
+    let p = c .before .before .before .before .before .pre in
+    let f = entry-facts _ _ (p .2) in
+    record { small = rw (c .before .before .bound .ensures) (bound-most _ _ (p .0) _ _ (f .scored)); below = f .small }
+
+cast-passed-over : tie.Need-cast-passed-over
+cast-passed-over c = search needs
+
+passed-over-requires : tie.Need-passed-over-requires
+passed-over-requires c κs = search needs
+
+returns : tie.Need-returns
+returns c = passed _ _ _ _ _ _ _ (c .before .before .before .before .before .before .before .before .before .before .pre .1) (sym (decided (c .before)) ∙ c .if1 .taken)
+
+offer-places-requires : tie.Need-offer-places-requires
+offer-places-requires c κs =
+    let p = c .before .before .before .before .before .before .before .before .before .before .before .pre in
+    let f = entry-facts _ _ (p .2) in
+    (p .0, p .1, omega arith, f .inside)
+
+returns-2 : tie.Need-returns-2
+returns-2 c = not-passed _ _ _ _ _ _ _ _ (sym (decided (c .before .before .before)) ∙ c .before .before .if1 .left) (c .offer-places .ensures)
+
+pub take-entry-spec : {M : Type 1} → statement M
+take-entry-spec =
+    tie.close
+    (tie.spec
+    bound-requires
+    cast-first
+    mul-stand
+    shared-slice-read-stand
+    key-of-requires
+    cast-passed-over
+    passed-over-requires
+    returns
+    offer-places-requires
+    returns-2)

@@ -1,0 +1,77 @@
+-- `stands::offer_places` meets its contract: its loop's invariant is `Offering`, whose laws are of proofs/Offering.antt. Assumes nothing.
+use borrow.Author.Needs.{needs}
+use mathlib.Core.Path.{refl}
+use Prim.Native.Nat.{_-_}
+use lib.ListN.{take}
+use lib.Seq.{slice}
+use Rattle.search.specs.Searches.{columns, standsOffered}
+use Rattle.search.proofs.Offering.{Offering, offer-next, offer-stop, offer-done}
+use Rattle.search.proofs.stands.offer_places.Statement.{statement}
+use Rattle.search.proofs.stands.offer_places.Tie as tie
+
+abbrev Inv-loop : tie.InvT-loop
+Inv-loop east north score grid order asked held₀ len n₀ i₀ end held n i = Offering (columns east north score) grid asked order end (standsOffered (columns east north score) grid asked (slice i₀ end order) (take n₀ held₀)) held n i
+
+abbrev μ-loop : tie.MeasureT-loop
+μ-loop east north score grid order asked held₀ len n₀ i₀ end held n i = end - i
+
+cast-i : tie.Need-cast-i Inv-loop μ-loop
+cast-i c = search needs
+
+cast-end : tie.Need-cast-end Inv-loop μ-loop
+cast-end c = search needs
+
+loop-holds : tie.Need-loop-holds Inv-loop μ-loop
+loop-holds c =
+    let p = c .before .before .before .before .pre in
+    record { asks = p .0; within = p .2; inside = p .3; holds = p .1; rest = refl }
+
+mul-t17 : tie.Need-mul-t17 Inv-loop μ-loop
+mul-t17 c = search needs
+
+shared-slice-read-t19 : tie.Need-shared-slice-read-t19 Inv-loop μ-loop
+shared-slice-read-t19 c = search needs
+
+offer-stand-requires : tie.Need-offer-stand-requires Inv-loop μ-loop
+offer-stand-requires c κs = search needs
+
+enum-known-more : tie.Need-enum-known-more Inv-loop μ-loop
+enum-known-more c = search needs
+
+enum-told : tie.Need-enum-told Inv-loop μ-loop
+enum-told c = search needs
+
+returns : tie.Need-returns Inv-loop μ-loop
+returns c = offer-stop _ _ _ _ _ _ _ _ _ (c .before .before .before .before .before .before .loop .inv) (c .before .before .before .before .before .loop-test .taken) _ _ (c .before .before .offer-stand .ensures) (c .enum-told .given .1)
+
+add-i : tie.Need-add-i Inv-loop μ-loop
+add-i c = search needs
+
+loop-less : tie.Need-loop-less Inv-loop μ-loop
+loop-less c = search needs
+
+loop-again : tie.Need-loop-again Inv-loop μ-loop
+loop-again c = offer-next _ _ _ _ _ _ _ _ _ (c .before .before .before .before .before .before .before .loop .inv) (c .before .before .before .before .before .before .loop-test .taken) _ _ (c .before .before .before .offer-stand .ensures) _ (c .before .more .given .1)
+
+returns-2 : tie.Need-returns-2 Inv-loop μ-loop
+returns-2 c = offer-done _ _ _ _ _ _ _ _ _ (c .before .loop .inv) (c .loop-test .left)
+
+pub offer-places-spec : {M : Type 1} → statement M
+offer-places-spec =
+    tie.close
+    (tie.spec
+    Inv-loop
+    μ-loop
+    cast-i
+    cast-end
+    loop-holds
+    mul-t17
+    shared-slice-read-t19
+    offer-stand-requires
+    enum-known-more
+    enum-told
+    returns
+    add-i
+    loop-less
+    loop-again
+    returns-2)

@@ -1,0 +1,73 @@
+-- `stands::readable_stand` tests what the definition does, in its order. Assumes nothing.
+use borrow.Author.Needs.{needs}
+use mathlib.Core.Path.{_∙_}
+use lib.ListN.{getD}
+use mathlib.Core.Bool.{Bool}
+use lib.IntN.{ℤ, pos}
+use Rattle.base.proofs.Machine.{arrive}
+use Rattle.rules.specs.Places.{inGrid}
+use Rattle.search.proofs.Reading.{stand-large, no-east, no-north, no-score, score-over, place-decides}
+use Rattle.search.proofs.stands.readable_stand.Statement.{statement}
+use Rattle.search.proofs.stands.readable_stand.Tie as tie
+
+returns : tie.Need-returns
+returns c = stand-large _ _ _ (c .if1 .taken)
+
+returns-2 : tie.Need-returns-2
+returns-2 c = no-east _ _ _ (c .if2 .taken)
+
+returns-3 : tie.Need-returns-3
+returns-3 c = no-north _ _ _ (c .if3 .taken)
+
+returns-4 : tie.Need-returns-4
+returns-4 c = no-score _ _ _ (c .if4 .taken)
+
+mul-if5 : tie.Need-mul-if5
+mul-if5 c = search needs
+
+shared-slice-read-if5 : tie.Need-shared-slice-read-if5
+shared-slice-read-if5 c = search needs
+
+returns-5 : tie.Need-returns-5
+returns-5 c = score-over _ _ _ (c .if5 .taken)
+
+mul-t7 : tie.Need-mul-t7
+mul-t7 c = search needs
+
+shared-slice-copy-out-t11 : tie.Need-shared-slice-copy-out-t11
+shared-slice-copy-out-t11 c = search needs
+
+mul-t12 : tie.Need-mul-t12
+mul-t12 c = search needs
+
+shared-slice-copy-out-t14 : tie.Need-shared-slice-copy-out-t14
+shared-slice-copy-out-t14 c = search needs
+
+holds-requires : tie.Need-holds-requires
+holds-requires c κs = search needs
+
+returns-6 : tie.Need-returns-6
+returns-6 c =
+    let a = c .before .before .before .before .before .before .before .before .before .before .args in
+    let in-grid : ℤ → ℤ → Bool = λ e n. inGrid (a .grid) (record { east = e; north = n }) in
+    c .holds .ensures
+    ∙ arrive in-grid (getD (a .east .now) (a .s) (pos 0)) (getD (a .north .now) (a .s) (pos 0)) (search needs) (search needs)
+    ∙ place-decides _ _ _ (c .before .before .before .before .before .before .before .before .if1 .left) (c .before .before .before .before .before .before .before .if2 .left) (c .before .before .before .before .before .before .if3 .left) (c .before .before .before .before .before .if4 .left) (c .before .before .before .if5 .left)
+
+pub readable-stand-spec : {M : Type 1} → statement M
+readable-stand-spec =
+    tie.close
+    (tie.spec
+    returns
+    returns-2
+    returns-3
+    returns-4
+    mul-if5
+    shared-slice-read-if5
+    returns-5
+    mul-t7
+    shared-slice-copy-out-t11
+    mul-t12
+    shared-slice-copy-out-t14
+    holds-requires
+    returns-6)

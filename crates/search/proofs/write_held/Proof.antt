@@ -1,0 +1,84 @@
+-- `ranked::write_held` meets its contract: its loop's invariant is `Writing`, whose laws are of proofs/Writing.antt. Assumes nothing.
+use borrow.Author.Needs.{needs}
+use native.Mathlib.Omega.{arith}
+use Prim.Native.Nat.{_-_}
+use Rattle.search.proofs.Writing.{Writing, write-begin, stands-long, values-long, write-next, write-done}
+use Rattle.search.proofs.write_held.Statement.{statement}
+use Rattle.search.proofs.write_held.Tie as tie
+
+abbrev Inv-loop : tie.InvT-loop
+Inv-loop held len found₀ values₀ i₀ found values i = Writing held len found₀ values₀ found values i
+
+abbrev μ-loop : tie.MeasureT-loop
+μ-loop held len found₀ values₀ i₀ found values i = len - i
+
+loop-holds : tie.Need-loop-holds Inv-loop μ-loop
+loop-holds c = write-begin _ _ _ _ (omega arith) (c .before .before .pre .2) (c .before .before .pre .3)
+
+mul-key : tie.Need-mul-key Inv-loop μ-loop
+mul-key c = search needs
+
+element-copy-out-key : tie.Need-element-copy-out-key Inv-loop μ-loop
+element-copy-out-key c = search needs
+
+stand-of-requires : tie.Need-stand-of-requires Inv-loop μ-loop
+stand-of-requires c κs = search needs
+
+mul-found : tie.Need-mul-found Inv-loop μ-loop
+mul-found c = search needs
+
+slice-write-found : tie.Need-slice-write-found Inv-loop μ-loop
+slice-write-found c =
+    let w = c .before .before .before .loop .inv in
+    omega (arith, stands-long _ _ _ _ _ _ _ w, w .stands-fit)
+
+value-of-requires : tie.Need-value-of-requires Inv-loop μ-loop
+value-of-requires c κs = search needs
+
+mul-values : tie.Need-mul-values Inv-loop μ-loop
+mul-values c = search needs
+
+slice-write-values : tie.Need-slice-write-values Inv-loop μ-loop
+slice-write-values c =
+    let w = c .before .before .before .before .loop .inv in
+    omega (arith, values-long _ _ _ _ _ _ _ w, w .values-fit)
+
+add-i : tie.Need-add-i Inv-loop μ-loop
+add-i c = search needs
+
+loop-less : tie.Need-loop-less Inv-loop μ-loop
+loop-less c = search needs
+
+loop-again : tie.Need-loop-again Inv-loop μ-loop
+loop-again c = rw (c .before .stand-of .ensures, c .value-of .ensures) (write-next _ _ _ _ _ _ _ (c .before .before .before .before .loop .inv) (c .before .before .before .loop-test .taken))
+
+same-length : tie.Need-same-length Inv-loop μ-loop
+same-length c = stands-long _ _ _ _ _ _ _ (c .before .loop .inv)
+
+same-length-2 : tie.Need-same-length-2 Inv-loop μ-loop
+same-length-2 c = values-long _ _ _ _ _ _ _ (c .before .loop .inv)
+
+returns : tie.Need-returns Inv-loop μ-loop
+returns c = write-done _ _ _ _ _ _ _ (c .before .loop .inv) (c .loop-test .left)
+
+pub write-held-spec : {M : Type 1} → statement M
+write-held-spec =
+    tie.close
+    (tie.spec
+    Inv-loop
+    μ-loop
+    loop-holds
+    mul-key
+    element-copy-out-key
+    stand-of-requires
+    mul-found
+    slice-write-found
+    value-of-requires
+    mul-values
+    slice-write-values
+    add-i
+    loop-less
+    loop-again
+    same-length
+    same-length-2
+    returns)

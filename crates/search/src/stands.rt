@@ -1,0 +1,101 @@
+// Stands offered to the k best, one by one or all that stand at some places of the order.
+ghost use mathlib.Core.Path.{_≡_};
+ghost use Prim.Native.Nat.{_≤_};
+ghost use lib.ListN.{length, take};
+ghost use lib.Seq.{slice};
+ghost use Rattle.best.specs.Holds.{Holds};
+ghost use Rattle.search.specs.Searches.{columns, Asks, readableStand, standOffered, standsOffered, Keeps};
+use super::Kept;
+use best::Held;
+use best::key_of;
+use best::offer;
+use grid::worth::value;
+use rules::Grid;
+use rules::OrderPlace;
+use rules::Place;
+use rules::Ranking;
+use rules::Stand;
+
+// Whether a stand can be reckoned with: a number that a key has room for, a place of the grid, a score in its limits.
+fn readable_stand(east: &[i32], north: &[i32], score: &[u32], grid: Grid, s: usize) -> bool
+    ensures { λ r. ⌜ r ≡ readableStand (columns (now (east .entry)) (now (north .entry)) (now (score .entry))) grid s ⌝ }
+{
+    if Stand::MOST <= s {
+        return false;
+    }
+    if east.len() <= s {
+        return false;
+    }
+    if north.len() <= s {
+        return false;
+    }
+    if score.len() <= s {
+        return false;
+    }
+    if Stand::SCORE_MOST < score[s] {
+        return false;
+    }
+    grid::holds(
+        grid,
+        Place {
+            east: east[s],
+            north: north[s],
+        },
+    )
+}
+
+// One stand seen: of the keys held and its own the k largest stay.
+fn offer_stand(
+    east: &[i32],
+    north: &[i32],
+    score: &[u32],
+    grid: Grid,
+    stand: Stand,
+    asked: Ranking,
+    held: &mut Held,
+    len: usize,
+) -> Kept
+    requires { ⌜ (Asks grid asked) × (Holds (now held) len (asked .k)) ⌝ }
+    ensures { λ r. ⌜ Keeps (standOffered (columns (now (east .entry)) (now (north .entry)) (now (score .entry))) grid asked (stand .0) (take len (now (held .entry)))) (asked .k) (now (held .exit)) r ⌝ }
+{
+    let s = stand.0 as usize;
+    if !readable_stand(east, north, score, grid, s) {
+        return Kept::Broken;
+    }
+    let place = Place {
+        east: east[s],
+        north: north[s],
+    };
+    let worth = value(grid, asked.weight, score[s], place, asked.place);
+    let key = key_of(worth, stand.0);
+    Kept::Held(offer(held, len, asked.k as usize, key))
+}
+
+// Each stand from one place of the order on, short of another.
+pub(crate) fn offer_places(
+    east: &[i32],
+    north: &[i32],
+    score: &[u32],
+    grid: Grid,
+    order: &[u32],
+    first: OrderPlace,
+    past: OrderPlace,
+    asked: Ranking,
+    held: &mut Held,
+    len: usize,
+) -> Kept
+    requires { ⌜ (Asks grid asked) × (Holds (now held) len (asked .k)) × (first .0 ≤ past .0) × (past .0 ≤ length (now order)) ⌝ }
+    ensures { λ r. ⌜ Keeps (standsOffered (columns (now (east .entry)) (now (north .entry)) (now (score .entry))) grid asked (slice (first .0) (past .0) (now (order .entry))) (take len (now (held .entry)))) (asked .k) (now (held .exit)) r ⌝ }
+{
+    let mut n = len;
+    let mut i = first.0 as usize;
+    let end = past.0 as usize;
+    while i < end {
+        match offer_stand(east, north, score, grid, Stand(order[i]), asked, held, n) {
+            Kept::Held(more) => n = more,
+            Kept::Broken => return Kept::Broken,
+        }
+        i += 1;
+    }
+    Kept::Held(n)
+}

@@ -1,0 +1,143 @@
+#!/usr/bin/env python3
+"""Draws docs/small-scheme.svg: the small scheme's grid, its letter tree, and the two entries that line 8's tie turns on.
+
+    python3 docs/small_scheme.py > docs/small-scheme.svg
+"""
+
+STANDS = [("kibo", 5, 5, 100), ("kibo", 75, 75, 900), ("kibori", 12, 5, 400), ("kito", 9, 9, 400), ("mto", 10, 9, 0)]
+CELL, SIDE = 10, 8
+PLACE = (5, 5)
+
+PX = 44                      # a cell of the drawing
+GRID_X, GRID_Y = 40, 64      # its upper left corner
+TREE_X, TREE_Y = 470, 84
+STEP_X, STEP_Y = 88, 62      # a letter to the right, a branch down
+
+
+def region(stand):
+    return stand[2] // CELL * SIDE + stand[1] // CELL
+
+
+def beginnings():
+    texts = {name[:n] for name, *_ in STANDS for n in range(len(name) + 1)}
+    return sorted(texts)
+
+
+def regions_under(text):
+    return sorted({region(s) for s in STANDS if s[0].startswith(text)})
+
+
+def entries_under(text):
+    found = []
+    for r in regions_under(text):
+        here = [(i, s) for i, s in enumerate(STANDS) if region(s) == r and s[0].startswith(text)]
+        found.append((r, max(s[3] for _, s in here), [i for i, _ in here]))
+    return sorted(found, key=lambda e: (-e[1], e[0]))
+
+
+def value(stand, weight):
+    diagonal = 128 * CELL * CELL
+    distance = (stand[1] - PLACE[0]) ** 2 + (stand[2] - PLACE[1]) ** 2
+    return weight * stand[3] * diagonal + (16 - weight) * (diagonal - distance) * 1000
+
+
+def text(x, y, words, kind="", anchor="start"):
+    style = f' class="{kind}"' if kind else ""
+    return f'<text x="{x}" y="{y}" text-anchor="{anchor}"{style}>{words}</text>'
+
+
+def draw_grid():
+    out = [text(GRID_X, 34, "Five stands on the grid: cells of 10 metres", "head")]
+    for row in range(SIDE):
+        for column in range(SIDE):
+            x, y = GRID_X + column * PX, GRID_Y + (SIDE - 1 - row) * PX
+            number = row * SIDE + column
+            held = number in {region(s) for s in STANDS}
+            out.append(f'<rect x="{x}" y="{y}" width="{PX}" height="{PX}" class="{"held" if held else "cell"}"/>')
+            out.append(text(x + 3, y + 11, number, "small"))
+    labels = {0: (-20, 20), 1: (-52, 4), 2: (9, 14), 3: (-45, -7), 4: (8, -7)}
+    for i, (name, east, north, _) in enumerate(STANDS):
+        x, y = GRID_X + (east + 0.5) * PX / CELL, GRID_Y + SIDE * PX - (north + 0.5) * PX / CELL
+        out.append(f'<circle cx="{x:.1f}" cy="{y:.1f}" r="4" class="stand"/>')
+        dx, dy = labels[i]
+        out.append(text(f"{x + dx:.1f}", f"{y + dy:.1f}", f"{i} {name}", "name"))
+    below = GRID_Y + SIDE * PX
+    out.append(text(GRID_X, below + 18, "0 m", "small"))
+    out.append(text(GRID_X + SIDE * PX, below + 18, "79 m east", "small", "end"))
+    return out
+
+
+def draw_tree():
+    out = [text(TREE_X - 22, 34, "The letter tree: a node for each beginning of a name, with its regions", "head")]
+    texts = beginnings()
+    rows, spots = 0, {}
+    for number, t in enumerate(texts):
+        first_child = t == "" or texts[number - 1] == t[:-1]
+        rows += 0 if first_child else 1
+        spots[t] = (TREE_X + len(t) * STEP_X, TREE_Y + rows * STEP_Y)
+    for t, (x, y) in spots.items():
+        if t:
+            px, py = spots[t[:-1]]
+            out.append(f'<path d="M{px} {py} H{px + STEP_X // 3} V{y} H{x}" class="edge"/>')
+            out.append(text(px + STEP_X // 2 + 6, y - 6, t[-1], "letter"))
+    for number, t in enumerate(texts):
+        x, y = spots[t]
+        kind = "asked" if t == "ki" else "node"
+        out.append(f'<circle cx="{x}" cy="{y}" r="13" class="{kind}"/>')
+        out.append(text(x, y + 4, number, "number", "middle"))
+        out.append(text(x, y + 28, " ".join(map(str, regions_under(t))), "small", "middle"))
+    return out
+
+
+def draw_tie():
+    x, y = TREE_X - 22, 320
+    out = [text(x, y, "Line 8: the best 2 under “ki” at (5, 5), weight 16. Node 2’s entries, in their order:", "head")]
+    held = []
+    for n, (r, score, stands) in enumerate(entries_under("ki")):
+        top = y + 14 + n * 34
+        tie = n > 0
+        bound = 16 * score * 128 * CELL * CELL
+        out.append(f'<rect x="{x}" y="{top}" width="650" height="28" class="{"tie" if tie else "entry"}"/>')
+        out.append(text(x + 10, top + 19, f"region {r}, largest score {score}, bound {bound:,}", "name"))
+        held = sorted(held + stands, key=lambda i: (-value(STANDS[i], 16), i))[:2]
+        shown = ", ".join(f"{i} ({value(STANDS[i], 16):,})" for i in held)
+        out.append(text(x + 640, top + 19, f"then held: {shown}", "name", "end"))
+    for n, words in enumerate(WHY):
+        out.append(text(x, y + 138 + 19 * n, words, "name"))
+    return out
+
+
+WHY = [
+    "The last entry’s bound only equals the last value held, stand 3’s. Skipping it on that tie",
+    "would answer 1, 3 and lose stand 2, whose value is the same and whose number is smaller.",
+    "So where bound and last value are equal, an entry is passed over only if its first stand’s",
+    "number is larger than the last one held.",
+]
+
+STYLE = """
+text { font-family: sans-serif; font-size: 13px; fill: #1c2b33; }
+.head { font-size: 14px; font-weight: bold; }
+.small { font-size: 10px; fill: #5a6b75; }
+.number { font-size: 12px; font-weight: bold; }
+.letter { font-size: 13px; font-style: italic; }
+.cell { fill: #ffffff; stroke: #b9c6cc; }
+.held { fill: #dcecf2; stroke: #7fa3b3; }
+.stand { fill: #0b5d7a; }
+.edge { fill: none; stroke: #7fa3b3; stroke-width: 1.5; }
+.node { fill: #ffffff; stroke: #0b5d7a; stroke-width: 1.5; }
+.asked { fill: #ffd98a; stroke: #9a6a00; stroke-width: 1.5; }
+.entry { fill: #f2f6f8; stroke: #b9c6cc; }
+.tie { fill: #fff1cf; stroke: #c08a10; }
+"""
+
+
+def main():
+    print('<svg xmlns="http://www.w3.org/2000/svg" width="1120" height="530" viewBox="0 0 1120 530">')
+    print(f"<style>{STYLE}</style>")
+    print('<rect width="1120" height="530" fill="#ffffff"/>')
+    print("\n".join(draw_grid() + draw_tree() + draw_tie()))
+    print("</svg>")
+
+
+if __name__ == "__main__":
+    main()
