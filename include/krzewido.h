@@ -3,8 +3,8 @@
  * A slice is a pointer and, right behind it, how many elements it has (not bytes). No pointer may be null, not even one of a slice with no
  * elements; each must be aligned for its type. What a call may write (no `const`) must not overlap anything else that is lent to it.
  * Nothing else is asked: any numbers and any words may be passed. A call ends, reads and writes only what it is lent, keeps no pointer,
- * and takes no memory from elsewhere. krz_build and krz_check need 6 KiB of stack, every other call less than 1 KiB. Calls that write to
- * different memory may run at once.
+ * and takes no memory from elsewhere. krz_build and krz_check need 6 KiB of stack, every other call less than 2 KiB. Calls may run
+ * at once where none writes what another is lent.
  *
  * The table: N stands, at most 1,024, a stand's number being its position from 0.
  *   text    the bytes of all names, one behind the other; a name has 1 to 24 bytes, each a to z, 0 to 9 or space
