@@ -2,11 +2,10 @@
 -- Group by group, each from the laws of its lines. Assumes nothing.
 use mathlib.Core.Path.{_≡_, refl, sym, ap, _∙_}
 use mathlib.Core.Logic.{_⊎_, inl, inr, ⊎-elim}
-use mathlib.Core.Bool.{Bool, true, false, cond}
+use mathlib.Core.Bool.{true, false}
 use mathlib.Core.List.{List, [], _∷_, _++_, append-assoc, append-nil}
-use Prim.Native.Nat.{ℕ, zero, suc, _+_, _≤_, _<_}
+use Prim.Native.Nat.{ℕ, zero, suc, _≤_}
 use native.Mathlib.Omega.{arith}
-use lib.IntN.{ℤ}
 use lib.Dec.{leb}
 use lib.ListN.{length}
 use borrow.Author.Tests.{le-leb, leb-true}
@@ -14,10 +13,9 @@ use Rattle.base.specs.Lists.{In, eachList}
 use Rattle.base.proofs.Tests.{which}
 use Rattle.rules.specs.declared.Grid.{Grid}
 use Rattle.rules.specs.declared.Ranking.{Ranking}
-use Rattle.desk_line.specs.Writing.{ascii, decimalOf, signedOf, line}
 use Rattle.desk_line.specs.Writing.{OneLine}
 use Rattle.desk_form.specs.Form.{StandLines, Input, gridText, standText, questionText, textOf, StandInRanges, GridInRanges, RankingInRanges, InRanges}
-use Rattle.desk_line.specs.Reads.{Found, found, nothing, Reader, onward}
+use Rattle.desk_line.specs.Reads.{found, onward}
 use Rattle.desk_form.specs.Reads.{gridLines, standLines, allStands, questionLines, ended, inputOf, allLines, readInput}
 use Rattle.desk_line.proofs.Lines.{Reads, lost, as-found, in-a-row, past-line, bytes-law, unsigned-law, signed-law}
 

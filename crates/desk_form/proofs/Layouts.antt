@@ -2,16 +2,15 @@
 -- Assumes nothing.
 use mathlib.Core.Path.{_≡_, refl, sym, ap, _∙_}
 use mathlib.Core.List.{List, [], _∷_, _++_, append-assoc, append-nil}
-use Prim.Native.Nat.{ℕ, zero, suc, _+_, _-_, _≤_, _<_}
-use native.Mathlib.Numerals.{add-one}
+use Prim.Native.Nat.{ℕ, suc, _+_, _-_, _≤_, _<_}
 use native.Mathlib.Omega.{arith}
 use lib.IntN.{ℤ}
 use lib.ListN.{length, take, drop, getD, set, length-append, length-drop, length-set}
 use lib.Seq.{paste, drop-set-lt, drop-cons, set-at, take-append-seam, drop-append-add, drop-drop, length-take-le, append-snoc}
-use Rattle.base.specs.Lists.{each, eachList}
-use Rattle.base.proofs.Members.{length-each, eachList-append}
+use Rattle.base.specs.Lists.{each}
+use Rattle.base.proofs.Members.{length-each, each-append, eachList-append}
 use Rattle.rules.specs.Tables.{Table, tableOf}
-use Rattle.desk_line.specs.Writing.{ascii, decimalOf, signedOf, line}
+use Rattle.desk_line.specs.Writing.{line}
 use Rattle.desk_form.specs.Form.{StandLines, standText}
 use Rattle.desk_form.specs.Columns.{namesOf, startsFrom, tableFrom, laid, laidTable}
 use Rattle.desk_line.specs.Reads.{Found, found, nothing, onward}
@@ -36,13 +35,9 @@ module _ {A : Type 0} where
   laid-long : (w room : List A) → length w ≤ length room → length (laid w room) ≡ length room
   laid-long w room h = omega (arith, length-append w (drop (length w) room), length-drop (length w) room)
 
-each-snoc : {A B : Type 0} (f : A → B) (l : List A) (x : A) → each f (l ++ (x ∷ [])) ≡ each f l ++ (f x ∷ [])
-each-snoc f [] x = refl
-each-snoc f (y ∷ l) x = ap (λ m. f y ∷ m) (each-snoc f l x)
-
 -- a column with one more stand
 column : {A : Type 0} (f : StandLines → A) (stands : List StandLines) (s : StandLines) (room : List A) → length stands < length room → set (laid (each f stands) room) (length stands) (f s) ≡ laid (each f (stands ++ (s ∷ []))) room
-column f stands s room h = rw (each-snoc f stands s, ← length-each f stands) (laid-store (each f stands) room (f s) (rw (length-each f stands) h))
+column f stands s room h = rw (each-append f stands (s ∷ []), ← length-each f stands) (laid-store (each f stands) room (f s) (rw (length-each f stands) h))
 
 names-snoc : (stands : List StandLines) (s : StandLines) → namesOf (stands ++ (s ∷ [])) ≡ namesOf stands ++ s .name
 names-snoc stands s = eachList-append (λ s. s .name) stands (s ∷ []) ∙ ap (λ m. namesOf stands ++ m) (append-nil (s .name))

@@ -1,16 +1,16 @@
 -- What an answer of the code says of what its reader found: the same values, and the place where the bytes behind them begin.
 use mathlib.Core.Path.{_≡_}
 use mathlib.Core.List.{List}
-use Prim.Native.Nat.{ℕ, _+_, _-_, _≤_, _<_}
+use Prim.Native.Nat.{ℕ, _+_, _≤_, _<_}
 use lib.IntN.{ℤ}
-use lib.ListN.{length, take, drop}
+use lib.ListN.{length}
 use Rattle.rules.specs.declared.Grid.{Grid}
 use Rattle.rules.specs.declared.Ranking.{Ranking}
 use Rattle.desk_line.specs.Writing.{ascii}
 use Rattle.desk_form.specs.Form.{StandLines}
 use Rattle.rules.specs.Tables.{Table}
 use Rattle.desk_form.specs.Columns.{namesOf, tableFrom, laidTable}
-use Rattle.desk_line.specs.Reads.{Found, found, nothing}
+use Rattle.desk_line.specs.Reads.{Found, nothing}
 use Rattle.desk_form.specs.declared.columns.Stands.{Stands}
 use Rattle.desk_form.specs.declared.columns.Stands.the-variants as columns
 use Rattle.desk_form.specs.declared.group.Opening.{Opening}

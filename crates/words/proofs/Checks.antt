@@ -2,7 +2,7 @@
 -- Assumes nothing.
 use mathlib.Core.Path.{_≡_, refl, sym, ap, _∙_}
 use mathlib.Core.Bool.{Bool, true, false, _&&_, true≢false}
-use mathlib.Core.List.{List, [], _∷_, _++_}
+use mathlib.Core.List.{List, _++_}
 use Prim.Native.Nat.{ℕ, suc, _+_, _*_, _≤_, _<_}
 use native.Mathlib.Omega.{arith}
 use lib.ListN.{length, drop}
@@ -14,7 +14,7 @@ use Rattle.node.specs.declared.cursor.Cursor.{Cursor}
 use Rattle.node.specs.Columns.{Columns, LawfulColumns}
 use Rattle.node.specs.Visits.{visitsFrom}
 use Rattle.node.specs.Rows.{entriesAt, rowOf}
-use Rattle.words.specs.Words.{entryRows, rowsFrom, entryWordsFrom, nodeWordsOf, entryWordsOf, visitsOf, visitOf, Moved, hasRow, hasEntries}
+use Rattle.words.specs.Words.{entryRows, rowsFrom, entryWordsFrom, nodeWordsOf, entryWordsOf, visitOf, Moved, hasRow, hasEntries}
 use Rattle.words.proofs.Overs.{length-rows}
 use Rattle.words.proofs.Walks.{restOf, rootCursor, Carrying, carrying-more, rows-next, entries-next, going-first, going-end, length-row}
 

@@ -1,18 +1,18 @@
 -- Words in a room: laws of `over`, and the loops that put words and entries into a room or compare them with one.
 -- Assumes nothing.
 use mathlib.Core.Path.{_≡_, refl, sym, ap, _∙_}
-use mathlib.Core.Bool.{Bool, true, false, _&&_}
+use mathlib.Core.Bool.{true, false, _&&_}
 use mathlib.Core.List.{List, [], _∷_, _++_, append-assoc, append-nil}
-use Prim.Native.Nat.{ℕ, zero, suc, _+_, _*_, _≤_, _<_}
+use Prim.Native.Nat.{ℕ, suc, _+_, _*_, _≤_, _<_}
 use native.Mathlib.Omega.{arith}
 use native.Mathlib.Numerals.{add-one}
 use native.Mathlib.Nat.{add-zero}
 use lib.ListN.{length, take, drop, getD, set, length-append, length-drop, take-append-drop, drop-of-length-le}
 use lib.Seq.{set-split, take-at, drop-drop, drop-append-add, take-suc, take-all, length-take-le, drop-cons, getD-take}
 use borrow.Author.Tests.{eq-eqb, ne-eqb}
-use Rattle.base.specs.Lists.{each, eachList, begins}
+use Rattle.base.specs.Lists.{begins}
 use Rattle.rules.specs.Indexes.{Entry, entryRow}
-use Rattle.base.proofs.Members.{length-each, each-take, getD-each, eachList-append}
+use Rattle.base.proofs.Members.{length-each, getD-each, eachList-append}
 use Rattle.base.proofs.Begins.{begins-parts}
 use Rattle.node.specs.Columns.{at, Slots, entryFrom, entriesFrom}
 use Rattle.words.specs.Over.{over}

@@ -1,8 +1,8 @@
 -- One turn at a node, over plain lists: what each call asks of the columns and the cursor, and what the calls together leave.
 -- Assumes nothing.
-use mathlib.Core.Path.{_≡_, refl, sym, ap, _∙_}
+use mathlib.Core.Path.{_≡_, sym, ap, _∙_}
 use mathlib.Core.Bool.{Bool, true, false, _&&_}
-use mathlib.Core.List.{List, [], _∷_}
+use mathlib.Core.List.{List}
 use Prim.Native.Nat.{ℕ, _+_, _*_, _≤_, _<_}
 use native.Mathlib.Omega.{arith}
 use lib.ListN.{length, drop}
@@ -12,14 +12,13 @@ use Rattle.rules.specs.Indexes.{Entry}
 use Rattle.base.proofs.Tests.{and-false}
 use Rattle.node.specs.declared.cursor.Cursor.{Cursor}
 use Rattle.node.specs.declared.Gathered.{Gathered}
-use Rattle.node.specs.Columns.{Columns, LawfulColumns, Grows, Placed, Spelt, Slots, at, endOf, span, heldIn, entriesIn, entriesFrom}
+use Rattle.node.specs.Columns.{Columns, LawfulColumns, Grows, Placed, Spelt, Slots, at, endOf, heldIn, entriesIn, entriesFrom}
 use Rattle.node.specs.Visits.{placesAt, On, Ways, Advanced}
 use Rattle.node.specs.Rows.{entriesAt, rowWith, rowAt, rowOf, standsAt, Gathers}
 use Rattle.node.proofs.Placing.{next-small}
-use Rattle.words.specs.declared.turn.Compared.{Compared}
 use Rattle.words.specs.declared.turn.Compared.the-variants.{Same, Different}
 use Rattle.words.specs.Over.{over}
-use Rattle.words.specs.Words.{entryRows, visitOf, Scratch, Standing, Moved, Room, Wrote, hasRow, hasEntries, Compares}
+use Rattle.words.specs.Words.{entryRows, visitOf, Standing, Moved, Wrote, hasRow, hasEntries, Compares}
 
 module _ (t : Columns) (w : LawfulColumns t) (c : Cursor) (next path places₀ best₀ ranked₀ : List ℕ) (s : Standing t c next path places₀ best₀ ranked₀) where
   pub gather-asks : Placed (t .region) × (length (t .score) ≡ length (t .region)) × (length (t .shared) ≡ length (t .region)) × (c .stand ≤ length (t .shared))

@@ -1,32 +1,28 @@
 -- The loops over the nodes: the cursor on its way, and what counting, writing and checking have done so far.
 -- Assumes nothing.
 use mathlib.Core.Path.{_≡_, refl, sym, ap, _∙_}
-use mathlib.Core.Logic.{_⊎_, inl, inr, ⊎-elim}
-use mathlib.Core.Bool.{Bool, true, false, _&&_}
-use mathlib.Core.List.{List, [], _∷_, _++_, append-assoc, append-nil}
-use Prim.Native.Nat.{ℕ, zero, suc, _+_, _-_, _*_, _≤_, _<_}
+use mathlib.Core.Logic.{⊎-elim}
+use mathlib.Core.List.{List, [], _∷_, _++_}
+use Prim.Native.Nat.{ℕ, suc, _+_, _-_, _*_, _≤_, _<_}
 use native.Mathlib.Omega.{arith}
-use lib.ListN.{length, drop, length-append, List·getD-eq-default}
+use lib.ListN.{length, length-append, drop-of-length-le, List·getD-eq-default}
 use lib.Count.{ones}
-use lib.Seq.{drop-drop}
-use Rattle.base.specs.Lists.{fromOn, upTo, each, eachList, total, begins}
+use Rattle.base.specs.Lists.{fromOn, upTo, each, eachList, total}
 use Rattle.rules.specs.Places.{regions}
-use Rattle.base.proofs.Tests.{which, le-or-lt, and-false}
+use Rattle.base.proofs.Tests.{le-or-lt}
 use Rattle.base.proofs.Members.{length-each, length-keep, each-same}
 use Rattle.base.proofs.Runs.{length-from}
-use Rattle.base.proofs.Begins.{begins-parts}
 use Rattle.base.proofs.Words.{ones-word}
 use Rattle.node.specs.declared.cursor.Cursor.{Cursor}
-use Rattle.node.specs.Columns.{Columns, LawfulColumns, Grows, at, endOf, span, growth, grownOf, heldIn, regionsIn, bitsIn, entriesIn}
+use Rattle.node.specs.Columns.{Columns, LawfulColumns, Grows, at, endOf, span, growth, grownOf, heldIn, regionsIn, bitsIn}
 use Rattle.node.specs.Visits.{Visit, visitsAt, newVisits, visitsFrom, placesAt, On, Ways, Stepped}
 use Rattle.node.specs.Rows.{standsAt, entriesAt, rowAt, rowOf}
 use Rattle.node.proofs.Ends.{grown-small}
 use Rattle.node.proofs.Placing.{regions-are}
 use Rattle.node.proofs.Gathering.{entries-held}
 use Rattle.node.proofs.Steps.{visits-first, visits-done}
-use Rattle.words.specs.Over.{over}
-use Rattle.words.specs.Words.{entryRows, rowsFrom, entryWordsFrom, countFrom, visitsOf, nodeCountOf, entryCountOf, nodeWordsOf, entryWordsOf, visitOf, Scratch, Standing, Moved, Room, Wrote, hasRow, hasEntries}
-use Rattle.words.proofs.Overs.{over-none, over-over, length-over, length-rows}
+use Rattle.words.specs.Words.{entryRows, rowsFrom, entryWordsFrom, countFrom, nodeCountOf, visitOf, Scratch, Standing, Moved}
+use Rattle.words.proofs.Overs.{length-rows}
 
 abbrev pub restOf : List ℕ → List ℕ → Cursor → List Visit
 restOf lengths shared c = visitsFrom lengths shared (c .stand) (c .length)
@@ -139,11 +135,7 @@ module _ (lengths shared : List ℕ) (all : ℕ) where
       going-more h = record { left = left-more; few = s .few; low = omega (arith, p .number, p .entries, s .low); on = λ l. p .on (inside l) }
 
   pub going-end : (c : Cursor) → Going lengths shared all c → all ≤ c .number → restOf lengths shared c ≡ []
-  going-end c s h = none (restOf lengths shared c) (omega (arith, s .left))
-    where
-      none : (l : List Visit) → length l ≡ 0 → l ≡ []
-      none [] e = refl
-      none (x ∷ l) e = absurd (omega arith)
+  going-end c s h = drop-of-length-le (restOf lengths shared c) {i = 0} (omega (arith, s .left))
 
 -- ---- counting
 

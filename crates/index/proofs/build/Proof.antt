@@ -1,6 +1,5 @@
 -- `build` gives the table's refusal, or what is put into the buffers from the table's columns.
 -- Assumes nothing.
-use Prim.Native.Nat.{ℕ}
 use mathlib.Core.Path.{_≡_, sym, ap, _∙_}
 use native.Mathlib.Omega.{arith}
 use lib.ListN.{length, take}

@@ -1,6 +1,5 @@
 -- `check` says no for a table that is refused; else it compares the buffers with what the table's columns give.
 -- Assumes nothing.
-use Prim.Native.Nat.{ℕ}
 use mathlib.Core.Path.{_≡_, sym, ap, _∙_}
 use native.Mathlib.Omega.{arith}
 use lib.ListN.{length, take}

@@ -28,72 +28,56 @@ weight c = rw (c .before .weight .given .1) at (c .before .before .before .unsig
 k : (c : tie.After-known-told5) → Reached (c .before .before .before .before .before .before .before .before .before .before .before .before .before .before .before .before .before .before .before .before .before .before .before .before .before .before .args .input .now) (unsignedLine 65535 (ascii "k=") (drop (c .before .before .before .before .before .before .weight .given .0 .1 .0) (c .before .before .before .before .before .before .before .before .before .before .before .before .before .before .before .before .before .before .before .before .before .before .before .before .before .before .args .input .now))) (c .before .k .given .0 .0) (c .before .k .given .0 .1 .0)
 k c = rw (c .before .k .given .1) at (c .before .before .before .unsigned-line2 .ensures)
 
--- src/group.rt:104:57
 slice-aggregate-bytes-line : tie.Need-slice-aggregate-bytes-line
 slice-aggregate-bytes-line c = search needs
 
--- src/group.rt:104:35
 bytes-line-requires : tie.Need-bytes-line-requires
 bytes-line-requires c κs = search needs
 
--- src/group.rt:104:21
 enum-known-from : tie.Need-enum-known-from
 enum-known-from c = search needs
 
--- src/group.rt:105:9
 enum-told : tie.Need-enum-told
 enum-told c = search needs
 
--- src/group.rt:105:9
 returns : tie.Need-returns
 unfolding questionLines onward
 returns c =
     rw (rw (c .enum-told .given .1) at (c .before .before .bytes-line .ensures))
 
--- src/group.rt:107:55
 add-signed-line : tie.Need-add-signed-line
 add-signed-line c = omega (arith, text c .reached .within, c .before .before .before .before .before .before .good .0)
 
--- src/group.rt:107:65
 slice-aggregate-signed-line : tie.Need-slice-aggregate-signed-line
 slice-aggregate-signed-line c = search needs
 
--- src/group.rt:107:36
 signed-line-requires : tie.Need-signed-line-requires
 signed-line-requires c κs = text (c .before) .reached .within
 
--- src/group.rt:107:24
 enum-known-east : tie.Need-enum-known-east
 enum-known-east c = search needs
 
--- src/group.rt:108:9
 enum-told-2 : tie.Need-enum-told-2
 enum-told-2 c = search needs
 
--- src/group.rt:108:9
 returns-2 : tie.Need-returns-2
 unfolding questionLines onward
 returns-2 c =
     let at-text = c .before .before .before .before in
     rw (text at-text .reached .is, rw (c .enum-told2 .given .1) at (c .before .before .signed-line .ensures))
 
--- src/group.rt:110:60
 slice-aggregate-signed-line-2 : tie.Need-slice-aggregate-signed-line-2
 slice-aggregate-signed-line-2 c = search needs
 
--- src/group.rt:110:37
 signed-line-requires-2 : tie.Need-signed-line-requires-2
 signed-line-requires-2 c κs = east (c .before) .within
 
--- src/group.rt:110:24
 enum-known-north : tie.Need-enum-known-north
 enum-known-north c = search needs
 
--- src/group.rt:111:9
 enum-told-3 : tie.Need-enum-told-3
 enum-told-3 c = search needs
 
--- src/group.rt:111:9
 returns-3 : tie.Need-returns-3
 unfolding questionLines onward
 returns-3 c =
@@ -101,23 +85,18 @@ returns-3 c =
     let at-text = at-east .before .before .before .before .before in
     rw (text at-text .reached .is, east at-east .is, rw (c .enum-told3 .given .1) at (c .before .before .signed-line2 .ensures))
 
--- src/group.rt:113:65
 slice-aggregate-unsigned-line : tie.Need-slice-aggregate-unsigned-line
 slice-aggregate-unsigned-line c = search needs
 
--- src/group.rt:113:40
 unsigned-line-requires : tie.Need-unsigned-line-requires
 unsigned-line-requires c κs = north (c .before) .within
 
--- src/group.rt:113:26
 enum-known-weight : tie.Need-enum-known-weight
 enum-known-weight c = search needs
 
--- src/group.rt:114:9
 enum-told-4 : tie.Need-enum-told-4
 enum-told-4 c = search needs
 
--- src/group.rt:114:9
 returns-4 : tie.Need-returns-4
 unfolding questionLines onward
 returns-4 c =
@@ -126,23 +105,18 @@ returns-4 c =
     let at-text = at-east .before .before .before .before .before in
     rw (text at-text .reached .is, east at-east .is, north at-north .is, rw (c .enum-told4 .given .1) at (c .before .before .unsigned-line .ensures))
 
--- src/group.rt:116:60
 slice-aggregate-unsigned-line-2 : tie.Need-slice-aggregate-unsigned-line-2
 slice-aggregate-unsigned-line-2 c = search needs
 
--- src/group.rt:116:35
 unsigned-line-requires-2 : tie.Need-unsigned-line-requires-2
 unsigned-line-requires-2 c κs = weight (c .before) .within
 
--- src/group.rt:116:26
 enum-known-k : tie.Need-enum-known-k
 enum-known-k c = search needs
 
--- src/group.rt:117:9
 enum-told-5 : tie.Need-enum-told-5
 enum-told-5 c = search needs
 
--- src/group.rt:117:9
 returns-5 : tie.Need-returns-5
 unfolding questionLines onward
 returns-5 c =
@@ -152,7 +126,6 @@ returns-5 c =
     let at-text = at-east .before .before .before .before .before in
     rw (text at-text .reached .is, east at-east .is, north at-north .is, weight at-weight .is, rw (c .enum-told5 .given .1) at (c .before .before .unsigned-line2 .ensures))
 
--- src/group.rt:100:1
 returns-6 : tie.Need-returns-6
 unfolding questionLines onward
 returns-6 c =

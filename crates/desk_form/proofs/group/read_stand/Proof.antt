@@ -25,72 +25,56 @@ north c = rw (c .before .north .given .1) at (c .before .before .before .signed-
 score : (c : tie.After-known-told4) → Reached (c .before .before .before .before .before .before .before .before .before .before .before .before .before .before .before .before .before .before .before .before .before .args .input .now) (unsignedLine 65535 (ascii "score=") (drop (c .before .before .before .before .before .before .north .given .0 .1 .0) (c .before .before .before .before .before .before .before .before .before .before .before .before .before .before .before .before .before .before .before .before .before .args .input .now))) (c .before .score .given .0 .0) (c .before .score .given .0 .1 .0)
 score c = rw (c .before .score .given .1) at (c .before .before .before .unsigned-line .ensures)
 
--- src/group.rt:78:57
 slice-aggregate-bytes-line : tie.Need-slice-aggregate-bytes-line
 slice-aggregate-bytes-line c = search needs
 
--- src/group.rt:78:35
 bytes-line-requires : tie.Need-bytes-line-requires
 bytes-line-requires c κs = search needs
 
--- src/group.rt:78:21
 enum-known-from : tie.Need-enum-known-from
 enum-known-from c = search needs
 
--- src/group.rt:79:9
 enum-told : tie.Need-enum-told
 enum-told c = search needs
 
--- src/group.rt:79:9
 returns : tie.Need-returns
 unfolding standLines onward
 returns c =
     rw (rw (c .enum-told .given .1) at (c .before .before .bytes-line .ensures))
 
--- src/group.rt:81:55
 add-signed-line : tie.Need-add-signed-line
 add-signed-line c = omega (arith, name c .reached .within, c .before .before .before .before .before .before .good .0)
 
--- src/group.rt:81:65
 slice-aggregate-signed-line : tie.Need-slice-aggregate-signed-line
 slice-aggregate-signed-line c = search needs
 
--- src/group.rt:81:36
 signed-line-requires : tie.Need-signed-line-requires
 signed-line-requires c κs = name (c .before) .reached .within
 
--- src/group.rt:81:24
 enum-known-east : tie.Need-enum-known-east
 enum-known-east c = search needs
 
--- src/group.rt:82:9
 enum-told-2 : tie.Need-enum-told-2
 enum-told-2 c = search needs
 
--- src/group.rt:82:9
 returns-2 : tie.Need-returns-2
 unfolding standLines onward
 returns-2 c =
     let at-name = c .before .before .before .before in
     rw (name at-name .reached .is, rw (c .enum-told2 .given .1) at (c .before .before .signed-line .ensures))
 
--- src/group.rt:84:60
 slice-aggregate-signed-line-2 : tie.Need-slice-aggregate-signed-line-2
 slice-aggregate-signed-line-2 c = search needs
 
--- src/group.rt:84:37
 signed-line-requires-2 : tie.Need-signed-line-requires-2
 signed-line-requires-2 c κs = east (c .before) .within
 
--- src/group.rt:84:24
 enum-known-north : tie.Need-enum-known-north
 enum-known-north c = search needs
 
--- src/group.rt:85:9
 enum-told-3 : tie.Need-enum-told-3
 enum-told-3 c = search needs
 
--- src/group.rt:85:9
 returns-3 : tie.Need-returns-3
 unfolding standLines onward
 returns-3 c =
@@ -98,23 +82,18 @@ returns-3 c =
     let at-name = at-east .before .before .before .before .before in
     rw (name at-name .reached .is, east at-east .is, rw (c .enum-told3 .given .1) at (c .before .before .signed-line2 .ensures))
 
--- src/group.rt:87:64
 slice-aggregate-unsigned-line : tie.Need-slice-aggregate-unsigned-line
 slice-aggregate-unsigned-line c = search needs
 
--- src/group.rt:87:39
 unsigned-line-requires : tie.Need-unsigned-line-requires
 unsigned-line-requires c κs = north (c .before) .within
 
--- src/group.rt:87:26
 enum-known-score : tie.Need-enum-known-score
 enum-known-score c = search needs
 
--- src/group.rt:88:9
 enum-told-4 : tie.Need-enum-told-4
 enum-told-4 c = search needs
 
--- src/group.rt:88:9
 returns-4 : tie.Need-returns-4
 unfolding standLines onward
 returns-4 c =
@@ -123,7 +102,6 @@ returns-4 c =
     let at-name = at-east .before .before .before .before .before in
     rw (name at-name .reached .is, east at-east .is, north at-north .is, rw (c .enum-told4 .given .1) at (c .before .before .unsigned-line .ensures))
 
--- src/group.rt:74:1
 returns-5 : tie.Need-returns-5
 unfolding standLines onward
 returns-5 c =

@@ -2,7 +2,6 @@
 use borrow.Author.Needs.{needs}
 use native.Mathlib.Omega.{arith}
 use Prim.Native.Nat.{_<_}
-use lib.ListN.{length}
 use Rattle.node.proofs.Ends.{length-short}
 use Rattle.node.proofs.Steps.{advanced}
 use Rattle.node.proofs.cursor.advance.Statement.{statement}
