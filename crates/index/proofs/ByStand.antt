@@ -100,6 +100,12 @@ module _ (t : Table) (g : Grid) (l : LawfulTable t g) where
       record { few = omega (arith, l .shaped .few); same = l .shaped .norths ∙ sym e; lawful = l .gridded; inside = λ i h. l .placed i (omega arith) }
 
   -- columns in the front of longer arrays
+  pub front-fits : (array : List ℕ) → length array ≡ 1024 → stands t ≤ length array
+  front-fits array size = omega (arith, l .shaped .few)
+
+  pub front-size : (array : List ℕ) → length array ≡ 1024 → stands t ≡ length (take (stands t) array)
+  front-size array size = sym (length-take-le (stands t) array (front-fits array size))
+
   pub columns-are : (long alike places : List ℕ) → take (stands t) long ≡ each (lengthIn (t .text) (t .starts)) (upTo (stands t))
       → take (stands t) alike ≡ each (sharedIn (t .text) (t .starts)) (upTo (stands t))
       → take (length (t .east)) places ≡ each (regionIn (t .east) (t .north) g) (upTo (length (t .east)))
