@@ -12,13 +12,24 @@ use Rattle.desk_form.proofs.Readings.{too-long, no-opening, no-stands, 
 use Rattle.desk_form.proofs.read_input.Statement.{statement}
 use Rattle.desk_form.proofs.read_input.Tie as tie
 
-opening : (c : tie.After-known-told) → let a = c .before .before .before .before .before .before .args in let g = c .before .grid .given .0 in Reached (a .input .now) (gridLines (a .input .now)) (g .0, g .1 .0) (g .1 .1 .0)
+opening : (c : tie.After-known-told) →
+    let a = c .before .before .before .before .before .before .args in
+    let g = c .before .grid .given .0 in
+    Reached (a .input .now) (gridLines (a .input .now)) (g .0, g .1 .0) (g .1 .1 .0)
 opening c = rw (c .before .grid .given .1) at (c .before .before .before .read-opening .ensures)
 
-stands : (c : tie.After-known-told2) → let a = c .before .before .before .before .before .before .before .before .before .before .before .before .before .before .before .args in let g = c .before .before .before .before .before .before .before .before .before .before .grid .given .0 in let r = c .before .before .before .read-stands in StandsReached (a .input .now) (allStands (g .1 .0) (drop (g .1 .1 .0) (a .input .now))) (tableOf (a .text .now) (a .starts .now) (a .east .now) (a .north .now) (a .score .now)) (tableOf (r .last .1 .1 .1 .0) (r .last .1 .1 .1 .1 .0) (r .last .1 .1 .1 .1 .1 .0) (r .last .1 .1 .1 .1 .1 .1 .0) (r .last .1 .1 .1 .1 .1 .1 .1 .0)) (c .before .bytes .given .0 .0) (c .before .bytes .given .0 .1 .0)
+stands : (c : tie.After-known-told2) →
+    let a = c .before .before .before .before .before .before .before .before .before .before .before .before .before .before .before .args in
+    let g = c .before .before .before .before .before .before .before .before .before .before .grid .given .0 in
+    let r = c .before .before .before .read-stands in
+    StandsReached (a .input .now) (allStands (g .1 .0) (drop (g .1 .1 .0) (a .input .now))) (tableOf (a .text .now) (a .starts .now) (a .east .now) (a .north .now) (a .score .now)) (tableOf (r .last .1 .1 .1 .0) (r .last .1 .1 .1 .1 .0) (r .last .1 .1 .1 .1 .1 .0) (r .last .1 .1 .1 .1 .1 .1 .0) (r .last .1 .1 .1 .1 .1 .1 .1 .0)) (c .before .bytes .given .0 .0) (c .before .bytes .given .0 .1 .0)
 stands c = rw (c .before .bytes .given .1) at (c .before .before .before .read-stands .ensures)
 
-question : (c : tie.After-known-told3) → let a = c .before .before .before .before .before .before .before .before .before .before .before .before .before .before .before .before .before .before .before .args in let q = c .before .from .given .0 in let at = c .before .before .before .before .before .bytes .given .0 .1 .0 in QuestionReached (a .input .now) at (questionLines (drop at (a .input .now))) (q .0) (q .1 .0) (q .1 .1 .0) (q .1 .1 .1 .0)
+question : (c : tie.After-known-told3) →
+    let a = c .before .before .before .before .before .before .before .before .before .before .before .before .before .before .before .before .before .before .before .args in
+    let q = c .before .from .given .0 in
+    let at = c .before .before .before .before .before .bytes .given .0 .1 .0 in
+    QuestionReached (a .input .now) at (questionLines (drop at (a .input .now))) (q .0) (q .1 .0) (q .1 .1 .0) (q .1 .1 .1 .0)
 question c = rw (c .before .from .given .1) at (c .before .before .before .read-question .ensures)
 
 returns : tie.Need-returns
@@ -43,7 +54,16 @@ read-stands-requires : tie.Need-read-stands-requires
 read-stands-requires c κs =
     let o = opening (c .before .before .before .before .before) in
     let few = grid-law .sound _ _ _ (o .is) .0 .1 in
-    record { within = o .within; short = omega (arith, c .before .before .before .before .before .before .before .before .before .if1 .left); text = omega (arith, c .before .before .before .before .read-stands-arg .given .0 .1, c .before .before .before .before .before .before .before .before .before .if1 .left); starts = omega (arith, few, c .before .before .before .read-stands-arg2 .given .0 .1); east = omega (arith, few, c .before .before .read-stands-arg3 .given .0 .1); north = omega (arith, few, c .before .read-stands-arg4 .given .0 .1); score = omega (arith, few, c .read-stands-arg5 .given .0 .1) }
+    let short = c .before .before .before .before .before .before .before .before .before .if1 .left in
+    record {
+      within = o .within;
+      short = omega (arith, short);
+      text = omega (arith, c .before .before .before .before .read-stands-arg .given .0 .1, short);
+      starts = omega (arith, few, c .before .before .before .read-stands-arg2 .given .0 .1);
+      east = omega (arith, few, c .before .before .read-stands-arg3 .given .0 .1);
+      north = omega (arith, few, c .before .read-stands-arg4 .given .0 .1);
+      score = omega (arith, few, c .read-stands-arg5 .given .0 .1);
+    }
 
 enum-known-bytes : tie.Need-enum-known-bytes
 enum-known-bytes c = search needs

@@ -23,7 +23,9 @@ part-begins-end c = search needs
 begins-requires : tie.Need-begins-requires
 begins-requires c κs = search needs
 
-key-there : (c : tie.Else1) → let a = c .before .before .before .before .before .args in begins (a .key .now) (take (length (a .input .now) - a .at) (drop (a .at) (a .input .now))) ≡ true
+key-there : (c : tie.Else1) →
+    let a = c .before .before .before .before .before .args in
+    begins (a .key .now) (take (length (a .input .now) - a .at) (drop (a .at) (a .input .now))) ≡ true
 key-there c = sym (c .before .begins .ensures) ∙ not-false _ (c .if1 .left)
 
 fits : (c : tie.Else1) → let a = c .before .before .before .before .before .args in a .at + length (a .key .now) ≤ length (a .input .now)

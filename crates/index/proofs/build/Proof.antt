@@ -53,8 +53,8 @@ array-share-prefix-alike c = front-fits _ _ (lawful-here (c .before .before .bef
 slice-aggregate-put-index-2 : tie.Need-slice-aggregate-put-index-2
 slice-aggregate-put-index-2 c = front-size _ _ (lawful-here (c .before .before .before .before .before)) (c .before .before .before .shares .result) (search needs)
 
-array-share-prefix-places : tie.Need-array-share-prefix-places
-array-share-prefix-places c = front-fits _ _ (lawful-here (c .before .before .before .before .before)) (c .before .before .regions .result) (search needs)
+array-share-prefix-region : tie.Need-array-share-prefix-region
+array-share-prefix-region c = front-fits _ _ (lawful-here (c .before .before .before .before .before)) (c .before .before .regions .result) (search needs)
 
 slice-aggregate-put-index-3 : tie.Need-slice-aggregate-put-index-3
 slice-aggregate-put-index-3 c = front-size _ _ (lawful-here (c .before .before .before .before .before .before)) (c .before .before .before .regions .result) (search needs)
@@ -96,7 +96,7 @@ build-spec =
     slice-aggregate-put-index
     array-share-prefix-alike
     slice-aggregate-put-index-2
-    array-share-prefix-places
+    array-share-prefix-region
     slice-aggregate-put-index-3
     put-index-requires
     same-length

@@ -53,8 +53,8 @@ array-share-prefix-alike c = front-fits _ _ (lawful-here (c .before .before .bef
 slice-aggregate-has-index-2 : tie.Need-slice-aggregate-has-index-2
 slice-aggregate-has-index-2 c = front-size _ _ (lawful-here (c .before .before .before .before .before)) (c .before .before .before .shares .result) (search needs)
 
-array-share-prefix-places : tie.Need-array-share-prefix-places
-array-share-prefix-places c = front-fits _ _ (lawful-here (c .before .before .before .before .before)) (c .before .before .regions .result) (search needs)
+array-share-prefix-region : tie.Need-array-share-prefix-region
+array-share-prefix-region c = front-fits _ _ (lawful-here (c .before .before .before .before .before)) (c .before .before .regions .result) (search needs)
 
 slice-aggregate-has-index-3 : tie.Need-slice-aggregate-has-index-3
 slice-aggregate-has-index-3 c = front-size _ _ (lawful-here (c .before .before .before .before .before .before)) (c .before .before .before .regions .result) (search needs)
@@ -87,7 +87,7 @@ check-spec =
     slice-aggregate-has-index
     array-share-prefix-alike
     slice-aggregate-has-index-2
-    array-share-prefix-places
+    array-share-prefix-region
     slice-aggregate-has-index-3
     has-index-requires
     returns-2)

@@ -23,13 +23,20 @@ abbrev μ-loop : tie.MeasureT-loop
 μ-loop input at stands text₀ starts₀ east₀ north₀ score₀ bytes₀ next₀ i₀ text starts east north score bytes next i =
     stands - i
 
-room : (c : tie.At-loop Inv-loop μ-loop) → let a = c .before .before .before .before .before .args in RoomFor (a .input .now) (a .at) (a .stands) (tableOf (a .text .now) (set (a .starts .now) 0 0) (a .east .now) (a .north .now) (a .score .now))
+room : (c : tie.At-loop Inv-loop μ-loop) →
+    let a = c .before .before .before .before .before .args in
+    RoomFor (a .input .now) (a .at) (a .stands) (tableOf (a .text .now) (set (a .starts .now) 0 0) (a .east .now) (a .north .now) (a .score .now))
 room c = with-first _ _ _ _ _ _ _ _ (c .before .before .before .before .before .pre)
 
-long : (c : tie.At-loop Inv-loop μ-loop) → let a = c .before .before .before .before .before .args in SameLong (tableOf (c .loop .text) (c .loop .starts) (c .loop .east) (c .loop .north) (c .loop .score)) (tableOf (a .text .now) (set (a .starts .now) 0 0) (a .east .now) (a .north .now) (a .score .now))
+long : (c : tie.At-loop Inv-loop μ-loop) →
+    let a = c .before .before .before .before .before .args in
+    SameLong (tableOf (c .loop .text) (c .loop .starts) (c .loop .east) (c .loop .north) (c .loop .score)) (tableOf (a .text .now) (set (a .starts .now) 0 0) (a .east .now) (a .north .now) (a .score .now))
 long c = lay-long _ _ _ _ _ _ _ _ (room c) (c .loop .inv)
 
-there : (c : tie.After-known-told Inv-loop μ-loop) → let a = c .before .before .before .before .before .before .before .before .before .before .args in let s = c .before .from .given .0 in StandReached (a .input .now) (standLines (drop (c .before .before .before .before .before .loop .next) (a .input .now))) (s .0) (s .1 .0) (s .1 .1 .0) (s .1 .1 .1 .0) (s .1 .1 .1 .1 .0) (s .1 .1 .1 .1 .1 .0)
+there : (c : tie.After-known-told Inv-loop μ-loop) →
+    let a = c .before .before .before .before .before .before .before .before .before .before .args in
+    let s = c .before .from .given .0 in
+    StandReached (a .input .now) (standLines (drop (c .before .before .before .before .before .loop .next) (a .input .now))) (s .0) (s .1 .0) (s .1 .1 .0) (s .1 .1 .1 .0) (s .1 .1 .1 .1 .0) (s .1 .1 .1 .1 .1 .0)
 there c = rw (c .before .from .given .1) at (c .before .before .before .read-stand .ensures)
 
 east-fits : (c : tie.After-known-told Inv-loop μ-loop) → SFits w32 (c .before .from .given .0 .1 .1 .0)

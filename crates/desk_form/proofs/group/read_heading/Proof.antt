@@ -13,13 +13,19 @@ use Rattle.desk_line.specs.Says.{Reached, PartReached}
 use Rattle.desk_form.proofs.group.read_heading.Statement.{statement}
 use Rattle.desk_form.proofs.group.read_heading.Tie as tie
 
-bytes : (c : tie.After-known-told) → let a = c .before .before .before .before .before .before .args in PartReached (a .input .now) (a .at + length (a .key .now)) (bytesLine (a .key .now) (drop (a .at) (a .input .now))) (c .before .from .given .0 .0) (c .before .from .given .0 .1 .0)
+bytes : (c : tie.After-known-told) →
+    let a = c .before .before .before .before .before .before .args in
+    PartReached (a .input .now) (a .at + length (a .key .now)) (bytesLine (a .key .now) (drop (a .at) (a .input .now))) (c .before .from .given .0 .0) (c .before .from .given .0 .1 .0)
 bytes c = rw (c .before .from .given .1) at (c .before .before .before .bytes-line .ensures)
 
-east : (c : tie.After-known-told2) → let a = c .before .before .before .before .before .before .before .before .before .before .before .args in Reached (a .input .now) (signedLine (ascii "east=") (drop (c .before .before .before .before .before .before .from .given .0 .1 .0 + 1) (a .input .now))) (c .before .east .given .0 .0) (c .before .east .given .0 .1 .0)
+east : (c : tie.After-known-told2) →
+    let a = c .before .before .before .before .before .before .before .before .before .before .before .args in
+    Reached (a .input .now) (signedLine (ascii "east=") (drop (c .before .before .before .before .before .before .from .given .0 .1 .0 + 1) (a .input .now))) (c .before .east .given .0 .0) (c .before .east .given .0 .1 .0)
 east c = rw (c .before .east .given .1) at (c .before .before .before .signed-line .ensures)
 
-north : (c : tie.After-known-told3) → let a = c .before .before .before .before .before .before .before .before .before .before .before .before .before .before .before .before .args in Reached (a .input .now) (signedLine (ascii "north=") (drop (c .before .before .before .before .before .before .east .given .0 .1 .0) (a .input .now))) (c .before .north .given .0 .0) (c .before .north .given .0 .1 .0)
+north : (c : tie.After-known-told3) →
+    let a = c .before .before .before .before .before .before .before .before .before .before .before .before .before .before .before .before .args in
+    Reached (a .input .now) (signedLine (ascii "north=") (drop (c .before .before .before .before .before .before .east .given .0 .1 .0) (a .input .now))) (c .before .north .given .0 .0) (c .before .north .given .0 .1 .0)
 north c = rw (c .before .north .given .1) at (c .before .before .before .signed-line2 .ensures)
 
 bytes-line-requires : tie.Need-bytes-line-requires

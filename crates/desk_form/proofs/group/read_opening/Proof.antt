@@ -11,16 +11,24 @@ use Rattle.desk_line.specs.Says.{Reached}
 use Rattle.desk_form.proofs.group.read_opening.Statement.{statement}
 use Rattle.desk_form.proofs.group.read_opening.Tie as tie
 
-west : (c : tie.After-known-told) → Reached (c .before .before .before .before .before .before .args .input .now) (signedLine (ascii "west=") (c .before .before .before .before .before .before .args .input .now)) (c .before .west .given .0 .0) (c .before .west .given .0 .1 .0)
+west : (c : tie.After-known-told) →
+    let a = c .before .before .before .before .before .before .args in
+    Reached (a .input .now) (signedLine (ascii "west=") (a .input .now)) (c .before .west .given .0 .0) (c .before .west .given .0 .1 .0)
 west c = rw (c .before .west .given .1) at (c .before .before .before .signed-line .ensures)
 
-south : (c : tie.After-known-told2) → Reached (c .before .before .before .before .before .before .before .before .before .before .before .args .input .now) (signedLine (ascii "south=") (drop (c .before .before .before .before .before .before .west .given .0 .1 .0) (c .before .before .before .before .before .before .before .before .before .before .before .args .input .now))) (c .before .south .given .0 .0) (c .before .south .given .0 .1 .0)
+south : (c : tie.After-known-told2) →
+    let a = c .before .before .before .before .before .before .before .before .before .before .before .args in
+    Reached (a .input .now) (signedLine (ascii "south=") (drop (c .before .before .before .before .before .before .west .given .0 .1 .0) (a .input .now))) (c .before .south .given .0 .0) (c .before .south .given .0 .1 .0)
 south c = rw (c .before .south .given .1) at (c .before .before .before .signed-line2 .ensures)
 
-cell : (c : tie.After-known-told3) → Reached (c .before .before .before .before .before .before .before .before .before .before .before .before .before .before .before .before .args .input .now) (unsignedLine 65535 (ascii "cell=") (drop (c .before .before .before .before .before .before .south .given .0 .1 .0) (c .before .before .before .before .before .before .before .before .before .before .before .before .before .before .before .before .args .input .now))) (c .before .cell .given .0 .0) (c .before .cell .given .0 .1 .0)
+cell : (c : tie.After-known-told3) →
+    let a = c .before .before .before .before .before .before .before .before .before .before .before .before .before .before .before .before .args in
+    Reached (a .input .now) (unsignedLine 65535 (ascii "cell=") (drop (c .before .before .before .before .before .before .south .given .0 .1 .0) (a .input .now))) (c .before .cell .given .0 .0) (c .before .cell .given .0 .1 .0)
 cell c = rw (c .before .cell .given .1) at (c .before .before .before .unsigned-line .ensures)
 
-stands : (c : tie.After-known-told4) → Reached (c .before .before .before .before .before .before .before .before .before .before .before .before .before .before .before .before .before .before .before .before .before .args .input .now) (unsignedLine 64 (ascii "stands=") (drop (c .before .before .before .before .before .before .cell .given .0 .1 .0) (c .before .before .before .before .before .before .before .before .before .before .before .before .before .before .before .before .before .before .before .before .before .args .input .now))) (c .before .stands .given .0 .0) (c .before .stands .given .0 .1 .0)
+stands : (c : tie.After-known-told4) →
+    let a = c .before .before .before .before .before .before .before .before .before .before .before .before .before .before .before .before .before .before .before .before .before .args in
+    Reached (a .input .now) (unsignedLine 64 (ascii "stands=") (drop (c .before .before .before .before .before .before .cell .given .0 .1 .0) (a .input .now))) (c .before .stands .given .0 .0) (c .before .stands .given .0 .1 .0)
 stands c = rw (c .before .stands .given .1) at (c .before .before .before .unsigned-line2 .ensures)
 
 slice-aggregate-signed-line : tie.Need-slice-aggregate-signed-line

@@ -13,13 +13,20 @@ use Rattle.desk_form.specs.Says.{HeadingReached}
 use Rattle.desk_form.proofs.group.read_question.Statement.{statement}
 use Rattle.desk_form.proofs.group.read_question.Tie as tie
 
-heading : (c : tie.After-known-told) → let a = c .before .before .before .before .before .before .args in let h = c .before .from .given .0 in HeadingReached (a .input .now) (a .at + length (ascii "text=")) (headingLines (ascii "text=") (drop (a .at) (a .input .now))) (h .0) (h .1 .0) (h .1 .1 .0) (h .1 .1 .1 .0) (h .1 .1 .1 .1 .0)
+heading : (c : tie.After-known-told) →
+    let a = c .before .before .before .before .before .before .args in
+    let h = c .before .from .given .0 in
+    HeadingReached (a .input .now) (a .at + length (ascii "text=")) (headingLines (ascii "text=") (drop (a .at) (a .input .now))) (h .0) (h .1 .0) (h .1 .1 .0) (h .1 .1 .1 .0) (h .1 .1 .1 .1 .0)
 heading c = rw (c .before .from .given .1) at (c .before .before .before .read-heading .ensures)
 
-weight : (c : tie.After-known-told2) → let a = c .before .before .before .before .before .before .before .before .before .before .before .args in Reached (a .input .now) (unsignedLine 65535 (ascii "weight=") (drop (c .before .before .before .before .before .before .from .given .0 .1 .1 .1 .1 .0) (a .input .now))) (c .before .weight .given .0 .0) (c .before .weight .given .0 .1 .0)
+weight : (c : tie.After-known-told2) →
+    let a = c .before .before .before .before .before .before .before .before .before .before .before .args in
+    Reached (a .input .now) (unsignedLine 65535 (ascii "weight=") (drop (c .before .before .before .before .before .before .from .given .0 .1 .1 .1 .1 .0) (a .input .now))) (c .before .weight .given .0 .0) (c .before .weight .given .0 .1 .0)
 weight c = rw (c .before .weight .given .1) at (c .before .before .before .unsigned-line .ensures)
 
-k : (c : tie.After-known-told3) → let a = c .before .before .before .before .before .before .before .before .before .before .before .before .before .before .before .before .args in Reached (a .input .now) (unsignedLine 65535 (ascii "k=") (drop (c .before .before .before .before .before .before .weight .given .0 .1 .0) (a .input .now))) (c .before .k .given .0 .0) (c .before .k .given .0 .1 .0)
+k : (c : tie.After-known-told3) →
+    let a = c .before .before .before .before .before .before .before .before .before .before .before .before .before .before .before .before .args in
+    Reached (a .input .now) (unsignedLine 65535 (ascii "k=") (drop (c .before .before .before .before .before .before .weight .given .0 .1 .0) (a .input .now))) (c .before .k .given .0 .0) (c .before .k .given .0 .1 .0)
 k c = rw (c .before .k .given .1) at (c .before .before .before .unsigned-line2 .ensures)
 
 slice-aggregate-read-heading : tie.Need-slice-aggregate-read-heading

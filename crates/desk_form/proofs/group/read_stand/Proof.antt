@@ -13,10 +13,15 @@ use Rattle.desk_form.specs.Says.{HeadingReached}
 use Rattle.desk_form.proofs.group.read_stand.Statement.{statement}
 use Rattle.desk_form.proofs.group.read_stand.Tie as tie
 
-heading : (c : tie.After-known-told) → let a = c .before .before .before .before .before .before .args in let h = c .before .from .given .0 in HeadingReached (a .input .now) (a .at + length (ascii "name=")) (headingLines (ascii "name=") (drop (a .at) (a .input .now))) (h .0) (h .1 .0) (h .1 .1 .0) (h .1 .1 .1 .0) (h .1 .1 .1 .1 .0)
+heading : (c : tie.After-known-told) →
+    let a = c .before .before .before .before .before .before .args in
+    let h = c .before .from .given .0 in
+    HeadingReached (a .input .now) (a .at + length (ascii "name=")) (headingLines (ascii "name=") (drop (a .at) (a .input .now))) (h .0) (h .1 .0) (h .1 .1 .0) (h .1 .1 .1 .0) (h .1 .1 .1 .1 .0)
 heading c = rw (c .before .from .given .1) at (c .before .before .before .read-heading .ensures)
 
-score : (c : tie.After-known-told2) → let a = c .before .before .before .before .before .before .before .before .before .before .before .args in Reached (a .input .now) (unsignedLine 65535 (ascii "score=") (drop (c .before .before .before .before .before .before .from .given .0 .1 .1 .1 .1 .0) (a .input .now))) (c .before .score .given .0 .0) (c .before .score .given .0 .1 .0)
+score : (c : tie.After-known-told2) →
+    let a = c .before .before .before .before .before .before .before .before .before .before .before .args in
+    Reached (a .input .now) (unsignedLine 65535 (ascii "score=") (drop (c .before .before .before .before .before .before .from .given .0 .1 .1 .1 .1 .0) (a .input .now))) (c .before .score .given .0 .0) (c .before .score .given .0 .1 .0)
 score c = rw (c .before .score .given .1) at (c .before .before .before .unsigned-line .ensures)
 
 slice-aggregate-read-heading : tie.Need-slice-aggregate-read-heading
