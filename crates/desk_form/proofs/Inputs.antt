@@ -140,7 +140,9 @@ read-back r h =
     rw (grouped r, grid-back (r .grid, length (r .stands)) _ (h .grid, h .few), stands-back (length (r .stands)) (r .stands) _ (refl, h .stands), question-back (r .text, r .ranking) [] (h .text, h .ranking)) in
     rw (le-leb _ _ (h .short)) lines
 
-joined : (l : List ℕ) (h : Grid × ℕ) (stands : List StandLines) (q : List ℕ × Ranking) → GridOk h → StandsOk (h .1) stands → QuestionOk q → l ≡ gridText (h .0) (h .1) ++ (eachList standText stands ++ (questionText (q .0) (q .1) ++ [])) → length l ≤ 16384 → InRanges (inputOf (h .0) stands q) × (textOf (inputOf (h .0) stands q) ≡ l)
+joined : (l : List ℕ) (h : Grid × ℕ) (stands : List StandLines) (q : List ℕ × Ranking) → GridOk h → StandsOk (h .1) stands → QuestionOk q
+    → l ≡ gridText (h .0) (h .1) ++ (eachList standText stands ++ (questionText (q .0) (q .1) ++ [])) → length l ≤ 16384
+    → InRanges (inputOf (h .0) stands q) × (textOf (inputOf (h .0) stands q) ≡ l)
 joined l h stands q g s w e short =
     let t : textOf (inputOf (h .0) stands q) ≡ l = grouped (inputOf (h .0) stands q) ∙ rw (s .0) (sym e) in
     let few : length stands ≤ 64 = rw (s .0) (g .1) in

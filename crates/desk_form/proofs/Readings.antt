@@ -29,14 +29,16 @@ use Rattle.desk_form.specs.declared.Reading.the-variants.{Of, Refused}
 use Rattle.desk_line.proofs.Lines.{lost}
 use Rattle.desk_form.proofs.Inputs.{grid-law, stands-sound, read-back, read-sound}
 
-same-reading : {stands stands′ bytes bytes′ from from′ past past′ : ℕ} {grid : Grid} {ranking : Ranking} → stands ≡ stands′ → bytes ≡ bytes′ → from ≡ from′ → past ≡ past′ → Of stands bytes grid from past ranking ≡ Of stands′ bytes′ grid from′ past′ ranking
+same-reading : {stands stands′ bytes bytes′ from from′ past past′ : ℕ} {grid : Grid} {ranking : Ranking} → stands ≡ stands′ → bytes ≡ bytes′ → from ≡ from′
+    → past ≡ past′ → Of stands bytes grid from past ranking ≡ Of stands′ bytes′ grid from′ past′ ranking
 same-reading a b c d = rw (a, b, c, d)
 
 module _ (l : List ℕ) (rooms after : Table) where
   refused : readInput l ≡ nothing → ReadsInput l rooms (Refused InputMalformed) after
   refused e = record { of-form = λ r h t. lost (sym e ∙ ap readInput (sym t) ∙ read-back r h); other = λ no. refl }
 
-  accepted : (answer : Reading) (r : Input) (rest : List ℕ) → readInput l ≡ found r rest → answer ≡ readingOf r → after ≡ laidTable (tableFrom (r .stands)) rooms → ReadsInput l rooms answer after
+  accepted : (answer : Reading) (r : Input) (rest : List ℕ) → readInput l ≡ found r rest → answer ≡ readingOf r
+      → after ≡ laidTable (tableFrom (r .stands)) rooms → ReadsInput l rooms answer after
   accepted answer r rest e a b =
       record { of-form = same; other = λ no. absurd (no r (read-sound l r rest e .0) (read-sound l r rest e .1)) }
     where

@@ -25,7 +25,8 @@ enough zero r′ n h k = absurd (omega arith)
 enough (suc r) zero n h k = absurd (omega arith)
 enough (suc r) (suc r′) n h k = step (λ q. enough r r′ (n / 10) (omega (arith, q)) (omega (arith, q))) (le-or-lt 10 n)
   where
-    step : (10 ≤ n → digitsOf (ltb (n / 10) 10) r (n / 10) ≡ digitsOf (ltb (n / 10) 10) r′ (n / 10)) → (10 ≤ n) ⊎ (n < 10) → digitsOf (ltb n 10) (suc r) n ≡ digitsOf (ltb n 10) (suc r′) n
+    step : (10 ≤ n → digitsOf (ltb (n / 10) 10) r (n / 10) ≡ digitsOf (ltb (n / 10) 10) r′ (n / 10)) → (10 ≤ n) ⊎ (n < 10)
+        → digitsOf (ltb n 10) (suc r) n ≡ digitsOf (ltb n 10) (suc r′) n
     step below (inl q) = rw (le-ltb n 10 q, below q)
     step below (inr q) = rw (lt-ltb n 10 q)
 
@@ -76,7 +77,8 @@ unfolding gather
 gather-more most value a b [] e f = let s : value ≡ a = cc in rw (s, f)
 gather-more most value a b (c ∷ l) e f = step (gather-more most (grown value c) a b l) (which (digitFits most value c))
   where
-    step : (gather most (grown value c) l ≡ some a → digitFits most a b ≡ true → gather most (grown value c) (l ++ (b ∷ [])) ≡ some (grown a b)) → (digitFits most value c ≡ true) ⊎ (digitFits most value c ≡ false) → gather most value (c ∷ (l ++ (b ∷ []))) ≡ some (grown a b)
+    step : (gather most (grown value c) l ≡ some a → digitFits most a b ≡ true → gather most (grown value c) (l ++ (b ∷ [])) ≡ some (grown a b))
+        → (digitFits most value c ≡ true) ⊎ (digitFits most value c ≡ false) → gather most value (c ∷ (l ++ (b ∷ []))) ≡ some (grown a b)
     step further (inl q) = rw q (further (rw q at e) f)
     step further (inr q) = absurd (Option·none-ne-some a (rw q at e))
 
@@ -99,7 +101,8 @@ unfolding gather
 gather-on most a n [] h k e = let s : a ≡ n = cc in (rw s at k, rw s (append-nil (decimalOf n)))
 gather-on most a n (b ∷ l) h k e = step (gather-on most (grown a b) n l) (which (digitFits most a b))
   where
-    step : (0 < grown a b → grown a b ≤ most → gather most (grown a b) l ≡ some n → (n ≤ most) × (decimalOf (grown a b) ++ l ≡ decimalOf n)) → (digitFits most a b ≡ true) ⊎ (digitFits most a b ≡ false) → (n ≤ most) × (decimalOf a ++ (b ∷ l) ≡ decimalOf n)
+    step : (0 < grown a b → grown a b ≤ most → gather most (grown a b) l ≡ some n → (n ≤ most) × (decimalOf (grown a b) ++ l ≡ decimalOf n))
+        → (digitFits most a b ≡ true) ⊎ (digitFits most a b ≡ false) → (n ≤ most) × (decimalOf a ++ (b ∷ l) ≡ decimalOf n)
     step further (inl q) =
         let f = fits most a b q in
         let r = further (omega arith) (f .few) (rw q at e) in

@@ -133,7 +133,8 @@ module _ (c : Columns) (x : Index) (n e : ℕ) (nodes : n ≡ nodeCountOf c) (en
         for-entries = omega (arith, entries, ltb-false (length (x .entries)) (4 * e) (a .1));
       }
 
-  pub wrote : small ≡ false → (order′ nodes′ entries′ : List ℕ) → order′ ≡ over (x .order) 0 (orderOf (c .region)) → nodes′ ≡ over (x .nodes) 0 (nodeWordsOf c) → entries′ ≡ over (x .entries) 0 (entryWordsOf c)
+  pub wrote : small ≡ false → (order′ nodes′ entries′ : List ℕ) → order′ ≡ over (x .order) 0 (orderOf (c .region)) → nodes′ ≡ over (x .nodes) 0 (nodeWordsOf c)
+      → entries′ ≡ over (x .entries) 0 (entryWordsOf c)
       → BuiltFrom c x (built.Index n e) (indexOf order′ nodes′ entries′)
   unfolding overAll
   wrote q order′ nodes′ entries′ o p r = record { told = rw (small-test, q, nodes, entries); buffers = rw (small-test, q, o, p, r) }

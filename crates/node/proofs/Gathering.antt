@@ -119,7 +119,8 @@ module _ (lengths shared : List ℕ) (g : Grows lengths shared) where
         (λ (q : c .stand < length lengths). (omega (arith, w .begun), omega (arith, w .inside (c .stand) q, o .long)))
         (le-or-lt (length lengths) (c .stand))
 
-    pub parent-is : (path : List ℕ) → Ways lengths shared path (c .stand) (c .length) → cond (eqb (c .length) 0) 0 (at path (c .length - 1)) ≡ parentOf lengths shared (c .stand) (c .length)
+    pub parent-is : (path : List ℕ) → Ways lengths shared path (c .stand) (c .length)
+        → cond (eqb (c .length) 0) 0 (at path (c .length - 1)) ≡ parentOf lengths shared (c .stand) (c .length)
     parent-is path w = step (which (eqb (c .length) 0))
       where
         step : (eqb (c .length) 0 ≡ true) ⊎ (eqb (c .length) 0 ≡ false) → cond (eqb (c .length) 0) 0 (at path (c .length - 1)) ≡ parentOf lengths shared (c .stand) (c .length)

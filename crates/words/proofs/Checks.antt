@@ -61,7 +61,8 @@ module _ {t : Columns} {all : ℕ} {nodes entries next path places best ranked :
           let e = part (s .own) (entryRows (entriesAt t (visitOf c))) (entryWordsFrom t after) (ap (entryWordsFrom t) first) in
           sym (ap2 _&&_ n e ∙ one-fails (hasRow t c nodes) (hasEntries t c entries) _ _ q)
 
-      pub checking-more : {r : Cursor} {next′ path′ places′ best′ ranked′ : List ℕ} → hasRow t c nodes ≡ true → hasEntries t c entries ≡ true → Moved t c r next′ path′ places′ best′ ranked′
+      pub checking-more : {r : Cursor} {next′ path′ places′ best′ ranked′ : List ℕ} → hasRow t c nodes ≡ true → hasEntries t c entries ≡ true
+          → Moved t c r next′ path′ places′ best′ ranked′
           → Checking t all nodes entries next′ path′ places′ best′ ranked′ r
       checking-more p q m =
           record {

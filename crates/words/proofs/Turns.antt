@@ -100,7 +100,8 @@ module _ {t : Columns} (w : LawfulColumns t) {c : Cursor} {next path places₀ b
     row-has : (nodes : List ℕ) {row : List ℕ} {b : Bool} → Rowed row → begins row (drop (c .number * 8) nodes) ≡ b → hasRow t c nodes ≡ b
     row-has nodes f q = sym (ap (λ (l : List ℕ). begins l (drop (c .number * 8) nodes)) (row-now f)) ∙ q
 
-    entries-have : (entries : List ℕ) {b : Bool} → begins (entryRows (entriesFrom best next places ranked (g .held))) (drop (c .entries * 4) entries) ≡ b → hasEntries t c entries ≡ b
+    entries-have : (entries : List ℕ) {b : Bool} → begins (entryRows (entriesFrom best next places ranked (g .held))) (drop (c .entries * 4) entries) ≡ b
+        → hasEntries t c entries ≡ b
     entries-have entries q = sym (ap (λ (l : List Entry). begins (entryRows l) (drop (c .entries * 4) entries)) own-now) ∙ q
 
     module _ {nodes entries next′ path′ : List ℕ} where

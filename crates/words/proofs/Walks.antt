@@ -55,13 +55,15 @@ module _ (lengths shared : List ℕ) (g : Grows lengths shared) where
           length-eachList (newVisits lengths shared) (fromOn 1 (length lengths - 1))
           ∙ ap total (each-same (λ k. length (newVisits lengths shared k)) (growth lengths shared) (fromOn 1 (length lengths - 1)) (λ x k. new-count x))
 
-      some : 0 < length lengths → length (visitsAt lengths 0 0) + length (eachList (newVisits lengths shared) (fromOn 1 (length lengths - 1))) ≡ total (each (growth lengths shared) (span 0 (length lengths))) + 1
+      some : 0 < length lengths
+          → length (visitsAt lengths 0 0) + length (eachList (newVisits lengths shared) (fromOn 1 (length lengths - 1))) ≡ total (each (growth lengths shared) (span 0 (length lengths))) + 1
       some h =
           let n : length lengths - 0 ≡ suc (length lengths - 1) = omega arith in
           let s : total (each (growth lengths shared) (span 0 (length lengths))) ≡ growth lengths shared 0 + total (each (growth lengths shared) (fromOn 1 (length lengths - 1))) = rw n in
           omega (arith, first, rest, s, g .first)
 
-      none : length lengths ≤ 0 → length (visitsAt lengths 0 0) + length (eachList (newVisits lengths shared) (fromOn 1 (length lengths - 1))) ≡ total (each (growth lengths shared) (span 0 (length lengths))) + 1
+      none : length lengths ≤ 0
+          → length (visitsAt lengths 0 0) + length (eachList (newVisits lengths shared) (fromOn 1 (length lengths - 1))) ≡ total (each (growth lengths shared) (span 0 (length lengths))) + 1
       none h =
           let n : length lengths - 0 ≡ 0 = omega arith in
           let m : length lengths - 1 ≡ 0 = omega arith in
@@ -169,7 +171,8 @@ pub record Carrying (t : Columns) (all : ℕ) (c : Cursor) (next path places bes
   pub scratch : Scratch path places best ranked
 
 module _ {t : Columns} {all : ℕ} {c : Cursor} {next path places best ranked : List ℕ} where
-  pub carrying : LawfulColumns t → c ≡ rootCursor → all ≡ nodeCountOf t → next ≡ placesAt (t .region) 0 → Scratch path places best ranked → Carrying t all c next path places best ranked
+  pub carrying : LawfulColumns t → c ≡ rootCursor → all ≡ nodeCountOf t → next ≡ placesAt (t .region) 0 → Scratch path places best ranked
+      → Carrying t all c next path places best ranked
   carrying w r e n s =
       record { way = going r (w .grows) e; next-is = rw r n; ways = rw r (λ h k u. absurd (omega arith)); scratch = s }
 

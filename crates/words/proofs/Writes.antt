@@ -32,7 +32,8 @@ module _ {all-words d : List ℕ} where
     filled-room : length all-words ≤ length d → size + length rest ≤ length room
     filled-room fits = omega (arith, filled-length fits, f .done-size, ap length (f .split) ∙ length-append (f .done) rest)
 
-    filled-more : (w : List ℕ) {rest′ room′ : List ℕ} {p size′ : ℕ} → rest ≡ w ++ rest′ → p ≡ size → room′ ≡ over room p w → size′ ≡ size + length w → Filled all-words d room′ rest′ size′
+    filled-more : (w : List ℕ) {rest′ room′ : List ℕ} {p size′ : ℕ} → rest ≡ w ++ rest′ → p ≡ size → room′ ≡ over room p w → size′ ≡ size + length w
+        → Filled all-words d room′ rest′ size′
     filled-more w {rest′} {room′} {p} e q r l =
         let place : p ≡ 0 + length (f .done) = omega (arith, f .done-size) in
         record {
@@ -100,7 +101,8 @@ module _ {t : Columns} {all : ℕ} {n₀ e₀ next path places best ranked : Lis
                 );
           }
 
-      pub writing-more : {r : Cursor} {next′ path′ places′ best′ ranked′ nodes′ entries′ : List ℕ} → Moved t c r next′ path′ places′ best′ ranked′ × Wrote t c nodes entries nodes′ entries′
+      pub writing-more : {r : Cursor} {next′ path′ places′ best′ ranked′ nodes′ entries′ : List ℕ}
+          → Moved t c r next′ path′ places′ best′ ranked′ × Wrote t c nodes entries nodes′ entries′
           → Writing t all n₀ e₀ next′ path′ places′ best′ ranked′ nodes′ entries′ r
       writing-more m =
           record {

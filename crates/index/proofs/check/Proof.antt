@@ -29,7 +29,8 @@ abbrev table-of : tie.Start → Table
 table-of s = let a = s .args in tableOf (a .text .now) (a .starts .now) (a .east .now) (a .north .now) (a .score .now)
 
 -- past the refusals
-lawful-here : (c : tie.After-enum-told) → LawfulTable (table-of (c .before .before .before .before .before .before .before .before .before)) (c .before .before .before .before .before .before .before .before .before .args .grid)
+lawful-here : (c : tie.After-enum-told)
+    → LawfulTable (table-of (c .before .before .before .before .before .before .before .before .before)) (c .before .before .before .before .before .before .before .before .before .args .grid)
 lawful-here c = granted _ _ _ (c .before .before .table-refusal .ensures) (c .enum-told .given .1)
 
 lengths-requires : tie.Need-lengths-requires

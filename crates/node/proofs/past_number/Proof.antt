@@ -8,7 +8,8 @@ use Rattle.node.proofs.past_number.Statement.{statement}
 use Rattle.node.proofs.past_number.Tie as tie
 
 -- the sum fits, and is no less than what is taken off
-sum-fits : (c : tie.After-word2) → (c .before .before .word .result ≤ 24) × (c .before .grown .result ≤ 24576) × (c .word2 .result ≤ c .before .before .word .result + c .before .grown .result)
+sum-fits : (c : tie.After-word2)
+    → (c .before .before .word .result ≤ 24) × (c .before .grown .result ≤ 24576) × (c .word2 .result ≤ c .before .before .word .result + c .before .grown .result)
 sum-fits c =
     let s = c .before .before .before .before .before .before in
     let a = s .args in
