@@ -14,7 +14,8 @@ use Rattle.rules.specs.Numbers.{refusalNumber}
 use Rattle.desk_form.specs.Printed.{printedRefusal}
 use Rattle.desk_answer.specs.Puts.{lineOf, hitLines, Puts}
 
-pub copied : (bytes out : List ℕ) (at : ℕ) (after : List ℕ) → at + length bytes ≤ length out → after ≡ paste out at (drop 0 bytes) (length bytes - 0) → Puts bytes (length bytes) out at after (at + length bytes)
+pub copied : (bytes out : List ℕ) (at : ℕ) (after : List ℕ) → at + length bytes ≤ length out → after ≡ paste out at (drop 0 bytes) (length bytes - 0)
+    → Puts bytes (length bytes) out at after (at + length bytes)
 copied bytes out at after room e =
     record {
       is = rw (e, sub-zero) (take-paste out at bytes (length bytes) (omega arith) (omega arith) ∙ ap (λ l. take at out ++ l) (take-length bytes));
@@ -35,16 +36,19 @@ module _ {out after : List ℕ} {at r : ℕ} where
       }
 
   -- a line whose value is a number of at most 20 digits
-  pub numbered : (key value : List ℕ) (n : ℕ) → value ≡ decimalOf n → length value ≤ 20 → Puts (lineOf key value) (length key + (length value + 1)) out at after r → Puts (lineOf key (decimalOf n)) (length key + 21) out at after r
+  pub numbered : (key value : List ℕ) (n : ℕ) → value ≡ decimalOf n → length value ≤ 20
+      → Puts (lineOf key value) (length key + (length value + 1)) out at after r → Puts (lineOf key (decimalOf n)) (length key + 21) out at after r
   numbered key value n e h p = rw e at (within (length key + 21) (omega arith) p)
 
 -- the three lines of a hit
-pub hit-put : {out o₁ o₂ o₃ : List ℕ} {at r₁ r₂ r₃ : ℕ} (text starts : List ℕ) (stand value : ℕ) (named : List ℕ) → named ≡ name text starts stand → length (name text starts stand) ≤ 24
+pub hit-put : {out o₁ o₂ o₃ : List ℕ} {at r₁ r₂ r₃ : ℕ} (text starts : List ℕ) (stand value : ℕ) (named : List ℕ) → named ≡ name text starts stand
+    → length (name text starts stand) ≤ 24
     → Puts (lineOf (ascii "object=") (decimalOf stand)) 28 out at o₁ r₁ → Puts (lineOf (ascii "name=") named) (5 + (length named + 1)) o₁ r₁ o₂ r₂ → Puts (lineOf (ascii "value=") (decimalOf value)) 27 o₂ r₂ o₃ r₃
     → Puts (hitLines text starts stand value) 96 out at o₃ r₃
 unfolding hitLines
 hit-put text starts stand value named e short p q s = within 96 (omega arith) (then p (then (rw e at q) s))
 
-pub refusal-put : {out after : List ℕ} {at r : ℕ} (why : Refusal) (n : ℕ) → n ≡ refusalNumber why → Puts (lineOf (ascii "refused=") (decimalOf n)) 29 out at after r → Puts (printedRefusal (refusalNumber why)) 29 out at after r
+pub refusal-put : {out after : List ℕ} {at r : ℕ} (why : Refusal) (n : ℕ) → n ≡ refusalNumber why
+    → Puts (lineOf (ascii "refused=") (decimalOf n)) 29 out at after r → Puts (printedRefusal (refusalNumber why)) 29 out at after r
 unfolding printedRefusal line
 refusal-put why n e p = rw e at p

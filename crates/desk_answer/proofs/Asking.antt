@@ -4,7 +4,7 @@ use mathlib.Core.Path.{_≡_, refl, sym, ap, _∙_}
 use mathlib.Core.Logic.{_⊎_, inl, inr}
 use mathlib.Core.Bool.{true, false, cond}
 use mathlib.Core.List.{List, _++_, append-assoc}
-use Prim.Native.Nat.{ℕ, zero, suc, _≤_, _<_}
+use Prim.Native.Nat.{ℕ, _≤_, _<_}
 use native.Mathlib.Omega.{arith}
 use lib.ListN.{length, getD, List·getD-append}
 use borrow.Author.Tests.{le-ltb, leb-true, ne-eqb}
@@ -17,7 +17,7 @@ use Rattle.rules.specs.declared.Ranking.{Ranking}
 use Rattle.rules.specs.declared.Hit.{Hit}
 use Rattle.rules.specs.declared.Refusal.{Refusal}
 use Rattle.rules.specs.declared.RankedAnswer.the-variants.{Found, Refused}
-use Rattle.rules.specs.Numbers.{Told, firstGiven, refusalNumber}
+use Rattle.rules.specs.Numbers.{Told, refusalNumber}
 use Rattle.rules.specs.Names.{name, textRefusal}
 use Rattle.rules.specs.Tables.{Table, nameOf, tableRefusal}
 use Rattle.rules.specs.Questions.{rankedList, rankingLawful, rankedRefusal}
@@ -26,15 +26,12 @@ use Rattle.rules.proofs.Lawful.{lawful, taken, set-parts}
 use Rattle.rules.proofs.Outcomes.{refusal-some}
 use Rattle.trie.specs.Meaning.{noHit}
 use Rattle.trie.proofs.Meaning.{table-means}
+use Rattle.index.proofs.Outcomes.{first-none}
 use Rattle.ranked.specs.Promises.{Exact, tooShort}
 use Rattle.ranked.proofs.Told.{told-refused, told-list}
 use Rattle.desk_line.specs.Writing.{ascii, decimalOf, line}
 use Rattle.desk_form.specs.Printed.{printedRefusal, printedHit, printedHits, replyTo}
 use Rattle.desk_answer.specs.Puts.{lineOf, hitLines, hitsTo, foundLines, Listed}
-
-first-last : (a b : ℕ) → firstGiven a b ≡ 0 → b ≡ 0
-first-last zero b e = e
-first-last (suc a) b e = absurd (omega arith)
 
 -- a hit's lines, by its columns and by its table
 same-lines : (t : Table) (h : Hit) → hitLines (t .text) (t .starts) (h .stand) (h .value) ≡ printedHit t h
@@ -50,7 +47,7 @@ module _ (g : Grid) (p : List ℕ) (q : Ranking) where
     where
       step : (rankingLawful g q ≡ true) ⊎ (rankingLawful g q ≡ false) → q .k ≤ 16
       step (inl f) = leb-true (q .k) 16 (every-at _ 3 f)
-      step (inr f) = let z : _≡_ {A = ℕ} 12 0 = rw f at (first-last (textRefusal p) (cond (rankingLawful g q) 0 12) e) in absurd (omega arith)
+      step (inr f) = let z : _≡_ {A = ℕ} 12 0 = rw f at (first-none (textRefusal p) (cond (rankingLawful g q) 0 12) e .1) in absurd (omega arith)
 
 module _ (t : Table) (g : Grid) (p : List ℕ) (q : Ranking) (fine : tableRefusal t g ≡ 0) where
   reply-refused : 0 < rankedRefusal g p q → printedRefusal (rankedRefusal g p q) ≡ replyTo t g p q

@@ -31,11 +31,13 @@ module _ (text starts found values : List ℕ) where
       rw add-one (ap (eachList f) (upTo-suc i) ∙ eachList-append f (upTo i) (i ∷ []) ∙ ap (λ l. eachList f (upTo i) ++ l) (append-nil (f i)))
 
   module _ {count : ℕ} {out : List ℕ} {at : ℕ} {after : List ℕ} {r i : ℕ} where
-    pub listed-more : {last : List ℕ} {r′ : ℕ} → i < count → Listing count out at after r i → Puts (hitLines text starts (getD found i 0) (getD values i 0)) 96 after r last r′ → Listing count out at last r′ (i + 1)
+    pub listed-more : {last : List ℕ} {r′ : ℕ} → i < count → Listing count out at after r i
+        → Puts (hitLines text starts (getD found i 0) (getD values i 0)) 96 after r last r′ → Listing count out at last r′ (i + 1)
     listed-more h s p =
         record { inside = omega arith; puts = rw (one-more i) (within (96 * (i + 1)) (omega arith) (then (s .puts) p)) }
 
-    pub all-listed : {before : List ℕ} → count ≤ 16 → count ≤ i → Puts (lineOf (ascii "found=") (decimalOf count)) 27 before 0 out at → Listing count out at after r i → Puts (foundLines text starts found values count) 1600 before 0 after r
+    pub all-listed : {before : List ℕ} → count ≤ 16 → count ≤ i → Puts (lineOf (ascii "found=") (decimalOf count)) 27 before 0 out at
+        → Listing count out at after r i → Puts (foundLines text starts found values count) 1600 before 0 after r
     unfolding foundLines
     all-listed few h p s =
         let e : i ≡ count = omega (arith, s .inside) in

@@ -64,7 +64,8 @@ pub record Parts (input : List ℕ) (after : Table) (stands bytes from past : �
   pub typed : part from past input ≡ p
 
 -- an input, cut at its question's text
-regrouped : (grid stands key text feed east north weight k : List ℕ) → grid ++ stands ++ (key ++ text ++ feed ++ east ++ north ++ weight ++ k) ≡ (grid ++ stands ++ key) ++ (text ++ (feed ++ (east ++ (north ++ (weight ++ k)))))
+regrouped : (grid stands key text feed east north weight k : List ℕ)
+    → grid ++ stands ++ (key ++ text ++ feed ++ east ++ north ++ weight ++ k) ≡ (grid ++ stands ++ key) ++ (text ++ (feed ++ (east ++ (north ++ (weight ++ k)))))
 regrouped grid stands key text feed east north weight k = simp append-assoc
 
 abbrev beforeText : Input → List ℕ
@@ -81,7 +82,8 @@ cut a b c input from past e f h =
     (omega (arith, ap length e, length-append a (b ++ c), length-append b c), rw (k, e, f, drop-append-seam a (b ++ c)) (take-append-seam b c))
 
 module _ (input : List ℕ) (rooms after : Table) (stands bytes : ℕ) (grid : Grid) (from past : ℕ) (ranking : Ranking) where
-  parts : (r : Input) → InRanges r → textOf r ≡ input → Of stands bytes grid from past ranking ≡ readingOf r → after ≡ laidTable (tableFrom (r .stands)) rooms → Parts input after stands bytes from past (tableFrom (r .stands)) (r .text)
+  parts : (r : Input) → InRanges r → textOf r ≡ input → Of stands bytes grid from past ranking ≡ readingOf r → after ≡ laidTable (tableFrom (r .stands)) rooms
+      → Parts input after stands bytes from past (tableFrom (r .stands)) (r .text)
   unfolding tableFrom laidTable textAt
   parts r ranges e s l =
       let n : stands ≡ length (r .stands) = cc in

@@ -2,23 +2,23 @@
 -- Group by group, each from the laws of its lines. Assumes nothing.
 use mathlib.Core.Path.{_≡_, refl, sym, ap, _∙_}
 use mathlib.Core.Logic.{_⊎_, inl, inr, ⊎-elim}
-use mathlib.Core.Bool.{Bool, true, false, cond}
+use mathlib.Core.Bool.{true, false}
 use mathlib.Core.List.{List, [], _∷_, _++_, append-assoc, append-nil}
-use Prim.Native.Nat.{ℕ, zero, suc, _+_, _≤_, _<_}
+use Prim.Native.Nat.{ℕ, zero, suc, _≤_}
+use Prim.Native.String.{String}
 use native.Mathlib.Omega.{arith}
-use lib.IntN.{ℤ}
 use lib.Dec.{leb}
 use lib.ListN.{length}
 use borrow.Author.Tests.{le-leb, leb-true}
 use Rattle.base.specs.Lists.{In, eachList}
 use Rattle.base.proofs.Tests.{which}
 use Rattle.rules.specs.declared.Grid.{Grid}
+use Rattle.rules.specs.declared.Place.{Place}
 use Rattle.rules.specs.declared.Ranking.{Ranking}
-use Rattle.desk_line.specs.Writing.{ascii, decimalOf, signedOf, line}
-use Rattle.desk_line.specs.Writing.{OneLine}
+use Rattle.desk_line.specs.Writing.{ascii, decimalOf, signedOf, line, Signed32, OneLine}
 use Rattle.desk_form.specs.Form.{StandLines, Input, gridText, standText, questionText, textOf, StandInRanges, GridInRanges, RankingInRanges, InRanges}
-use Rattle.desk_line.specs.Reads.{Found, found, nothing, Reader, onward}
-use Rattle.desk_form.specs.Reads.{gridLines, standLines, allStands, questionLines, ended, inputOf, allLines, readInput}
+use Rattle.desk_line.specs.Reads.{found, onward}
+use Rattle.desk_form.specs.Reads.{gridLines, headingLines, standLines, allStands, questionLines, ended, inputOf, allLines, readInput}
 use Rattle.desk_line.proofs.Lines.{Reads, lost, as-found, in-a-row, past-line, bytes-law, unsigned-law, signed-law}
 
 abbrev GridOk : Grid × ℕ → Type 0
@@ -43,21 +43,44 @@ grid-sound l h rest e =
 pub grid-law : Reads (λ h. gridText (h .0) (h .1)) GridOk gridLines
 grid-law = record { back = grid-back; sound = grid-sound }
 
-stand-back : (s : StandLines) (rest : List ℕ) → StandInRanges s → standLines (standText s ++ rest) ≡ found s rest
-unfolding standText standLines onward
-stand-back s rest r =
+headingText : String → List ℕ × Place → List ℕ
+headingText key h = line key (h .0) ++ line "east=" (signedOf (h .1 .east)) ++ line "north=" (signedOf (h .1 .north))
+
+abbrev HeadingOk : List ℕ × Place → Type 0
+HeadingOk h = OneLine (h .0) × Signed32 (h .1 .east) × Signed32 (h .1 .north)
+
+heading-back : (key : String) (h : List ℕ × Place) (rest : List ℕ) → HeadingOk h → headingLines (ascii key) (headingText key h ++ rest) ≡ found h rest
+unfolding headingText headingLines onward
+heading-back key h rest r =
     simp append-assoc
-    (rw (bytes-law "name=" .back (s .name) _ (r .name), signed-law "east=" .back (s .east) _ (r .east), signed-law "north=" .back (s .north) _ (r .north), unsigned-law 65535 "score=" .back (s .score) rest (r .score)))
+    (rw (bytes-law key .back (h .0) _ (r .0), signed-law "east=" .back (h .1 .east) _ (r .1), signed-law "north=" .back (h .1 .north) rest (r .2)))
+
+heading-sound : (key : String) (l : List ℕ) (h : List ℕ × Place) (rest : List ℕ) → headingLines (ascii key) l ≡ found h rest → HeadingOk h × (l ≡ headingText key h ++ rest)
+unfolding headingText headingLines
+heading-sound key l h rest e =
+    past-line (bytes-law key) l _ h rest e (λ bytes l₁ r₁ s₁ e₁.
+    past-line (signed-law "east=") l₁ _ h rest e₁ (λ east l₂ r₂ s₂ e₂.
+    past-line (signed-law "north=") l₂ _ h rest e₂ (λ north l₃ r₃ s₃ e₃.
+    as-found (λ h rest. HeadingOk h × (l ≡ headingText key h ++ rest)) _ h l₃ rest e₃
+    ((r₁, r₂, r₃), rw (s₁, s₂, s₃) (simp append-assoc)))))
+
+heading-law : (key : String) → Reads (headingText key) HeadingOk (headingLines (ascii key))
+heading-law key = record { back = heading-back key; sound = heading-sound key }
+
+stand-back : (s : StandLines) (rest : List ℕ) → StandInRanges s → standLines (standText s ++ rest) ≡ found s rest
+unfolding headingText standText standLines onward
+stand-back s rest r =
+    let h : List ℕ × Place = (s .name, record { east = s .east; north = s .north }) in
+    let e : standText s ++ rest ≡ headingText "name=" (s .name, record { east = s .east; north = s .north }) ++ (line "score=" (decimalOf (s .score)) ++ rest) = simp append-assoc in
+    rw (e, heading-back "name=" h _ (r .name, r .east, r .north), unsigned-law 65535 "score=" .back (s .score) rest (r .score))
 
 stand-sound : (l : List ℕ) (s : StandLines) (rest : List ℕ) → standLines l ≡ found s rest → StandInRanges s × (l ≡ standText s ++ rest)
-unfolding standText standLines
+unfolding headingText standText standLines
 stand-sound l s rest e =
-    past-line (bytes-law "name=") l _ s rest e (λ name l₁ r₁ s₁ e₁.
-    past-line (signed-law "east=") l₁ _ s rest e₁ (λ east l₂ r₂ s₂ e₂.
-    past-line (signed-law "north=") l₂ _ s rest e₂ (λ north l₃ r₃ s₃ e₃.
-    past-line (unsigned-law 65535 "score=") l₃ _ s rest e₃ (λ score l₄ r₄ s₄ e₄.
-    as-found (λ s rest. StandInRanges s × (l ≡ standText s ++ rest)) _ s l₄ rest e₄
-    (record { name = r₁; east = r₂; north = r₃; score = r₄ }, rw (s₁, s₂, s₃, s₄) (simp append-assoc))))))
+    past-line (heading-law "name=") l _ s rest e (λ heading l₁ r₁ s₁ e₁.
+    past-line (unsigned-law 65535 "score=") l₁ _ s rest e₁ (λ score l₂ r₂ s₂ e₂.
+    as-found (λ s rest. StandInRanges s × (l ≡ standText s ++ rest)) _ s l₂ rest e₂
+    (record { name = r₁ .0; east = r₁ .1; north = r₁ .2; score = r₂ }, rw (s₁, s₂) (simp append-assoc))))
 
 pub stand-law : Reads standText StandInRanges standLines
 stand-law = record { back = stand-back; sound = stand-sound }
@@ -66,21 +89,19 @@ abbrev QuestionOk : List ℕ × Ranking → Type 0
 QuestionOk q = OneLine (q .0) × RankingInRanges (q .1)
 
 question-back : (q : List ℕ × Ranking) (rest : List ℕ) → QuestionOk q → questionLines (questionText (q .0) (q .1) ++ rest) ≡ found q rest
-unfolding questionText questionLines onward
+unfolding headingText questionText questionLines onward
 question-back q rest r =
-    simp append-assoc
-    (rw (bytes-law "text=" .back (q .0) _ (r .0), signed-law "east=" .back (q .1 .place .east) _ (r .1 .east), signed-law "north=" .back (q .1 .place .north) _ (r .1 .north), unsigned-law 65535 "weight=" .back (q .1 .weight) _ (r .1 .weight), unsigned-law 65535 "k=" .back (q .1 .k) rest (r .1 .k)))
+    let e : questionText (q .0) (q .1) ++ rest ≡ headingText "text=" (q .0, q .1 .place) ++ (line "weight=" (decimalOf (q .1 .weight)) ++ (line "k=" (decimalOf (q .1 .k)) ++ rest)) = simp append-assoc in
+    rw (e, heading-back "text=" (q .0, q .1 .place) _ (r .0, r .1 .east, r .1 .north), unsigned-law 65535 "weight=" .back (q .1 .weight) _ (r .1 .weight), unsigned-law 65535 "k=" .back (q .1 .k) rest (r .1 .k))
 
 question-sound : (l : List ℕ) (q : List ℕ × Ranking) (rest : List ℕ) → questionLines l ≡ found q rest → QuestionOk q × (l ≡ questionText (q .0) (q .1) ++ rest)
-unfolding questionText questionLines
+unfolding headingText questionText questionLines
 question-sound l q rest e =
-    past-line (bytes-law "text=") l _ q rest e (λ text l₁ r₁ s₁ e₁.
-    past-line (signed-law "east=") l₁ _ q rest e₁ (λ east l₂ r₂ s₂ e₂.
-    past-line (signed-law "north=") l₂ _ q rest e₂ (λ north l₃ r₃ s₃ e₃.
-    past-line (unsigned-law 65535 "weight=") l₃ _ q rest e₃ (λ weight l₄ r₄ s₄ e₄.
-    past-line (unsigned-law 65535 "k=") l₄ _ q rest e₄ (λ k l₅ r₅ s₅ e₅.
-    as-found (λ q rest. QuestionOk q × (l ≡ questionText (q .0) (q .1) ++ rest)) _ q l₅ rest e₅
-    ((r₁, record { east = r₂; north = r₃; weight = r₄; k = r₅ }), rw (s₁, s₂, s₃, s₄, s₅) (simp append-assoc)))))))
+    past-line (heading-law "text=") l _ q rest e (λ heading l₁ r₁ s₁ e₁.
+    past-line (unsigned-law 65535 "weight=") l₁ _ q rest e₁ (λ weight l₂ r₂ s₂ e₂.
+    past-line (unsigned-law 65535 "k=") l₂ _ q rest e₂ (λ k l₃ r₃ s₃ e₃.
+    as-found (λ q rest. QuestionOk q × (l ≡ questionText (q .0) (q .1) ++ rest)) _ q l₃ rest e₃
+    ((r₁ .0, record { east = r₁ .1; north = r₁ .2; weight = r₂; k = r₃ }), rw (s₁, s₂, s₃) (simp append-assoc)))))
 
 pub question-law : Reads (λ q. questionText (q .0) (q .1)) QuestionOk questionLines
 question-law = record { back = question-back; sound = question-sound }
@@ -119,7 +140,9 @@ read-back r h =
     rw (grouped r, grid-back (r .grid, length (r .stands)) _ (h .grid, h .few), stands-back (length (r .stands)) (r .stands) _ (refl, h .stands), question-back (r .text, r .ranking) [] (h .text, h .ranking)) in
     rw (le-leb _ _ (h .short)) lines
 
-joined : (l : List ℕ) (h : Grid × ℕ) (stands : List StandLines) (q : List ℕ × Ranking) → GridOk h → StandsOk (h .1) stands → QuestionOk q → l ≡ gridText (h .0) (h .1) ++ (eachList standText stands ++ (questionText (q .0) (q .1) ++ [])) → length l ≤ 16384 → InRanges (inputOf (h .0) stands q) × (textOf (inputOf (h .0) stands q) ≡ l)
+joined : (l : List ℕ) (h : Grid × ℕ) (stands : List StandLines) (q : List ℕ × Ranking) → GridOk h → StandsOk (h .1) stands → QuestionOk q
+    → l ≡ gridText (h .0) (h .1) ++ (eachList standText stands ++ (questionText (q .0) (q .1) ++ [])) → length l ≤ 16384
+    → InRanges (inputOf (h .0) stands q) × (textOf (inputOf (h .0) stands q) ≡ l)
 joined l h stands q g s w e short =
     let t : textOf (inputOf (h .0) stands q) ≡ l = grouped (inputOf (h .0) stands q) ∙ rw (s .0) (sym e) in
     let few : length stands ≤ 64 = rw (s .0) (g .1) in

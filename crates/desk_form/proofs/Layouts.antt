@@ -2,16 +2,15 @@
 -- Assumes nothing.
 use mathlib.Core.Path.{_≡_, refl, sym, ap, _∙_}
 use mathlib.Core.List.{List, [], _∷_, _++_, append-assoc, append-nil}
-use Prim.Native.Nat.{ℕ, zero, suc, _+_, _-_, _≤_, _<_}
-use native.Mathlib.Numerals.{add-one}
+use Prim.Native.Nat.{ℕ, suc, _+_, _-_, _≤_, _<_}
 use native.Mathlib.Omega.{arith}
 use lib.IntN.{ℤ}
 use lib.ListN.{length, take, drop, getD, set, length-append, length-drop, length-set}
 use lib.Seq.{paste, drop-set-lt, drop-cons, set-at, take-append-seam, drop-append-add, drop-drop, length-take-le, append-snoc}
-use Rattle.base.specs.Lists.{each, eachList}
-use Rattle.base.proofs.Members.{length-each, eachList-append}
+use Rattle.base.specs.Lists.{each}
+use Rattle.base.proofs.Members.{length-each, each-append, eachList-append}
 use Rattle.rules.specs.Tables.{Table, tableOf}
-use Rattle.desk_line.specs.Writing.{ascii, decimalOf, signedOf, line}
+use Rattle.desk_line.specs.Writing.{line}
 use Rattle.desk_form.specs.Form.{StandLines, standText}
 use Rattle.desk_form.specs.Columns.{namesOf, startsFrom, tableFrom, laid, laidTable}
 use Rattle.desk_line.specs.Reads.{Found, found, nothing, onward}
@@ -36,13 +35,10 @@ module _ {A : Type 0} where
   laid-long : (w room : List A) → length w ≤ length room → length (laid w room) ≡ length room
   laid-long w room h = omega (arith, length-append w (drop (length w) room), length-drop (length w) room)
 
-each-snoc : {A B : Type 0} (f : A → B) (l : List A) (x : A) → each f (l ++ (x ∷ [])) ≡ each f l ++ (f x ∷ [])
-each-snoc f [] x = refl
-each-snoc f (y ∷ l) x = ap (λ m. f y ∷ m) (each-snoc f l x)
-
 -- a column with one more stand
-column : {A : Type 0} (f : StandLines → A) (stands : List StandLines) (s : StandLines) (room : List A) → length stands < length room → set (laid (each f stands) room) (length stands) (f s) ≡ laid (each f (stands ++ (s ∷ []))) room
-column f stands s room h = rw (each-snoc f stands s, ← length-each f stands) (laid-store (each f stands) room (f s) (rw (length-each f stands) h))
+column : {A : Type 0} (f : StandLines → A) (stands : List StandLines) (s : StandLines) (room : List A) → length stands < length room
+    → set (laid (each f stands) room) (length stands) (f s) ≡ laid (each f (stands ++ (s ∷ []))) room
+column f stands s room h = rw (each-append f stands (s ∷ []), ← length-each f stands) (laid-store (each f stands) room (f s) (rw (length-each f stands) h))
 
 names-snoc : (stands : List StandLines) (s : StandLines) → namesOf (stands ++ (s ∷ [])) ≡ namesOf stands ++ s .name
 names-snoc stands s = eachList-append (λ s. s .name) stands (s ∷ []) ∙ ap (λ m. namesOf stands ++ m) (append-nil (s .name))
@@ -52,14 +48,16 @@ unfolding startsFrom
 length-starts at [] = refl
 length-starts at (s ∷ stands) = ap suc (length-starts (at + length (s .name)) stands)
 
-starts-snoc : (at : ℕ) (stands : List StandLines) (s : StandLines) → startsFrom at (stands ++ (s ∷ [])) ≡ startsFrom at stands ++ ((at + length (namesOf stands) + length (s .name)) ∷ [])
+starts-snoc : (at : ℕ) (stands : List StandLines) (s : StandLines)
+    → startsFrom at (stands ++ (s ∷ [])) ≡ startsFrom at stands ++ ((at + length (namesOf stands) + length (s .name)) ∷ [])
 unfolding startsFrom
 starts-snoc at [] s = let e : at + length (s .name) ≡ at + 0 + length (s .name) = omega arith in rw e
 starts-snoc at (t ∷ stands) s =
     let e : at + length (t .name) + length (namesOf stands) + length (s .name) ≡ at + length (t .name ++ namesOf stands) + length (s .name) = omega (arith, length-append (t .name) (namesOf stands)) in
     ap (λ m. at ∷ m) (starts-snoc (at + length (t .name)) stands s ∙ ap (λ k. startsFrom (at + length (t .name)) stands ++ (k ∷ [])) e)
 
-pub same-table : {text text′ starts starts′ score score′ : List ℕ} {east east′ north north′ : List ℤ} → text ≡ text′ → starts ≡ starts′ → east ≡ east′ → north ≡ north′ → score ≡ score′ → tableOf text starts east north score ≡ tableOf text′ starts′ east′ north′ score′
+pub same-table : {text text′ starts starts′ score score′ : List ℕ} {east east′ north north′ : List ℤ} → text ≡ text′ → starts ≡ starts′ → east ≡ east′
+    → north ≡ north′ → score ≡ score′ → tableOf text starts east north score ≡ tableOf text′ starts′ east′ north′ score′
 same-table a b c d e = rw (a, b, c, d, e)
 
 -- the whole table with one more stand
@@ -68,7 +66,8 @@ module _ (stands : List StandLines) (s : StandLines) (rooms now : Table) (is : n
   unfolding laidTable tableFrom
   text-more l n h e = rw (is, names-snoc stands s, e) (laid-paste (namesOf stands) (rooms .text) l n h)
 
-  starts-more : suc (length stands) < length (rooms .starts) → set (now .starts) (suc (length stands)) (length (namesOf stands) + length (s .name)) ≡ laid (startsFrom 0 (stands ++ (s ∷ []))) (rooms .starts)
+  starts-more : suc (length stands) < length (rooms .starts)
+      → set (now .starts) (suc (length stands)) (length (namesOf stands) + length (s .name)) ≡ laid (startsFrom 0 (stands ++ (s ∷ []))) (rooms .starts)
   unfolding laidTable tableFrom
   starts-more h =
       let e : length (namesOf stands) + length (s .name) ≡ 0 + length (namesOf stands) + length (s .name) = omega arith in
@@ -86,7 +85,9 @@ module _ (stands : List StandLines) (s : StandLines) (rooms now : Table) (is : n
   unfolding laidTable tableFrom
   score-more h = rw is (column (λ s. s .score) stands s (rooms .score) h)
 
-  table-more : (l : List ℕ) (k bytes i : ℕ) → k ≤ length l → s .name ≡ take k l → bytes ≡ length (namesOf stands) → i ≡ length stands → i + 1 < length (rooms .starts) → i < length (rooms .east) → i < length (rooms .north) → i < length (rooms .score) → tableOf (paste (now .text) bytes l k) (set (now .starts) (i + 1) (bytes + k)) (set (now .east) i (s .east)) (set (now .north) i (s .north)) (set (now .score) i (s .score)) ≡ laidTable (tableFrom (stands ++ (s ∷ []))) rooms
+  table-more : (l : List ℕ) (k bytes i : ℕ) → k ≤ length l → s .name ≡ take k l → bytes ≡ length (namesOf stands) → i ≡ length stands
+      → i + 1 < length (rooms .starts) → i < length (rooms .east) → i < length (rooms .north) → i < length (rooms .score)
+      → tableOf (paste (now .text) bytes l k) (set (now .starts) (i + 1) (bytes + k)) (set (now .east) i (s .east)) (set (now .north) i (s .north)) (set (now .score) i (s .score)) ≡ laidTable (tableFrom (stands ++ (s ∷ []))) rooms
   unfolding laidTable tableFrom
   table-more l k bytes i h name b c starts east north score =
       let long : length (s .name) ≡ k = ap length name ∙ length-take-le k l h in
@@ -117,14 +118,16 @@ unfolding onward before
 onward-none (found more rest) = refl
 onward-none nothing = refl
 
-onward-more : (x : Found (List StandLines)) (stands : List StandLines) (s : StandLines) → onward (onward x (λ more. found (s ∷ more))) (before stands) ≡ onward x (before (stands ++ (s ∷ [])))
+onward-more : (x : Found (List StandLines)) (stands : List StandLines) (s : StandLines)
+    → onward (onward x (λ more. found (s ∷ more))) (before stands) ≡ onward x (before (stands ++ (s ∷ [])))
 unfolding onward before
 onward-more (found more rest) stands s = ap (λ m. found m rest) (sym (append-assoc stands (s ∷ []) more))
 onward-more nothing stands s = refl
 
 module _ (l : List ℕ) (at n : ℕ) (rooms : Table) where
   -- one stand's turn
-  turn : (x : Found StandLines) (i next : ℕ) (stands : List StandLines) → i < n → standLines (drop next l) ≡ x → onward (allStands (n - i) (drop next l)) (before stands) ≡ onward (onward x (λ s. λ m. onward (allStands (n - (i + 1)) m) (λ more. found (s ∷ more)))) (before stands)
+  turn : (x : Found StandLines) (i next : ℕ) (stands : List StandLines) → i < n → standLines (drop next l) ≡ x
+      → onward (allStands (n - i) (drop next l)) (before stands) ≡ onward (onward x (λ s. λ m. onward (allStands (n - (i + 1)) m) (λ more. found (s ∷ more)))) (before stands)
   unfolding allStands
   turn x i next stands h e = let k : n - i ≡ suc (n - (i + 1)) = omega arith in rw (k, e)
 
@@ -172,7 +175,10 @@ module _ (l : List ℕ) (at n : ℕ) (rooms : Table) where
     pub grows : bytes + (past - from) ≤ length l
     grows = omega (arith, packs, f .reached .within)
 
-    pub lay-one : RoomFor l at n rooms → i < n → (text starts : List ℕ) (east north : List ℤ) (score : List ℕ) → text ≡ paste (now .text) bytes (drop from l) (past - from) → starts ≡ set (now .starts) (i + 1) (bytes + (past - from)) → east ≡ set (now .east) i x → north ≡ set (now .north) i y → score ≡ set (now .score) i value → Laying l at n rooms (tableOf text starts east north score) (bytes + (past - from)) behind (i + 1)
+    pub lay-one : RoomFor l at n rooms → i < n → (text starts : List ℕ) (east north : List ℤ) (score : List ℕ)
+        → text ≡ paste (now .text) bytes (drop from l) (past - from) → starts ≡ set (now .starts) (i + 1) (bytes + (past - from)) → east ≡ set (now .east) i x
+        → north ≡ set (now .north) i y → score ≡ set (now .score) i value
+        → Laying l at n rooms (tableOf text starts east north score) (bytes + (past - from)) behind (i + 1)
     unfolding onward stand
     lay-one r h text starts east north score a b c d e =
         let names : length (namesOf (s .stands ++ (stand ∷ []))) ≡ length (namesOf (s .stands)) + length (part from past l) = ap length (names-snoc (s .stands) stand) ∙ length-append (namesOf (s .stands)) (part from past l) in
@@ -211,7 +217,8 @@ pub first-start : (s : List ℕ) → 0 < length s → set s 0 0 ≡ laid (0 ∷ 
 first-start [] h = absurd (omega arith)
 first-start (x ∷ s) h = refl
 
-pub with-first : (l : List ℕ) (at n : ℕ) (text starts : List ℕ) (east north : List ℤ) (score : List ℕ) → RoomFor l at n (tableOf text starts east north score) → RoomFor l at n (tableOf text (set starts 0 0) east north score)
+pub with-first : (l : List ℕ) (at n : ℕ) (text starts : List ℕ) (east north : List ℤ) (score : List ℕ) → RoomFor l at n (tableOf text starts east north score)
+    → RoomFor l at n (tableOf text (set starts 0 0) east north score)
 with-first l at n text starts east north score r =
     record { within = r .within; short = r .short; text = r .text; starts = rw (length-set starts 0 0) (r .starts); east = r .east; north = r .north; score = r .score }
 
@@ -219,7 +226,9 @@ with-first l at n text starts east north score r =
 over-first : (w s : List ℕ) → 0 < length w → laid w (set s 0 0) ≡ laid w s
 over-first w s h = ap (λ m. w ++ m) (drop-set-lt (length w) s 0 0 h)
 
-pub from-entry : (l : List ℕ) (f : Found (List StandLines)) (text starts : List ℕ) (east north : List ℤ) (score : List ℕ) (now : Table) (bytes next : ℕ) → StandsReached l f (tableOf text (set starts 0 0) east north score) now bytes next → StandsReached l f (tableOf text starts east north score) now bytes next
+pub from-entry : (l : List ℕ) (f : Found (List StandLines)) (text starts : List ℕ) (east north : List ℤ) (score : List ℕ) (now : Table) (bytes next : ℕ)
+    → StandsReached l f (tableOf text (set starts 0 0) east north score) now bytes next
+    → StandsReached l f (tableOf text starts east north score) now bytes next
 unfolding laidTable tableFrom
 from-entry l f text starts east north score now bytes next s =
     record {

@@ -3,25 +3,25 @@
 use mathlib.Core.Path.{_≡_, refl, sym, ap, _∙_}
 use mathlib.Core.Logic.{_⊎_, inl, inr}
 use mathlib.Core.Bool.{true, false}
-use mathlib.Core.List.{List, [], _∷_, _++_}
+use mathlib.Core.List.{List, [], _++_}
 use Prim.Native.Nat.{ℕ, _+_, _-_, _≤_, _<_}
 use native.Mathlib.Omega.{arith}
 use lib.Dec.{leb}
-use lib.ListN.{length, drop, getD, length-append, length-drop, drop-of-length-le}
+use lib.ListN.{length, drop, length-append, length-drop, drop-of-length-le}
 use lib.Seq.{drop-cons, length-take-le}
 use borrow.Author.Tests.{le-leb, lt-leb}
 use Rattle.base.specs.Lists.{eachList}
-use Rattle.base.proofs.Tests.{which, ap2}
+use Rattle.base.proofs.Tests.{which}
 use Rattle.rules.specs.declared.Grid.{Grid}
 use Rattle.rules.specs.declared.Ranking.{Ranking}
 use Rattle.rules.specs.declared.Refusal.the-variants.{InputMalformed}
 use Rattle.rules.specs.Tables.{Table}
 use Rattle.desk_line.specs.Writing.{ascii}
-use Rattle.desk_form.specs.Form.{StandLines, Input, gridText, standText, textOf, InRanges}
-use Rattle.desk_form.specs.Columns.{namesOf, tableFrom, laidTable, textAt}
+use Rattle.desk_form.specs.Form.{Input, gridText, standText, textOf, InRanges}
+use Rattle.desk_form.specs.Columns.{tableFrom, laidTable, textAt}
 use Rattle.desk_form.specs.Answers.{readingOf, ReadsInput}
-use Rattle.desk_line.specs.Reads.{Found, found, nothing, onward}
-use Rattle.desk_form.specs.Reads.{gridLines, allStands, questionLines, ended, inputOf, allLines, readInput}
+use Rattle.desk_line.specs.Reads.{found, nothing, onward}
+use Rattle.desk_form.specs.Reads.{gridLines, allStands, questionLines, inputOf, allLines, readInput}
 use Rattle.desk_line.specs.Says.{part, Reached}
 use Rattle.desk_form.specs.Says.{StandsReached, QuestionReached}
 use Rattle.desk_form.specs.declared.Reading.{Reading}
@@ -29,14 +29,16 @@ use Rattle.desk_form.specs.declared.Reading.the-variants.{Of, Refused}
 use Rattle.desk_line.proofs.Lines.{lost}
 use Rattle.desk_form.proofs.Inputs.{grid-law, stands-sound, read-back, read-sound}
 
-same-reading : {stands stands′ bytes bytes′ from from′ past past′ : ℕ} {grid : Grid} {ranking : Ranking} → stands ≡ stands′ → bytes ≡ bytes′ → from ≡ from′ → past ≡ past′ → Of stands bytes grid from past ranking ≡ Of stands′ bytes′ grid from′ past′ ranking
+same-reading : {stands stands′ bytes bytes′ from from′ past past′ : ℕ} {grid : Grid} {ranking : Ranking} → stands ≡ stands′ → bytes ≡ bytes′ → from ≡ from′
+    → past ≡ past′ → Of stands bytes grid from past ranking ≡ Of stands′ bytes′ grid from′ past′ ranking
 same-reading a b c d = rw (a, b, c, d)
 
 module _ (l : List ℕ) (rooms after : Table) where
   refused : readInput l ≡ nothing → ReadsInput l rooms (Refused InputMalformed) after
   refused e = record { of-form = λ r h t. lost (sym e ∙ ap readInput (sym t) ∙ read-back r h); other = λ no. refl }
 
-  accepted : (answer : Reading) (r : Input) (rest : List ℕ) → readInput l ≡ found r rest → answer ≡ readingOf r → after ≡ laidTable (tableFrom (r .stands)) rooms → ReadsInput l rooms answer after
+  accepted : (answer : Reading) (r : Input) (rest : List ℕ) → readInput l ≡ found r rest → answer ≡ readingOf r
+      → after ≡ laidTable (tableFrom (r .stands)) rooms → ReadsInput l rooms answer after
   accepted answer r rest e a b =
       record { of-form = same; other = λ no. absurd (no r (read-sound l r rest e .0) (read-sound l r rest e .1)) }
     where

@@ -1,20 +1,14 @@
 -- What reading an input answers, and what the lent parts of a table hold after it.
 use mathlib.Core.Path.{_≡_}
+use mathlib.Core.List.{List}
 use Prim.Native.Nat.{ℕ, _+_}
 use lib.ListN.{length}
-use mathlib.Core.List.{List}
 use Rattle.rules.specs.declared.Refusal.the-variants.{InputMalformed}
-use Rattle.rules.specs.Numbers.{refusalNumber}
 use Rattle.rules.specs.Tables.{Table}
 use Rattle.desk_form.specs.Form.{Input, textOf, InRanges}
 use Rattle.desk_form.specs.Columns.{namesOf, tableFrom, laidTable, textAt}
 use Rattle.desk_form.specs.declared.Reading.{Reading}
 use Rattle.desk_form.specs.declared.Reading.the-variants.{Of, Refused}
-
--- the refusal's number, or 0
-abbrev pub readingRefusal : Reading → ℕ
-readingRefusal (Of stands bytes grid from past ranking) = 0
-readingRefusal (Refused why) = refusalNumber why
 
 abbrev pub readingOf : Input → Reading
 readingOf r = Of (length (r .stands)) (length (namesOf (r .stands))) (r .grid) (textAt r) (textAt r + length (r .text)) (r .ranking)

@@ -6,6 +6,7 @@ use Prim.Native.Nat.{ℕ, zero, suc}
 use lib.Dec.{leb}
 use lib.ListN.{length}
 use Rattle.rules.specs.declared.Grid.{Grid}
+use Rattle.rules.specs.declared.Place.{Place}
 use Rattle.rules.specs.declared.Ranking.{Ranking}
 use Rattle.desk_line.specs.Writing.{ascii}
 use Rattle.desk_line.specs.Reads.{Reader, found, nothing, _>>=_, done, bytesLine, unsignedLine, signedLine}
@@ -20,13 +21,19 @@ gridLines = do
   stands ← unsignedLine 64 (ascii "stands=")
   done (record { west = west; south = south; cell = cell }, stands)
 
-unfoldable pub standLines : Reader StandLines
-standLines = do
-  name ← bytesLine (ascii "name=")
+-- bytes under this key and a place: so begin a stand's lines, and the question's
+unfoldable pub headingLines : List ℕ → Reader (List ℕ × Place)
+headingLines key = do
+  bytes ← bytesLine key
   east ← signedLine (ascii "east=")
   north ← signedLine (ascii "north=")
+  done (bytes, record { east = east; north = north })
+
+unfoldable pub standLines : Reader StandLines
+standLines = do
+  heading ← headingLines (ascii "name=")
   score ← unsignedLine 65535 (ascii "score=")
-  done (record { name = name; east = east; north = north; score = score })
+  done (record { name = heading .0; east = heading .1 .east; north = heading .1 .north; score = score })
 
 unfoldable pub allStands : ℕ → Reader (List StandLines)
 allStands zero = done []
@@ -37,12 +44,10 @@ allStands (suc n) = do
 
 unfoldable pub questionLines : Reader (List ℕ × Ranking)
 questionLines = do
-  text ← bytesLine (ascii "text=")
-  east ← signedLine (ascii "east=")
-  north ← signedLine (ascii "north=")
+  heading ← headingLines (ascii "text=")
   weight ← unsignedLine 65535 (ascii "weight=")
   k ← unsignedLine 65535 (ascii "k=")
-  done (text, record { place = record { east = east; north = north }; weight = weight; k = k })
+  done (heading .0, record { place = heading .1; weight = weight; k = k })
 
 -- nothing behind the last line
 abbrev pub ended : {A : Type 0} → A → Reader A

@@ -1,20 +1,23 @@
 -- What an answer of the code says of what its reader found: the same values, and the place where the bytes behind them begin.
 use mathlib.Core.Path.{_≡_}
 use mathlib.Core.List.{List}
-use Prim.Native.Nat.{ℕ, _+_, _-_, _≤_, _<_}
+use Prim.Native.Nat.{ℕ, _+_, _≤_, _<_}
 use lib.IntN.{ℤ}
-use lib.ListN.{length, take, drop}
+use lib.ListN.{length}
 use Rattle.rules.specs.declared.Grid.{Grid}
+use Rattle.rules.specs.declared.Place.{Place}
 use Rattle.rules.specs.declared.Ranking.{Ranking}
 use Rattle.desk_line.specs.Writing.{ascii}
 use Rattle.desk_form.specs.Form.{StandLines}
 use Rattle.rules.specs.Tables.{Table}
 use Rattle.desk_form.specs.Columns.{namesOf, tableFrom, laidTable}
-use Rattle.desk_line.specs.Reads.{Found, found, nothing}
+use Rattle.desk_line.specs.Reads.{Found, nothing}
 use Rattle.desk_form.specs.declared.columns.Stands.{Stands}
 use Rattle.desk_form.specs.declared.columns.Stands.the-variants as columns
 use Rattle.desk_form.specs.declared.group.Opening.{Opening}
 use Rattle.desk_form.specs.declared.group.Opening.the-variants as opening
+use Rattle.desk_form.specs.declared.group.Heading.{Heading}
+use Rattle.desk_form.specs.declared.group.Heading.the-variants as heading
 use Rattle.desk_form.specs.declared.group.StandRead.{StandRead}
 use Rattle.desk_form.specs.declared.group.StandRead.the-variants as stand
 use Rattle.desk_form.specs.declared.group.Question.{Question}
@@ -24,6 +27,17 @@ use Rattle.desk_line.specs.Says.{part, Reached}
 abbrev pub SaysOpening : List ℕ → Found (Grid × ℕ) → Opening → Type 0
 SaysOpening input f (opening.Lines grid stands next) = Reached input f (grid, stands) next
 SaysOpening input f opening.Malformed = f ≡ nothing
+
+-- a heading's lines were found, with the bytes at the part of the input that begins past the key
+pub record HeadingReached (input : List ℕ) (keyed : ℕ) (f : Found (List ℕ × Place)) (from past : ℕ) (east north : ℤ) (next : ℕ) : Type 0 where
+  pub begun : from ≡ keyed
+  pub forward : from ≤ past
+  pub inside : past ≤ length input
+  pub reached : Reached input f (part from past input, record { east = east; north = north }) next
+
+abbrev pub SaysHeading : List ℕ → ℕ → Found (List ℕ × Place) → Heading → Type 0
+SaysHeading input keyed f (heading.Lines from past east north next) = HeadingReached input keyed f from past east north next
+SaysHeading input keyed f heading.Malformed = f ≡ nothing
 
 -- a stand's lines were found, with the name at a part of the input
 pub record StandReached (input : List ℕ) (f : Found StandLines) (from past : ℕ) (east north : ℤ) (score next : ℕ) : Type 0 where

@@ -11,14 +11,26 @@ use rules::Place;
 use rules::Ranking;
 ghost use Prim.Native.Nat.{_+_, _≤_};
 ghost use lib.ListN.{length, drop};
-ghost use Rattle.desk_form.specs.Reads.{gridLines, standLines, questionLines};
-ghost use Rattle.desk_form.specs.Says.{SaysOpening, SaysStand, SaysQuestion};
+ghost use Rattle.desk_form.specs.Reads.{gridLines, headingLines, standLines, questionLines};
+ghost use Rattle.desk_form.specs.Says.{SaysOpening, SaysHeading, SaysStand, SaysQuestion};
 
 // The grid, how many stands follow, and where their lines begin.
 pub enum Opening {
     Lines {
         grid: Grid,
         stands: u32,
+        next: usize,
+    },
+    Malformed,
+}
+
+// How a stand's lines and the question's begin: bytes, as a part of the input, and a place; and where the next line begins.
+enum Heading {
+    Lines {
+        from: usize,
+        past: usize,
+        east: i32,
+        north: i32,
         next: usize,
     },
     Malformed,
@@ -71,20 +83,43 @@ pub fn read_opening(input: &[u8]) -> Opening
     }
 }
 
+fn read_heading(input: &[u8], at: usize, key: &[u8]) -> Heading
+    requires { ⌜ at ≤ length (now input) ⌝ }
+    ensures { λ r. ⌜ SaysHeading (now (input .entry)) (at + length (now (key .entry))) (headingLines (now (key .entry)) (drop at (now (input .entry)))) r ⌝ }
+{
+    let Bytes::Part(from, past) = bytes_line(input, at, key) else {
+        return Heading::Malformed;
+    };
+    let Signed::Number(east, at) = signed_line(input, past + 1, b"east=") else {
+        return Heading::Malformed;
+    };
+    let Signed::Number(north, at) = signed_line(input, at, b"north=") else {
+        return Heading::Malformed;
+    };
+    Heading::Lines {
+        from,
+        past,
+        east,
+        north,
+        next: at,
+    }
+}
+
 pub fn read_stand(input: &[u8], at: usize) -> StandRead
     requires { ⌜ at ≤ length (now input) ⌝ }
     ensures { λ r. ⌜ SaysStand (now (input .entry)) (standLines (drop at (now (input .entry)))) r ⌝ }
 {
-    let Bytes::Part(from, past) = bytes_line(input, at, b"name=") else {
+    let Heading::Lines {
+        from,
+        past,
+        east,
+        north,
+        next,
+    } = read_heading(input, at, b"name=")
+    else {
         return StandRead::Malformed;
     };
-    let Signed::Number(east, at) = signed_line(input, past + 1, b"east=") else {
-        return StandRead::Malformed;
-    };
-    let Signed::Number(north, at) = signed_line(input, at, b"north=") else {
-        return StandRead::Malformed;
-    };
-    let Unsigned::Number(score, at) = unsigned_line(input, at, b"score=", Reading::NUMBER_MOST)
+    let Unsigned::Number(score, next) = unsigned_line(input, next, b"score=", Reading::NUMBER_MOST)
     else {
         return StandRead::Malformed;
     };
@@ -94,7 +129,7 @@ pub fn read_stand(input: &[u8], at: usize) -> StandRead
         east,
         north,
         score,
-        next: at,
+        next,
     }
 }
 
@@ -102,20 +137,25 @@ pub fn read_question(input: &[u8], at: usize) -> Question
     requires { ⌜ at ≤ length (now input) ⌝ }
     ensures { λ r. ⌜ SaysQuestion (now (input .entry)) at (questionLines (drop at (now (input .entry)))) r ⌝ }
 {
-    let Bytes::Part(from, past) = bytes_line(input, at, b"text=") else {
-        return Question::Malformed;
-    };
-    let Signed::Number(east, at) = signed_line(input, past + 1, b"east=") else {
-        return Question::Malformed;
-    };
-    let Signed::Number(north, at) = signed_line(input, at, b"north=") else {
-        return Question::Malformed;
-    };
-    let Unsigned::Number(weight, at) = unsigned_line(input, at, b"weight=", Reading::NUMBER_MOST)
+    let Heading::Lines {
+        from,
+        past,
+        east,
+        north,
+        next,
+    } = read_heading(input, at, b"text=")
     else {
         return Question::Malformed;
     };
-    let Unsigned::Number(k, at) = unsigned_line(input, at, b"k=", Reading::NUMBER_MOST) else {
+    let Unsigned::Number(weight, next) = unsigned_line(
+        input,
+        next,
+        b"weight=",
+        Reading::NUMBER_MOST,
+    ) else {
+        return Question::Malformed;
+    };
+    let Unsigned::Number(k, next) = unsigned_line(input, next, b"k=", Reading::NUMBER_MOST) else {
         return Question::Malformed;
     };
     Question::Lines {
@@ -126,6 +166,6 @@ pub fn read_question(input: &[u8], at: usize) -> Question
             weight,
             k,
         },
-        next: at,
+        next,
     }
 }

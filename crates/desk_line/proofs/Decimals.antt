@@ -2,16 +2,16 @@
 -- A number's digits grow at the end, as reading goes. Assumes nothing.
 use mathlib.Core.Path.{_≡_, refl, sym, ap, _∙_}
 use mathlib.Core.Logic.{_⊎_, inl, inr, ⊎-elim}
-use mathlib.Core.Bool.{Bool, true, false, cond, not, true≢false, false≢true}
+use mathlib.Core.Bool.{true, false, true≢false, false≢true}
 use mathlib.Core.List.{List, [], _∷_, _++_, append-assoc, append-nil}
 use mathlib.Core.Option.{Option, none, some, Option·none-ne-some}
 use Prim.Native.Nat.{ℕ, zero, suc, _+_, _-_, _*_, _/_, _%_, _≤_, _<_}
 use native.Mathlib.Omega.{arith}
 use lib.IntN.{ℤ, pos, negsuc}
-use lib.Dec.{eqb, leb, ltb}
-use lib.ListN.{length, getD}
-use borrow.Author.Tests.{lt-ltb, le-ltb, ltb-true, ltb-false, le-leb, leb-true, eq-eqb, ne-eqb, eqb-false, not-true}
-use Rattle.base.specs.Lists.{In, every, begins}
+use lib.Dec.{eqb, ltb}
+use lib.ListN.{getD}
+use borrow.Author.Tests.{lt-ltb, le-ltb, le-leb, leb-true, ne-eqb, eqb-false, not-true}
+use Rattle.base.specs.Lists.{begins}
 use Rattle.base.proofs.Begins.{begins-cases}
 use Rattle.base.proofs.Members.{in-either}
 use Rattle.base.proofs.Tests.{which, le-or-lt, every-at, every-of}
@@ -25,7 +25,8 @@ enough zero r′ n h k = absurd (omega arith)
 enough (suc r) zero n h k = absurd (omega arith)
 enough (suc r) (suc r′) n h k = step (λ q. enough r r′ (n / 10) (omega (arith, q)) (omega (arith, q))) (le-or-lt 10 n)
   where
-    step : (10 ≤ n → digitsOf (ltb (n / 10) 10) r (n / 10) ≡ digitsOf (ltb (n / 10) 10) r′ (n / 10)) → (10 ≤ n) ⊎ (n < 10) → digitsOf (ltb n 10) (suc r) n ≡ digitsOf (ltb n 10) (suc r′) n
+    step : (10 ≤ n → digitsOf (ltb (n / 10) 10) r (n / 10) ≡ digitsOf (ltb (n / 10) 10) r′ (n / 10)) → (10 ≤ n) ⊎ (n < 10)
+        → digitsOf (ltb n 10) (suc r) n ≡ digitsOf (ltb n 10) (suc r′) n
     step below (inl q) = rw (le-ltb n 10 q, below q)
     step below (inr q) = rw (lt-ltb n 10 q)
 
@@ -76,7 +77,8 @@ unfolding gather
 gather-more most value a b [] e f = let s : value ≡ a = cc in rw (s, f)
 gather-more most value a b (c ∷ l) e f = step (gather-more most (grown value c) a b l) (which (digitFits most value c))
   where
-    step : (gather most (grown value c) l ≡ some a → digitFits most a b ≡ true → gather most (grown value c) (l ++ (b ∷ [])) ≡ some (grown a b)) → (digitFits most value c ≡ true) ⊎ (digitFits most value c ≡ false) → gather most value (c ∷ (l ++ (b ∷ []))) ≡ some (grown a b)
+    step : (gather most (grown value c) l ≡ some a → digitFits most a b ≡ true → gather most (grown value c) (l ++ (b ∷ [])) ≡ some (grown a b))
+        → (digitFits most value c ≡ true) ⊎ (digitFits most value c ≡ false) → gather most value (c ∷ (l ++ (b ∷ []))) ≡ some (grown a b)
     step further (inl q) = rw q (further (rw q at e) f)
     step further (inr q) = absurd (Option·none-ne-some a (rw q at e))
 
@@ -99,7 +101,8 @@ unfolding gather
 gather-on most a n [] h k e = let s : a ≡ n = cc in (rw s at k, rw s (append-nil (decimalOf n)))
 gather-on most a n (b ∷ l) h k e = step (gather-on most (grown a b) n l) (which (digitFits most a b))
   where
-    step : (0 < grown a b → grown a b ≤ most → gather most (grown a b) l ≡ some n → (n ≤ most) × (decimalOf (grown a b) ++ l ≡ decimalOf n)) → (digitFits most a b ≡ true) ⊎ (digitFits most a b ≡ false) → (n ≤ most) × (decimalOf a ++ (b ∷ l) ≡ decimalOf n)
+    step : (0 < grown a b → grown a b ≤ most → gather most (grown a b) l ≡ some n → (n ≤ most) × (decimalOf (grown a b) ++ l ≡ decimalOf n))
+        → (digitFits most a b ≡ true) ⊎ (digitFits most a b ≡ false) → (n ≤ most) × (decimalOf a ++ (b ∷ l) ≡ decimalOf n)
     step further (inl q) =
         let f = fits most a b q in
         let r = further (omega arith) (f .few) (rw q at e) in

@@ -1,14 +1,13 @@
--- Lines are read back: each reader of Reads accepts exactly the lines that Form writes, and leaves what is behind them.
+-- Lines are read back: each reader of Reads accepts exactly the lines that Writing writes, and leaves what is behind them.
 -- Assumes nothing.
 use mathlib.Core.Path.{_≡_, refl, sym, ap, _∙_}
 use mathlib.Core.Logic.{_⊎_, inl, inr, ⊎-elim}
-use mathlib.Core.Bool.{Bool, true, false, cond}
+use mathlib.Core.Bool.{true, false}
 use mathlib.Core.List.{List, [], _∷_, _++_, append-assoc}
 use mathlib.Core.Option.{Option, none, some}
-use Prim.Native.Nat.{ℕ, zero, suc, _+_, _≤_, _<_}
+use Prim.Native.Nat.{ℕ, suc, _+_, _≤_, _<_}
 use Prim.Native.String.{String}
 use native.Mathlib.Omega.{arith}
-use lib.IntN.{ℤ}
 use lib.Dec.{eqb, ltb}
 use lib.ListN.{length, take, drop, length-append, take-append-drop}
 use lib.Seq.{take-append-seam, drop-append-seam, drop-append-add}
@@ -34,7 +33,8 @@ pub as-found : {A : Type 0} (P : A → List ℕ → Type 0) (a b : A) (l rest : 
 as-found P a b l rest e p = let s : a ≡ b = cc in let t : l ≡ rest = cc in rw (s, t) at p
 
 -- where two readers in a row found something, so did the first, and the second behind it
-pub in-a-row : {A B X : Type 0} (x : Found A) (f : A → Reader B) (b : B) (rest : List ℕ) → onward x f ≡ found b rest → ((a : A) (l : List ℕ) → x ≡ found a l → f a l ≡ found b rest → X) → X
+pub in-a-row : {A B X : Type 0} (x : Found A) (f : A → Reader B) (b : B) (rest : List ℕ) → onward x f ≡ found b rest
+    → ((a : A) (l : List ℕ) → x ≡ found a l → f a l ≡ found b rest → X) → X
 unfolding onward
 in-a-row (found a l) f b rest e next = next a l refl e
 in-a-row nothing f b rest e next = lost e
@@ -44,7 +44,9 @@ position-split : (x : ℕ) (l : List ℕ) → positionIn x l < length l → (In 
 position-split x [] h = absurd (omega arith)
 position-split x (y ∷ l) h = step (position-split x l) (which (eqb x y))
   where
-    step : (positionIn x l < length l → (In x (take (positionIn x l) l) → ⊥) × (l ≡ take (positionIn x l) l ++ (x ∷ drop (suc (positionIn x l)) l))) → (eqb x y ≡ true) ⊎ (eqb x y ≡ false) → (In x (take (positionIn x (y ∷ l)) (y ∷ l)) → ⊥) × (y ∷ l ≡ take (positionIn x (y ∷ l)) (y ∷ l) ++ (x ∷ drop (suc (positionIn x (y ∷ l))) (y ∷ l)))
+    step : (positionIn x l < length l → (In x (take (positionIn x l) l) → ⊥) × (l ≡ take (positionIn x l) l ++ (x ∷ drop (suc (positionIn x l)) l)))
+        → (eqb x y ≡ true) ⊎ (eqb x y ≡ false)
+        → (In x (take (positionIn x (y ∷ l)) (y ∷ l)) → ⊥) × (y ∷ l ≡ take (positionIn x (y ∷ l)) (y ∷ l) ++ (x ∷ drop (suc (positionIn x (y ∷ l))) (y ∷ l)))
     step below (inl q) = rw q (λ i. i, ap (λ z. z ∷ l) (sym (eqb-true x y q)))
     step below (inr q) =
         let s = below (omega (arith, rw q at h)) in
@@ -97,7 +99,8 @@ module _ {A : Type 0} (key : String) (write : A → List ℕ) (InOrder : A → T
   unfolding valueLine onward
   value-back a rest h = rw (bytes-law key .back (write a) rest (one a), back a h)
 
-  of-value : (l v rest₀ : List ℕ) (o : Option A) (a : A) (rest : List ℕ) → l ≡ line key v ++ rest₀ → read v ≡ o → valued o rest₀ ≡ found a rest → InOrder a × (l ≡ line key (write a) ++ rest)
+  of-value : (l v rest₀ : List ℕ) (o : Option A) (a : A) (rest : List ℕ) → l ≡ line key v ++ rest₀ → read v ≡ o → valued o rest₀ ≡ found a rest
+      → InOrder a × (l ≡ line key (write a) ++ rest)
   of-value l v rest₀ none a rest s q e = lost e
   of-value l v rest₀ (some a′) a rest s q e =
       let t : a′ ≡ a = cc in
@@ -120,5 +123,7 @@ pub signed-law : (key : String) → Reads (λ z. line key (signedOf z)) Signed32
 signed-law key = value-law key signedOf Signed32 signedIn signed-back signed-sound signed-line
 
 -- what is behind a line goes on being read
-pub past-line : {A B X : Type 0} {write : A → List ℕ} {InOrder : A → Type 0} {read : Reader A} → Reads write InOrder read → (l : List ℕ) (f : A → Reader B) (b : B) (rest : List ℕ) → onward (read l) f ≡ found b rest → ((a : A) (m : List ℕ) → InOrder a → l ≡ write a ++ m → f a m ≡ found b rest → X) → X
+pub past-line : {A B X : Type 0} {write : A → List ℕ} {InOrder : A → Type 0} {read : Reader A} → Reads write InOrder read
+    → (l : List ℕ) (f : A → Reader B) (b : B) (rest : List ℕ) → onward (read l) f ≡ found b rest
+    → ((a : A) (m : List ℕ) → InOrder a → l ≡ write a ++ m → f a m ≡ found b rest → X) → X
 past-line law l f b rest e next = in-a-row _ _ b rest e (λ a m q g. let s = law .sound l a m q in next a m (s .0) (s .1) g)

@@ -1,8 +1,8 @@
 -- Readers at a place of the input: what the tests that the code makes there say of the lines that begin there.
 -- Assumes nothing.
-use mathlib.Core.Path.{_≡_, refl, sym, ap, _∙_}
+use mathlib.Core.Path.{_≡_, refl, _∙_}
 use mathlib.Core.Logic.{_⊎_, inl, inr}
-use mathlib.Core.Bool.{Bool, true, false}
+use mathlib.Core.Bool.{true, false}
 use mathlib.Core.List.{List, [], _∷_}
 use mathlib.Core.Option.{Option, none, some}
 use Prim.Native.Nat.{ℕ, suc, _+_, _-_, _≤_, _<_}
@@ -14,7 +14,7 @@ use borrow.Author.Tests.{lt-ltb, le-ltb, eq-eqb, ne-eqb}
 use Rattle.base.specs.Lists.{begins, positionIn}
 use Rattle.base.proofs.Tests.{which}
 use Rattle.base.proofs.Begins.{begins-length}
-use Rattle.desk_line.specs.Reads.{found, nothing, onward, toFeed, bytesLine, valueLine, gather, wellLed, numberIn}
+use Rattle.desk_line.specs.Reads.{nothing, onward, toFeed, bytesLine, valueLine, gather, wellLed, numberIn}
 use Rattle.desk_line.specs.Says.{part, Reached, PartReached}
 
 position-le : (x : ℕ) (l : List ℕ) → positionIn x l ≤ length l

@@ -2,9 +2,9 @@
 -- Assumes nothing.
 use mathlib.Core.Path.{_≡_, refl, sym, ap, _∙_}
 use mathlib.Core.Bool.{true, false}
-use mathlib.Core.List.{List, [], _∷_}
+use mathlib.Core.List.{List}
 use mathlib.Core.Option.{Option, none, some}
-use Prim.Native.Nat.{ℕ, zero, suc, _+_, _-_, _≤_, _<_}
+use Prim.Native.Nat.{ℕ, zero, suc, _-_, _≤_}
 use native.Mathlib.Omega.{arith}
 use lib.IntN.{ℤ, pos, negsuc, _-ℤ_}
 use lib.ListN.{length, take, drop, length-drop}
@@ -15,42 +15,41 @@ use mir.Facts.{toZ-ofZ, toZ-pos}
 use Rattle.base.specs.Lists.{begins}
 use Rattle.base.proofs.Begins.{begins-length}
 use Rattle.desk_line.specs.Writing.{ascii}
-use Rattle.desk_line.specs.Reads.{numberIn, signedIn, negated, positive}
+use Rattle.desk_line.specs.Reads.{numberIn, signedIn, negated}
 use Rattle.desk_line.specs.Says.{saidNumber, saidMetres}
-use Rattle.desk_line.specs.declared.Decimal.{Decimal}
 use Rattle.desk_line.specs.declared.Decimal.the-variants as decimal
 use Rattle.desk_line.specs.declared.Metres.the-variants as metres
 use Rattle.desk_line.proofs.Decimals.{number-sound}
 
 -- what an answer says of the number that was read
-pub said-some : (o : Option ℕ) (n : ℕ) → saidNumber o ≡ decimal.Number n → o ≡ some n
-said-some none n e = let z : _≡_ {A = ℕ} 0 1 = cc in absurd (omega arith)
-said-some (some m) n e = let s : m ≡ n = cc in ap some s
+pub said-number : (o : Option ℕ) (n : ℕ) → saidNumber o ≡ decimal.Number n → o ≡ some n
+said-number none n e = let z : _≡_ {A = ℕ} 0 1 = cc in absurd (omega arith)
+said-number (some m) n e = let s : m ≡ n = cc in ap some s
 
-pub said-none : (o : Option ℕ) → saidNumber o ≡ decimal.Malformed → o ≡ none
-said-none none e = refl
-said-none (some m) e = let z : _≡_ {A = ℕ} 0 1 = cc in absurd (omega arith)
+pub said-no-number : (o : Option ℕ) → saidNumber o ≡ decimal.Malformed → o ≡ none
+said-no-number none e = refl
+said-no-number (some m) e = let z : _≡_ {A = ℕ} 0 1 = cc in absurd (omega arith)
 
-pub said-signed : (o : Option ℤ) (z : ℤ) → saidMetres o ≡ metres.Number z → o ≡ some z
-said-signed none z e = let z : _≡_ {A = ℕ} 0 1 = cc in absurd (omega arith)
-said-signed (some y) z e = let s : y ≡ z = cc in ap some s
+pub said-metres : (o : Option ℤ) (z : ℤ) → saidMetres o ≡ metres.Number z → o ≡ some z
+said-metres none z e = let z : _≡_ {A = ℕ} 0 1 = cc in absurd (omega arith)
+said-metres (some y) z e = let s : y ≡ z = cc in ap some s
 
-pub said-unsigned : (o : Option ℤ) → saidMetres o ≡ metres.Malformed → o ≡ none
-said-unsigned none e = refl
-said-unsigned (some z) e = let z : _≡_ {A = ℕ} 0 1 = cc in absurd (omega arith)
+pub said-no-metres : (o : Option ℤ) → saidMetres o ≡ metres.Malformed → o ≡ none
+said-no-metres none e = refl
+said-no-metres (some z) e = let z : _≡_ {A = ℕ} 0 1 = cc in absurd (omega arith)
 
 module _ (l : List ℕ) (plain : begins (ascii "-") l ≡ false) where
   pub plain-none : saidNumber (numberIn 2147483647 l) ≡ decimal.Malformed → metres.Malformed ≡ saidMetres (signedIn l)
   unfolding signedIn
-  plain-none e = rw (plain, said-none (numberIn 2147483647 l) e)
+  plain-none e = rw (plain, said-no-number (numberIn 2147483647 l) e)
 
   module _ (n : ℕ) (is : saidNumber (numberIn 2147483647 l) ≡ decimal.Number n) where
     pub plain-fits : SFits w32 (pos n)
-    plain-fits = record { sfits = omega (arith, number-sound 2147483647 n l (said-some _ n is) .0) }
+    plain-fits = record { sfits = omega (arith, number-sound 2147483647 n l (said-number _ n is) .0) }
 
     pub plain-some : metres.Number (toZ w32 n) ≡ saidMetres (signedIn l)
     unfolding signedIn
-    plain-some = rw (plain, said-some (numberIn 2147483647 l) n is, toZ-pos w32 {n = n} (omega (arith, plain-fits .sfits)))
+    plain-some = rw (plain, said-number (numberIn 2147483647 l) n is, toZ-pos w32 {n = n} (omega (arith, plain-fits .sfits)))
 
 one-below : (m : ℕ) → negsuc 0 -ℤ pos m ≡ negsuc m
 one-below zero = refl
@@ -73,16 +72,16 @@ module _ (l : List ℕ) (minus : begins (ascii "-") l ≡ true) where
 
   pub minus-none : saidNumber (numberIn 2147483648 (take (length l - 1) (drop 1 l))) ≡ decimal.Malformed → metres.Malformed ≡ saidMetres (signedIn l)
   unfolding digits
-  minus-none e = ap saidMetres (sym (below none (said-none _ e)))
+  minus-none e = ap saidMetres (sym (below none (said-no-number _ e)))
 
   module _ (n : ℕ) (is : saidNumber (numberIn 2147483648 (take (length l - 1) (drop 1 l))) ≡ decimal.Number n) where
     pub minus-zero : n ≡ 0 → metres.Malformed ≡ saidMetres (signedIn l)
     unfolding digits
-    minus-zero e = ap saidMetres (sym (below (some 0) (said-some _ n is ∙ ap some e)))
+    minus-zero e = ap saidMetres (sym (below (some 0) (said-number _ n is ∙ ap some e)))
 
     module _ (some-digit : n ≡ 0 → ⊥) where
       pub minus-fits : SFits w32 (pos (n - 1))
-      minus-fits = record { sfits = omega (arith, number-sound 2147483648 n _ (said-some _ n is) .0, some-digit) }
+      minus-fits = record { sfits = omega (arith, number-sound 2147483648 n _ (said-number _ n is) .0, some-digit) }
 
       down : negsuc 0 -ℤ toZ w32 (n - 1) ≡ negsuc (n - 1)
       down = rw (toZ-pos w32 {n = n - 1} (omega (arith, minus-fits .sfits))) (one-below (n - 1))
@@ -94,4 +93,4 @@ module _ (l : List ℕ) (minus : begins (ascii "-") l ≡ true) where
       unfolding digits
       minus-some =
           let s : n ≡ suc (n - 1) = omega (arith, some-digit) in
-          ap metres.Number (toZ-ofZ down-fits ∙ down) ∙ ap saidMetres (sym (below (some (suc (n - 1))) (said-some _ n is ∙ ap some s)))
+          ap metres.Number (toZ-ofZ down-fits ∙ down) ∙ ap saidMetres (sym (below (some (suc (n - 1))) (said-number _ n is ∙ ap some s)))

@@ -1,16 +1,16 @@
 -- The invariants of the loops that read: what is still to be read decides.
 -- Seeking looks for the line feed, Gathering takes digit after digit. Assumes nothing.
-use mathlib.Core.Path.{_≡_, refl, sym, ap, _∙_}
-use mathlib.Core.Bool.{Bool, true, false}
-use mathlib.Core.List.{List, [], _∷_}
-use mathlib.Core.Option.{Option, none, some}
-use Prim.Native.Nat.{ℕ, suc, _+_, _-_, _*_, _≤_, _<_}
+use mathlib.Core.Path.{_≡_, refl, sym, _∙_}
+use mathlib.Core.Bool.{Bool, true, false, cond}
+use mathlib.Core.List.{List}
+use mathlib.Core.Option.{none, some}
+use Prim.Native.Nat.{ℕ, suc, _+_, _≤_, _<_}
 use native.Mathlib.Numerals.{add-one}
 use native.Mathlib.Omega.{arith}
 use lib.ListN.{length, getD, drop, drop-of-length-le}
 use lib.Seq.{drop-cons}
 use borrow.Author.Tests.{eq-eqb, ne-eqb, le-leb, lt-leb}
-use Rattle.base.specs.Lists.{every, positionIn}
+use Rattle.base.specs.Lists.{positionIn}
 use Rattle.base.proofs.Tests.{every-of, every-not}
 use Rattle.desk_line.specs.Reads.{grown, digitFits, gather}
 
@@ -45,7 +45,8 @@ module _ (most : ℕ) (l : List ℕ) where
   pub gather-none : Gathering most l 0 0
   gather-none = record { small = omega arith; within = omega arith; rest = refl }
 
-  next : (value i : ℕ) (fits : Bool) → i < length l → digitFits most value (getD l i 0) ≡ fits → Gathering most l value i → gather most 0 l ≡ mathlib.Core.Bool.cond fits (gather most (grown value (getD l i 0)) (drop (i + 1) l)) none
+  next : (value i : ℕ) (fits : Bool) → i < length l → digitFits most value (getD l i 0) ≡ fits → Gathering most l value i
+      → gather most 0 l ≡ cond fits (gather most (grown value (getD l i 0)) (drop (i + 1) l)) none
   unfolding gather
   next value i fits h e s = s .rest ∙ rw (drop-cons l i 0 h, e, add-one)
 
@@ -62,7 +63,8 @@ module _ (most : ℕ) (l : List ℕ) where
   unfolding digitFits
   too-large value i h e s = next value i false h (every-not _ 2 (lt-leb (grown value (getD l i 0)) most e)) s
 
-  pub gather-one : (value i : ℕ) → i < length l → 48 ≤ getD l i 0 → getD l i 0 ≤ 57 → grown value (getD l i 0) ≤ most → Gathering most l value i → Gathering most l (grown value (getD l i 0)) (i + 1)
+  pub gather-one : (value i : ℕ) → i < length l → 48 ≤ getD l i 0 → getD l i 0 ≤ 57 → grown value (getD l i 0) ≤ most → Gathering most l value i
+      → Gathering most l (grown value (getD l i 0)) (i + 1)
   unfolding digitFits
   gather-one value i h a b c s =
       record { small = c; within = omega arith; rest = next value i true h (every-of _ (le-leb 48 (getD l i 0) a, (le-leb (getD l i 0) 57 b, (le-leb (grown value (getD l i 0)) most c, tt)))) s }

@@ -1,29 +1,28 @@
 -- The ways out of building and checking: each answer, with the buffers that it leaves, is that of the rules.
 -- Assumes nothing.
-use mathlib.Core.Path.{_≡_, refl, sym, ap, _∙_, subst}
+use mathlib.Core.Path.{_≡_, refl, sym, _∙_}
 use mathlib.Core.Logic.{_⊎_, inl, inr}
 use mathlib.Core.Bool.{Bool, true, false, cond, _&&_, _||_}
-use mathlib.Core.List.{List, [], _∷_, _++_}
-use Prim.Native.Nat.{ℕ, zero, suc, _+_, _*_, _≤_, _<_}
+use mathlib.Core.List.{List, [], _∷_}
+use Prim.Native.Nat.{ℕ, zero, suc, _*_, _≤_}
 use native.Mathlib.Omega.{arith}
 use native.Mathlib.Nat.{zero-add}
 use lib.Dec.{eqb, ltb}
-use lib.ListN.{length, take, drop}
+use lib.ListN.{length}
 use borrow.Author.Tests.{ltb-false, ne-eqb}
 use Rattle.base.specs.Lists.{every, begins, written}
-use Rattle.base.proofs.Tests.{which, never, and-true, or-neither, every-of, every-not}
+use Rattle.base.proofs.Tests.{which, never, and-true, or-neither, every-not}
 use Rattle.rules.specs.declared.Grid.{Grid}
 use Rattle.rules.specs.declared.Refusal.{Refusal}
 use Rattle.rules.specs.declared.Refusal.the-variants.{BufferTooSmall}
-use Rattle.rules.specs.declared.Verdict.{Verdict}
 use Rattle.rules.specs.declared.Verdict.the-variants as verdict
 use Rattle.rules.specs.declared.Built.{Built}
 use Rattle.rules.specs.declared.Built.the-variants as built
 use Rattle.rules.specs.declared.Checked.{Checked}
 use Rattle.rules.specs.declared.Checked.the-variants as checked
-use Rattle.rules.specs.Numbers.{refusalNumber, verdictNumber, firstGiven, BuildTold, CheckTold, builtNumbers, checkedNumbers}
-use Rattle.rules.specs.Tables.{Table, stands, LawfulTable, tableRefusal}
-use Rattle.rules.specs.Indexes.{Index, indexOf, orderWords, nodeWords, entryWords, nodeCount, entryCount, tooSmall, buildRefusal, buildTold, indexAfter, setLawful, checkTold}
+use Rattle.rules.specs.Numbers.{refusalNumber, firstGiven, checkedNumbers}
+use Rattle.rules.specs.Tables.{Table, LawfulTable, tableRefusal}
+use Rattle.rules.specs.Indexes.{Index, indexOf, orderWords, nodeWords, entryWords, tooSmall, buildRefusal, buildTold, indexAfter, setLawful, checkTold}
 use Rattle.rules.proofs.Lawful.{taken}
 use Rattle.rules.proofs.Outcomes.{one-verdict}
 use Rattle.node.specs.Columns.{Columns}
@@ -134,7 +133,8 @@ module _ (c : Columns) (x : Index) (n e : ℕ) (nodes : n ≡ nodeCountOf c) (en
         for-entries = omega (arith, entries, ltb-false (length (x .entries)) (4 * e) (a .1));
       }
 
-  pub wrote : small ≡ false → (order′ nodes′ entries′ : List ℕ) → order′ ≡ over (x .order) 0 (orderOf (c .region)) → nodes′ ≡ over (x .nodes) 0 (nodeWordsOf c) → entries′ ≡ over (x .entries) 0 (entryWordsOf c)
+  pub wrote : small ≡ false → (order′ nodes′ entries′ : List ℕ) → order′ ≡ over (x .order) 0 (orderOf (c .region)) → nodes′ ≡ over (x .nodes) 0 (nodeWordsOf c)
+      → entries′ ≡ over (x .entries) 0 (entryWordsOf c)
       → BuiltFrom c x (built.Index n e) (indexOf order′ nodes′ entries′)
   unfolding overAll
   wrote q order′ nodes′ entries′ o p r = record { told = rw (small-test, q, nodes, entries); buffers = rw (small-test, q, o, p, r) }

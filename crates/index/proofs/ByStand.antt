@@ -100,12 +100,18 @@ module _ (t : Table) (g : Grid) (l : LawfulTable t g) where
       record { few = omega (arith, l .shaped .few); same = l .shaped .norths ∙ sym e; lawful = l .gridded; inside = λ i h. l .placed i (omega arith) }
 
   -- columns in the front of longer arrays
-  pub columns-are : (long alike places : List ℕ) → take (stands t) long ≡ each (lengthIn (t .text) (t .starts)) (upTo (stands t))
+  pub front-fits : (array : List ℕ) → length array ≡ 1024 → stands t ≤ length array
+  front-fits array size = omega (arith, l .shaped .few)
+
+  pub front-size : (array : List ℕ) → length array ≡ 1024 → stands t ≡ length (take (stands t) array)
+  front-size array size = sym (length-take-le (stands t) array (front-fits array size))
+
+  pub columns-are : (long alike region : List ℕ) → take (stands t) long ≡ each (lengthIn (t .text) (t .starts)) (upTo (stands t))
       → take (stands t) alike ≡ each (sharedIn (t .text) (t .starts)) (upTo (stands t))
-      → take (length (t .east)) places ≡ each (regionIn (t .east) (t .north) g) (upTo (length (t .east)))
-      → columnsOf (t .text) (t .starts) (take (stands t) long) (take (stands t) alike) (take (stands t) places) (t .score) ≡ columns t g
+      → take (length (t .east)) region ≡ each (regionIn (t .east) (t .north) g) (upTo (length (t .east)))
+      → columnsOf (t .text) (t .starts) (take (stands t) long) (take (stands t) alike) (take (stands t) region) (t .score) ≡ columns t g
   unfolding lengthsOf sharedOf regionsOf
-  columns-are long alike places a b c = rw (a, b, rw (l .shaped .easts) at c)
+  columns-are long alike region a b c = rw (a, b, rw (l .shaped .easts) at c)
 
   grows : Grows (lengthsOf t) (sharedOf t)
   grows =

@@ -1,28 +1,25 @@
 -- What the regions under a node hold, its words of bits and its entries: by the columns they are the definitions'.
 -- Assumes nothing.
 use mathlib.Core.Path.{_≡_, refl, sym, ap, _∙_}
-use mathlib.Core.Logic.{_⊎_, inl, inr, ⊎-elim}
-use mathlib.Core.Bool.{Bool, true, false, not, false≢true}
-use mathlib.Core.List.{List, [], _∷_, _++_, append-nil}
-use Prim.Native.Nat.{ℕ, zero, suc, _+_, _-_, _≤_, _<_}
+use mathlib.Core.Bool.{true, not, false≢true}
+use mathlib.Core.List.{List, [], _∷_}
+use Prim.Native.Nat.{ℕ, _+_, _-_, _≤_, _<_}
 use native.Mathlib.Omega.{arith}
-use lib.Dec.{eqb, ltb}
+use lib.Dec.{eqb}
 use lib.ListN.{length, length-append}
-use borrow.Author.Tests.{lt-ltb, le-ltb, ltb-true, ltb-false, eq-eqb, ne-eqb}
-use Rattle.base.specs.Lists.{fromOn, upTo, keep, each, eachList, largest, firstOf, isEmpty, sortBy, positionIn, In}
+use Rattle.base.specs.Lists.{upTo, keep, each, eachList, firstOf, isEmpty, sortBy, positionIn, In}
 use Rattle.base.specs.Bits.{wordOf}
-use Rattle.base.proofs.Tests.{which, le-or-lt}
-use Rattle.base.proofs.Members.{keep-in, keep-same, each-same, eachList-same, eachList-append}
-use Rattle.base.proofs.Runs.{in-from, upTo-suc}
+use Rattle.base.proofs.Members.{keep-in, keep-same, each-same, eachList-same}
+use Rattle.base.proofs.Runs.{in-from}
 use Rattle.base.proofs.Words.{word-same}
 use Rattle.rules.specs.declared.Grid.{Grid}
 use Rattle.rules.specs.Places.{regions}
-use Rattle.rules.specs.Tables.{Table, stands, scoreOf}
-use Rattle.rules.specs.Questions.{under, regionOfStand, inRegion, byRegion}
-use Rattle.rules.specs.Indexes.{orderWords, occupied, regionsUnder, Entry, entryOf, ahead, entriesOf}
+use Rattle.rules.specs.Tables.{Table, stands}
+use Rattle.rules.specs.Questions.{under, regionOfStand, inRegion}
+use Rattle.rules.specs.Indexes.{orderWords, occupied, regionsUnder, entryOf, ahead, entriesOf}
 use Rattle.trie.proofs.Regions.{before, region-place}
 use Rattle.node.specs.Columns.{at, span, standsIn, heldIn, regionsIn, entryIn, entriesIn}
-use Rattle.node.specs.Visits.{belowOf, placeAt, placesAt}
+use Rattle.node.specs.Visits.{placeAt, placesAt}
 use Rattle.words.specs.Over.{regionOrder, orderOf}
 use Rattle.words.proofs.Orders.{firsts, firsts-below}
 use Rattle.node.proofs.Placing.{regions-are, place-at}

@@ -3,7 +3,7 @@
 use mathlib.Core.Path.{_≡_, refl, sym, ap, _∙_}
 use mathlib.Core.Logic.{_⊎_, inl, inr}
 use mathlib.Core.Bool.{false}
-use mathlib.Core.List.{List, [], _++_}
+use mathlib.Core.List.{List, []}
 use Prim.Native.Nat.{ℕ, zero, suc, _+_, _-_, _≤_, _<_}
 use native.Mathlib.Omega.{arith}
 use native.Mathlib.Numerals.{add-one}
@@ -19,7 +19,7 @@ use Rattle.base.proofs.Begins.{shared-le, shared-le-other, sharedLength-take}
 use Rattle.rules.specs.declared.Grid.{Grid}
 use Rattle.rules.specs.Tables.{Table, stands, nameOf, LawfulTable}
 use Rattle.rules.specs.Questions.{under}
-use Rattle.rules.specs.Indexes.{beginnings, nodeCount, numberIn, lastByte, butLast, pastOf}
+use Rattle.rules.specs.Indexes.{beginnings, numberIn, lastByte, butLast, pastOf}
 use Rattle.trie.specs.Adding as added
 use Rattle.trie.specs.Adding.{sharedAt}
 use Rattle.trie.proofs.Tables.{under-all, under-run, past-root}
@@ -29,7 +29,7 @@ use Rattle.node.specs.Visits.{nodesBefore, numberAt}
 use Rattle.node.specs.Rows.{lastOf, parentOf, pastNumber}
 use Rattle.node.proofs.Ends.{upTo-part, grown-last}
 use Rattle.index.specs.Columns.{lengthsOf, sharedOf}
-use Rattle.index.proofs.ByStand.{lengths-length, shared-length, lengths-at, shared-at, name-byte, columns-lawful}
+use Rattle.index.proofs.ByStand.{shared-length, lengths-at, shared-at, name-byte, columns-lawful}
 use Rattle.index.proofs.Blocks.{Block, block, end-all}
 
 -- ---- how many nodes stands make

@@ -1,15 +1,15 @@
 -- For the reader: no two outcomes satisfy what building or checking promises; checking accepts what building wrote, and building leaves
 -- alone what checking accepts, with the same counts; an empty table has one node and no entry. Assumes nothing.
-use mathlib.Core.Path.{_≡_, refl, sym, ap, _∙_, subst}
+use mathlib.Core.Path.{_≡_, refl, sym, ap, _∙_}
 use mathlib.Core.Logic.{_⊎_, inl, inr}
 use mathlib.Core.Bool.{true, false, cond}
-use mathlib.Core.List.{List, [], _∷_, _++_}
+use mathlib.Core.List.{List, _++_}
 use Prim.Native.Nat.{ℕ, zero, suc, _*_, _≤_}
 use native.Mathlib.Omega.{arith}
 use lib.Dec.{eqb}
-use lib.ListN.{length, take, drop, take-append-drop}
+use lib.ListN.{length, drop, take-append-drop}
 use borrow.Author.Tests.{eqb-true, eq-eqb, le-ltb}
-use Rattle.base.specs.Lists.{every, begins, written}
+use Rattle.base.specs.Lists.{begins, written}
 use Rattle.base.proofs.Tests.{which, never, every-at, every-of}
 use Rattle.base.proofs.Begins.{begins-append, begins-is-take, begins-length}
 use Rattle.rules.specs.declared.Grid.{Grid}
@@ -17,8 +17,8 @@ use Rattle.rules.specs.declared.Built.{Built}
 use Rattle.rules.specs.declared.Built.the-variants as built
 use Rattle.rules.specs.declared.Checked.{Checked}
 use Rattle.rules.specs.declared.Checked.the-variants as checked
-use Rattle.rules.specs.Numbers.{firstGiven, BuildTold, CheckTold, builtNumbers, checkedNumbers}
-use Rattle.rules.specs.Tables.{Table, stands, LawfulTable, tableRefusal}
+use Rattle.rules.specs.Numbers.{firstGiven, BuildTold, CheckTold, checkedNumbers}
+use Rattle.rules.specs.Tables.{Table, stands, tableRefusal}
 use Rattle.rules.specs.Indexes.{Index, orderWords, nodeWords, entryWords, nodeCount, entryCount, tooSmall, buildRefusal, buildTold, indexAfter, setLawful, checkTold}
 use Rattle.rules.proofs.Lawful.{lawful}
 use Rattle.rules.proofs.Outcomes.{one-built, one-checked}
@@ -38,7 +38,7 @@ module _ (t : Table) (g : Grid) (x : Index) where
 
 -- ---- an index that was built
 
-first-none : (a b : ℕ) → firstGiven a b ≡ 0 → (a ≡ 0) × (b ≡ 0)
+pub first-none : (a b : ℕ) → firstGiven a b ≡ 0 → (a ≡ 0) × (b ≡ 0)
 first-none zero b e = (refl, e)
 first-none (suc a) b e = absurd (omega arith)
 

@@ -3,13 +3,13 @@
 use mathlib.Core.Path.{_≡_, refl, sym, ap, _∙_, subst}
 use mathlib.Core.Logic.{_⊎_, inl, inr, ⊎-elim}
 use mathlib.Core.List.{List, [], _∷_, _++_}
-use Prim.Native.Nat.{ℕ, zero, suc, _+_, _-_, _≤_, _<_}
+use Prim.Native.Nat.{ℕ, suc, _+_, _-_, _≤_, _<_}
 use native.Mathlib.Omega.{arith}
 use lib.ListN.{length, take, drop, getD}
 use Rattle.base.specs.Lists.{fromOn, upTo, each, eachList, total, In}
 use Rattle.base.proofs.Tests.{le-or-lt, ap2}
 use Rattle.base.proofs.Members.{length-each, in-each, in-eachList, getD-each, getD-in, each-same, each-each, each-eachList, eachList-each, eachList-agree, drop-head}
-use Rattle.base.proofs.Runs.{in-from, length-from}
+use Rattle.base.proofs.Runs.{in-from}
 use Rattle.base.proofs.Counts.{total-suc}
 use Rattle.rules.specs.declared.Grid.{Grid}
 use Rattle.rules.specs.Tables.{Table, stands, nameOf, LawfulTable}
@@ -18,11 +18,11 @@ use Rattle.trie.specs.Adding.{sharedAt}
 use Rattle.trie.proofs.Tree.{number-at}
 use Rattle.trie.proofs.Tables.{beginnings-tree}
 use Rattle.trie.proofs.Adding.{new-takes}
-use Rattle.trie.proofs.Words.{entries-length, entries-counted}
+use Rattle.trie.proofs.Words.{entries-length}
 use Rattle.node.specs.Columns.{Columns, at, endOf, regionsIn}
 use Rattle.node.specs.Visits.{Visit, visitsAt, newVisits, visitsFrom}
 use Rattle.node.specs.Rows.{standsAt, entriesAt, rowAt, rowOf}
-use Rattle.words.specs.Words.{rowsFrom, entryWordsFrom, countFrom, visitsOf, nodeCountOf, entryCountOf, nodeWordsOf, entryWordsOf}
+use Rattle.words.specs.Words.{rowsFrom, visitsOf, nodeCountOf, entryCountOf, nodeWordsOf, entryWordsOf}
 use Rattle.node.proofs.Steps.{visits-first, visits-done}
 use Rattle.index.specs.Columns.{lengthsOf, sharedOf, regionsOf, columns}
 use Rattle.index.proofs.ByStand.{lengths-length, lengths-at, shared-at, columns-lawful}

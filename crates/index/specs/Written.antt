@@ -1,14 +1,14 @@
 -- What the code answers and writes past refusals 1 to 5, from the columns alone: models for the proofs, which nobody has to believe.
 use mathlib.Core.Path.{_≡_}
 use mathlib.Core.Bool.{Bool, cond, _||_}
-use mathlib.Core.List.{List, [], _∷_}
-use Prim.Native.Nat.{ℕ, _*_}
+use mathlib.Core.List.{[], _∷_}
+use Prim.Native.Nat.{_*_}
 use lib.Dec.{ltb}
 use lib.ListN.{length}
 use Rattle.base.specs.Lists.{every, begins}
 use Rattle.rules.specs.declared.Built.{Built}
 use Rattle.rules.specs.declared.Checked.{Checked}
-use Rattle.rules.specs.Numbers.{BuildTold, CheckTold, builtNumbers, checkedNumbers}
+use Rattle.rules.specs.Numbers.{builtNumbers, checkedNumbers}
 use Rattle.rules.specs.Indexes.{Index}
 use Rattle.node.specs.Columns.{Columns}
 use Rattle.words.specs.Over.{over, orderOf}

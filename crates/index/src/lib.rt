@@ -40,13 +40,13 @@ pub fn build(
     let stands = score.len();
     let long = lengths(text, starts, stands);
     let alike = shares(text, starts, stands);
-    let places = regions(east, north, grid);
+    let region = regions(east, north, grid);
     put_index(
         text,
         starts,
         &long[..stands],
         &alike[..stands],
-        &places[..stands],
+        &region[..stands],
         score,
         order,
         nodes,
@@ -75,13 +75,13 @@ pub fn check(
     let stands = score.len();
     let long = lengths(text, starts, stands);
     let alike = shares(text, starts, stands);
-    let places = regions(east, north, grid);
+    let region = regions(east, north, grid);
     has_index(
         text,
         starts,
         &long[..stands],
         &alike[..stands],
-        &places[..stands],
+        &region[..stands],
         score,
         order,
         nodes,

@@ -4,26 +4,25 @@ use mathlib.Core.Path.{_≡_, refl, sym, ap, _∙_}
 use mathlib.Core.Logic.{_⊎_, inl, inr, ⊎-elim}
 use mathlib.Core.Bool.{Bool, true, false, cond}
 use mathlib.Core.List.{List, [], _∷_}
-use Prim.Native.Nat.{ℕ, zero, suc, _+_, _-_, _*_, _/_, _%_, _^_, _≤_, _<_}
+use Prim.Native.Nat.{ℕ, suc, _+_, _-_, _*_, _/_, _%_, _^_, _≤_, _<_}
 use native.Mathlib.Omega.{arith}
 use native.Mathlib.Nat.{zero-add, add-comm}
 use lib.Dec.{eqb}
-use lib.ListN.{length, take, List·getD-eq-default}
+use lib.ListN.{length, List·getD-eq-default}
 use lib.Pow.{low, high}
-use borrow.Author.Tests.{eqb-true, eqb-false}
+use borrow.Author.Tests.{eqb-false}
 use Rattle.base.specs.Lists.{upTo, keep, each, sortBy, In}
 use Rattle.base.specs.Bits.{wordOf, bitAt}
 use Rattle.rules.specs.Places.{regions}
-use Rattle.rules.specs.Indexes.{Entry, ahead}
+use Rattle.rules.specs.Indexes.{ahead}
 use Rattle.base.proofs.Tests.{which, le-or-lt}
 use Rattle.base.proofs.Members.{keep-same, keep-in, each-same, length-each}
 use Rattle.base.proofs.Runs.{in-from}
 use Rattle.base.proofs.Words.{bit-asks, word-split, word-less}
 use Rattle.base.proofs.Sorts.{each-sort, length-sort}
 use Rattle.node.specs.declared.cursor.Cursor.{Cursor}
-use Rattle.node.specs.declared.Gathered.{Gathered}
-use Rattle.node.specs.Columns.{at, Grows, Spelt, endOf, span, grownOf, growth, heldIn, regionsIn, bitsIn, entryIn, entriesIn, entryFrom, entriesFrom, byBest, Tallied, Ranks}
-use Rattle.node.specs.Visits.{numberAt, On, Ways}
+use Rattle.node.specs.Columns.{at, Grows, Spelt, endOf, span, grownOf, heldIn, regionsIn, bitsIn, entryIn, entriesIn, entryFrom, entriesFrom, byBest, Tallied, Ranks}
+use Rattle.node.specs.Visits.{On, Ways}
 use Rattle.node.specs.Rows.{lastOf, parentOf, pastNumber, rowWith, Gathers}
 use Rattle.node.proofs.Ends.{length-short, end-from, end-after}
 use Rattle.node.proofs.Placing.{regions-are}
@@ -120,7 +119,8 @@ module _ (lengths shared : List ℕ) (g : Grows lengths shared) where
         (λ (q : c .stand < length lengths). (omega (arith, w .begun), omega (arith, w .inside (c .stand) q, o .long)))
         (le-or-lt (length lengths) (c .stand))
 
-    pub parent-is : (path : List ℕ) → Ways lengths shared path (c .stand) (c .length) → cond (eqb (c .length) 0) 0 (at path (c .length - 1)) ≡ parentOf lengths shared (c .stand) (c .length)
+    pub parent-is : (path : List ℕ) → Ways lengths shared path (c .stand) (c .length)
+        → cond (eqb (c .length) 0) 0 (at path (c .length - 1)) ≡ parentOf lengths shared (c .stand) (c .length)
     parent-is path w = step (which (eqb (c .length) 0))
       where
         step : (eqb (c .length) 0 ≡ true) ⊎ (eqb (c .length) 0 ≡ false) → cond (eqb (c .length) 0) 0 (at path (c .length - 1)) ≡ parentOf lengths shared (c .stand) (c .length)

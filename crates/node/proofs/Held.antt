@@ -1,10 +1,10 @@
 -- What a run of stands holds in each region, and the walk over the run that gathers it: the regions as bits, the places and the scores.
 -- Assumes nothing.
 use mathlib.Core.Path.{_≡_, refl, sym, ap, _∙_}
-use mathlib.Core.Logic.{_⊎_, inl, inr, ⊎-elim}
+use mathlib.Core.Logic.{_⊎_, inl, inr}
 use mathlib.Core.Bool.{Bool, true, false, not, cond, _||_}
 use mathlib.Core.List.{List, [], _∷_, _++_, append-nil}
-use Prim.Native.Nat.{ℕ, suc, _+_, _-_, _*_, _/_, _%_, _^_, _≤_, _<_}
+use Prim.Native.Nat.{ℕ, _+_, _-_, _*_, _%_, _^_, _≤_, _<_}
 use native.Mathlib.Omega.{arith}
 use native.Mathlib.Nat.{zero-add}
 use lib.Bits.{bitOr}
@@ -143,7 +143,8 @@ module _ (region score next : List ℕ) (i e : ℕ) where
 
   module _ (places best : List ℕ) (bits k r : ℕ) (s : Tallying region score next i e places best bits k) (h : k < e) (q : r ≡ at region k) (lt : r < 64) where
     -- what a slot of the region stands for so far, by its bit
-    slot : (f : List ℕ → ℕ) (here fresh a : ℕ) → (heldIn region (span i k) r ≡ true → here ≡ f (standsIn region r (span i k))) → fresh ≡ f [] → a ≡ cond (bitAt bits r) here fresh → a ≡ f (standsIn region r (span i k))
+    slot : (f : List ℕ → ℕ) (here fresh a : ℕ) → (heldIn region (span i k) r ≡ true → here ≡ f (standsIn region r (span i k))) → fresh ≡ f []
+        → a ≡ cond (bitAt bits r) here fresh → a ≡ f (standsIn region r (span i k))
     slot f here fresh a full none e =
         e
         ∙ ap (λ (w : ℕ). cond (bitAt w r) here fresh) (s .so-far .word)
@@ -164,22 +165,22 @@ module _ (region score next : List ℕ) (i e : ℕ) where
           → Tallying region score next i e (set places r (a + 1)) (set best r m) (bitOr bits (1 * 2 ^ r % 2 ^ 64)) (k + 1)
       tallying-more b m eb em =
           let seen = span i k in
-          let marks' = marking-more region i e bits k r (s .marks) h q lt in
+          let marks′ = marking-more region i e bits k r (s .marks) h q lt in
           let more : span i (k + 1) ≡ span i k ++ (k ∷ []) = span-last i k (s .marks .after) in
           let place : a + 1 ≡ at next r + length (standsIn region r (span i k) ++ (k ∷ [])) =
           omega (arith, place-now, length-append (standsIn region r (span i k)) (k ∷ [])) in
           let top : b ≡ largest (each (at score) (standsIn region r (span i k))) =
           slot (λ l. largest (each (at score) l)) (at best r) 0 b (s .so-far .most r lt) refl eb in
-          let score' : m ≡ largest (each (at score) (standsIn region r (span i k) ++ (k ∷ []))) =
+          let score′ : m ≡ largest (each (at score) (standsIn region r (span i k) ++ (k ∷ []))) =
           em
           ∙ ap (λ (x : ℕ). cond (ltb x (at score k)) (at score k) x) top
           ∙ sym (ap largest (each-append (at score) (standsIn region r (span i k)) (k ∷ [])) ∙ largest-last (each (at score) (standsIn region r (span i k))) (at score k)) in
           record {
-            marks = marks';
+            marks = marks′;
             so-far = record {
-              word = marks' .word;
+              word = marks′ .word;
               past = rw more (stored region (span i k) k r q places (λ x l. at next x + length l) (a + 1) (s .so-far .places-size) lt (s .so-far .past) place);
-              most = rw more (stored region (span i k) k r q best (λ x l. largest (each (at score) l)) m (s .so-far .best-size) lt (s .so-far .most) score');
+              most = rw more (stored region (span i k) k r q best (λ x l. largest (each (at score) l)) m (s .so-far .best-size) lt (s .so-far .most) score′);
               places-size = length-set places r (a + 1) ∙ s .so-far .places-size;
               best-size = length-set best r m ∙ s .so-far .best-size;
             };

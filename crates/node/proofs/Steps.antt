@@ -1,12 +1,12 @@
 -- The cursor's step, over plain lists: past a stand's nodes come the next stand's new ones. Assumes nothing.
 use mathlib.Core.Path.{_≡_, refl, sym, ap, _∙_}
 use mathlib.Core.Logic.{_⊎_, inl, inr, ⊎-elim}
-use mathlib.Core.Bool.{Bool, true, false}
+use mathlib.Core.Bool.{true, false}
 use mathlib.Core.List.{List, [], _∷_, _++_}
 use Prim.Native.Nat.{ℕ, zero, suc, _+_, _-_, _≤_, _<_}
 use native.Mathlib.Omega.{arith}
 use native.Mathlib.Numerals.{add-one}
-use lib.Dec.{eqb, ltb}
+use lib.Dec.{eqb}
 use lib.ListN.{length, set, length-set, List·getD-eq-default}
 use lib.Seq.{getD-set-same, getD-set-other}
 use borrow.Author.Tests.{lt-ltb, le-ltb, eqb-true, eqb-false}
@@ -31,10 +31,12 @@ module _ (lengths shared : List ℕ) where
       none : visitsAt lengths i l ≡ []
       none = let z : suc (at lengths i) - l ≡ 0 = omega arith in rw z
 
-      more : suc i < length lengths → visitsAt lengths (suc i) (suc (at shared (suc i))) ++ eachList (newVisits lengths shared) (fromOn (suc (suc i)) (length lengths - suc (suc i))) ≡ eachList (newVisits lengths shared) (fromOn (suc i) (length lengths - suc i))
+      more : suc i < length lengths
+          → visitsAt lengths (suc i) (suc (at shared (suc i))) ++ eachList (newVisits lengths shared) (fromOn (suc (suc i)) (length lengths - suc (suc i))) ≡ eachList (newVisits lengths shared) (fromOn (suc i) (length lengths - suc i))
       more q = let w : length lengths - suc i ≡ suc (length lengths - suc (suc i)) = omega arith in rw w
 
-      last : length lengths ≤ suc i → visitsAt lengths (suc i) (suc (at shared (suc i))) ++ eachList (newVisits lengths shared) (fromOn (suc (suc i)) (length lengths - suc (suc i))) ≡ eachList (newVisits lengths shared) (fromOn (suc i) (length lengths - suc i))
+      last : length lengths ≤ suc i
+          → visitsAt lengths (suc i) (suc (at shared (suc i))) ++ eachList (newVisits lengths shared) (fromOn (suc (suc i)) (length lengths - suc (suc i))) ≡ eachList (newVisits lengths shared) (fromOn (suc i) (length lengths - suc i))
       last q =
           let w : length lengths - suc i ≡ 0 = omega arith in
           let v : length lengths - suc (suc i) ≡ 0 = omega arith in
@@ -89,7 +91,8 @@ module _ (lengths shared : List ℕ) (g : Grows lengths shared) where
       new (suc i) f = omega (arith, f (omega arith))
 
   module _ (i₀ l₀ number : ℕ) where
-    pub stepping-more : (i l w : ℕ) → Stepping lengths shared i₀ l₀ number i l → i < length lengths → at lengths i < l → w ≡ at shared (i + 1) → Stepping lengths shared i₀ l₀ number (i + 1) (w + 1)
+    pub stepping-more : (i l w : ℕ) → Stepping lengths shared i₀ l₀ number i l → i < length lengths → at lengths i < l → w ≡ at shared (i + 1)
+        → Stepping lengths shared i₀ l₀ number (i + 1) (w + 1)
     stepping-more i l w s h lt e =
         let p = s .here h in
         let full : l ≡ suc (at lengths i) = omega (arith, p .short) in
@@ -142,7 +145,8 @@ module _ (lengths shared : List ℕ) (g : Grows lengths shared) where
           let w = eqb-false k (c .length) q in
           getD-set-other path above k (c .number) 0 (λ v. w (v ∙ e)) ∙ old k (omega arith)
 
-  pub advanced : (region next path : List ℕ) (c : Cursor) (held above : ℕ) (r : Cursor) → On lengths shared c → Ways lengths shared path (c .stand) (c .length) → length path ≡ 25 → above ≡ c .length
+  pub advanced : (region next path : List ℕ) (c : Cursor) (held above : ℕ) (r : Cursor) → On lengths shared c → Ways lengths shared path (c .stand) (c .length)
+      → length path ≡ 25 → above ≡ c .length
       → Stepped lengths shared c held r → next ≡ placesAt region (r .stand) → Advanced lengths shared region c held next (set path above (c .number)) r
   advanced region next path c held above r o old size e t p =
       record {

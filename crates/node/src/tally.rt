@@ -6,6 +6,7 @@ ghost use lib.Dec.{ltb};
 ghost use lib.ListN.{length};
 ghost use Rattle.node.specs.Columns.{at, Grows, Placed, endOf, span, grownOf, bitsIn, Slots, Tallied};
 
+// A byte of a column as a place, and as a word of the index.
 pub fn wide(b: u8) -> usize
     ensures { λ r. ⌜ r ≡ b ⌝ }
 {

@@ -1,6 +1,7 @@
 -- Laws of the models, and the loops over plain lists: begin, step, end.
 pub mod Overs
 pub mod Orders
+pub mod Passes
 pub mod Turns
 pub mod Walks
 pub mod Writes

@@ -1,18 +1,18 @@
 -- Words in a room: laws of `over`, and the loops that put words and entries into a room or compare them with one.
 -- Assumes nothing.
 use mathlib.Core.Path.{_≡_, refl, sym, ap, _∙_}
-use mathlib.Core.Bool.{Bool, true, false, _&&_}
+use mathlib.Core.Bool.{true, false, _&&_}
 use mathlib.Core.List.{List, [], _∷_, _++_, append-assoc, append-nil}
-use Prim.Native.Nat.{ℕ, zero, suc, _+_, _*_, _≤_, _<_}
+use Prim.Native.Nat.{ℕ, suc, _+_, _*_, _≤_, _<_}
 use native.Mathlib.Omega.{arith}
 use native.Mathlib.Numerals.{add-one}
 use native.Mathlib.Nat.{add-zero}
 use lib.ListN.{length, take, drop, getD, set, length-append, length-drop, take-append-drop, drop-of-length-le}
 use lib.Seq.{set-split, take-at, drop-drop, drop-append-add, take-suc, take-all, length-take-le, drop-cons, getD-take}
 use borrow.Author.Tests.{eq-eqb, ne-eqb}
-use Rattle.base.specs.Lists.{each, eachList, begins}
+use Rattle.base.specs.Lists.{begins}
 use Rattle.rules.specs.Indexes.{Entry, entryRow}
-use Rattle.base.proofs.Members.{length-each, each-take, getD-each, eachList-append}
+use Rattle.base.proofs.Members.{length-each, getD-each, eachList-append}
 use Rattle.base.proofs.Begins.{begins-parts}
 use Rattle.node.specs.Columns.{at, Slots, entryFrom, entriesFrom}
 use Rattle.words.specs.Over.{over}
@@ -130,7 +130,8 @@ module _ (d : List ℕ) (p : ℕ) (l : List Entry) where
   rows-size : (k : ℕ) → k ≤ length l → length (entryRows (take k l)) ≡ k * 4
   rows-size k h = length-rows (take k l) ∙ ap (λ (m : ℕ). m * 4) (length-take-le k l h)
 
-  pub entering-more : (room : List ℕ) (k : ℕ) (z : Entry) (w room′ : List ℕ) → p + length l * 4 ≤ length d → Entering d p l room k → k < length l → w ≡ entryRow (getD l k z) → room′ ≡ over room (p + k * 4) w → Entering d p l room′ (k + 1)
+  pub entering-more : (room : List ℕ) (k : ℕ) (z : Entry) (w room′ : List ℕ) → p + length l * 4 ≤ length d → Entering d p l room k → k < length l
+      → w ≡ entryRow (getD l k z) → room′ ≡ over room (p + k * 4) w → Entering d p l room′ (k + 1)
   entering-more room k z w room′ fits s h e v =
       let c : entryRows (take (k + 1) l) ≡ entryRows (take k l) ++ w =
       ap (λ (m : ℕ). entryRows (take m l)) (add-one k)
@@ -182,15 +183,15 @@ module _ (room : List ℕ) (p : ℕ) (l : List Entry) where
 -- ---- entries out of the slots of the ranked regions
 
 module _ (best next places ranked : List ℕ) (held : ℕ) where
-  abbrev mine : List Entry
-  mine = entriesFrom best next places ranked held
+  abbrev listed : List Entry
+  listed = entriesFrom best next places ranked held
 
   module _ (size : Slots ranked) (few : held ≤ 64) where
-    pub entries-count : length mine ≡ held
+    pub entries-count : length listed ≡ held
     unfolding entriesFrom
     entries-count = length-each (entryFrom best next places) (take held ranked) ∙ length-take-le held ranked (omega arith)
 
-    entry-at : (k : ℕ) (w : List ℕ) → k < held → w ≡ entryRow (entryFrom best next places (at ranked k)) → w ≡ entryRow (getD mine k (entryFrom best next places 0))
+    entry-at : (k : ℕ) (w : List ℕ) → k < held → w ≡ entryRow (entryFrom best next places (at ranked k)) → w ≡ entryRow (getD listed k (entryFrom best next places 0))
     unfolding entriesFrom
     entry-at k w h e =
         let inside : k < length (take held ranked) = rw (length-take-le held ranked (omega arith)) h in
@@ -198,20 +199,21 @@ module _ (best next places ranked : List ℕ) (held : ℕ) where
         ∙ sym (ap entryRow (getD-each (entryFrom best next places) (take held ranked) k 0 (entryFrom best next places 0) inside ∙ ap (entryFrom best next places) (getD-take held ranked k 0 h)))
 
     module _ (d : List ℕ) (p : ℕ) where
-      pub slots-more : (room : List ℕ) (k : ℕ) (w room′ : List ℕ) → p + held * 4 ≤ length d → Entering d p mine room k → k < held
-          → w ≡ entryRow (entryFrom best next places (at ranked k)) → room′ ≡ over room (p + k * 4) w → Entering d p mine room′ (k + 1)
+      pub slots-more : (room : List ℕ) (k : ℕ) (w room′ : List ℕ) → p + held * 4 ≤ length d → Entering d p listed room k → k < held
+          → w ≡ entryRow (entryFrom best next places (at ranked k)) → room′ ≡ over room (p + k * 4) w → Entering d p listed room′ (k + 1)
       slots-more room k w room′ fits s h e v =
-          entering-more d p mine room k (entryFrom best next places 0) w room′ (omega (arith, entries-count)) s (omega (arith, entries-count)) (entry-at k w h e) v
+          entering-more d p listed room k (entryFrom best next places 0) w room′ (omega (arith, entries-count)) s (omega (arith, entries-count)) (entry-at k w h e) v
 
-      pub slots-end : (room : List ℕ) (k : ℕ) → Entering d p mine room k → held ≤ k → room ≡ over d p (entryRows mine)
-      slots-end room k s h = entering-end d p mine room k s (omega (arith, entries-count))
+      pub slots-end : (room : List ℕ) (k : ℕ) → Entering d p listed room k → held ≤ k → room ≡ over d p (entryRows listed)
+      slots-end room k s h = entering-end d p listed room k s (omega (arith, entries-count))
 
-    module _ (room : List ℕ) (p k : ℕ) (s : Comparing room p mine k) where
-      pub slots-not : (w : List ℕ) → k < held → w ≡ entryRow (entryFrom best next places (at ranked k)) → begins w (drop (p + k * 4) room) ≡ false → false ≡ begins (entryRows mine) (drop p room)
-      slots-not w h e q = comparing-not room p mine k (entryFrom best next places 0) w s (omega (arith, entries-count)) (entry-at k w h e) q
+    module _ (room : List ℕ) (p k : ℕ) (s : Comparing room p listed k) where
+      pub slots-not : (w : List ℕ) → k < held → w ≡ entryRow (entryFrom best next places (at ranked k)) → begins w (drop (p + k * 4) room) ≡ false
+          → false ≡ begins (entryRows listed) (drop p room)
+      slots-not w h e q = comparing-not room p listed k (entryFrom best next places 0) w s (omega (arith, entries-count)) (entry-at k w h e) q
 
-      pub slots-same : (w : List ℕ) → k < held → w ≡ entryRow (entryFrom best next places (at ranked k)) → begins w (drop (p + k * 4) room) ≡ true → Comparing room p mine (k + 1)
-      slots-same w h e q = comparing-more room p mine k (entryFrom best next places 0) w s (omega (arith, entries-count)) (entry-at k w h e) q
+      pub slots-same : (w : List ℕ) → k < held → w ≡ entryRow (entryFrom best next places (at ranked k)) → begins w (drop (p + k * 4) room) ≡ true → Comparing room p listed (k + 1)
+      slots-same w h e q = comparing-more room p listed k (entryFrom best next places 0) w s (omega (arith, entries-count)) (entry-at k w h e) q
 
-      pub slots-all : held ≤ k → true ≡ begins (entryRows mine) (drop p room)
-      slots-all h = comparing-end room p mine k s (omega (arith, entries-count))
+      pub slots-all : held ≤ k → true ≡ begins (entryRows listed) (drop p room)
+      slots-all h = comparing-end room p listed k s (omega (arith, entries-count))

@@ -1,8 +1,8 @@
 -- One turn at a node, over plain lists: what each call asks of the columns and the cursor, and what the calls together leave.
 -- Assumes nothing.
-use mathlib.Core.Path.{_≡_, refl, sym, ap, _∙_}
+use mathlib.Core.Path.{_≡_, sym, ap, _∙_}
 use mathlib.Core.Bool.{Bool, true, false, _&&_}
-use mathlib.Core.List.{List, [], _∷_}
+use mathlib.Core.List.{List}
 use Prim.Native.Nat.{ℕ, _+_, _*_, _≤_, _<_}
 use native.Mathlib.Omega.{arith}
 use lib.ListN.{length, drop}
@@ -12,16 +12,15 @@ use Rattle.rules.specs.Indexes.{Entry}
 use Rattle.base.proofs.Tests.{and-false}
 use Rattle.node.specs.declared.cursor.Cursor.{Cursor}
 use Rattle.node.specs.declared.Gathered.{Gathered}
-use Rattle.node.specs.Columns.{Columns, LawfulColumns, Grows, Placed, Spelt, Slots, at, endOf, span, heldIn, entriesIn, entriesFrom}
+use Rattle.node.specs.Columns.{Columns, LawfulColumns, Grows, Placed, Spelt, Slots, at, endOf, heldIn, entriesIn, entriesFrom}
 use Rattle.node.specs.Visits.{placesAt, On, Ways, Advanced}
 use Rattle.node.specs.Rows.{entriesAt, rowWith, rowAt, rowOf, standsAt, Gathers}
 use Rattle.node.proofs.Placing.{next-small}
-use Rattle.words.specs.declared.turn.Compared.{Compared}
 use Rattle.words.specs.declared.turn.Compared.the-variants.{Same, Different}
 use Rattle.words.specs.Over.{over}
-use Rattle.words.specs.Words.{entryRows, visitOf, Scratch, Standing, Moved, Room, Wrote, hasRow, hasEntries, Compares}
+use Rattle.words.specs.Words.{entryRows, visitOf, Standing, Moved, Wrote, hasRow, hasEntries, Compares}
 
-module _ (t : Columns) (w : LawfulColumns t) (c : Cursor) (next path places₀ best₀ ranked₀ : List ℕ) (s : Standing t c next path places₀ best₀ ranked₀) where
+module _ {t : Columns} (w : LawfulColumns t) {c : Cursor} {next path places₀ best₀ ranked₀ : List ℕ} (s : Standing t c next path places₀ best₀ ranked₀) where
   pub gather-asks : Placed (t .region) × (length (t .score) ≡ length (t .region)) × (length (t .shared) ≡ length (t .region)) × (c .stand ≤ length (t .shared))
       × ((r : ℕ) → r < 64 → at next r ≤ 1024) × Slots places₀ × Slots best₀ × Slots ranked₀
   gather-asks = (
@@ -35,7 +34,7 @@ module _ (t : Columns) (w : LawfulColumns t) (c : Cursor) (next path places₀ b
     s .scratch .ranked-size,
   )
 
-  module _ (places best ranked : List ℕ) (g : Gathered) (k : Gathers (t .shared) (t .region) (t .score) next (c .stand) (c .length) places best ranked g) where
+  module _ {places best ranked : List ℕ} {g : Gathered} (k : Gathers (t .shared) (t .region) (t .score) next (c .stand) (c .length) places best ranked g) where
     pub row-asks : Grows (t .lengths) (t .shared) × Spelt (t .text) (t .starts) (t .lengths) × On (t .lengths) (t .shared) c × (c .number < 100000)
         × Ways (t .lengths) (t .shared) path (c .stand) (c .length) × (g .past ≡ endOf (t .shared) (c .stand) (c .length)) × (g .past ≤ length (t .lengths))
     row-asks = (w .grows, w .spelt, s .on, omega (arith, s .low), s .ways, k .past, omega (arith, k .within, w .grows .same))
@@ -45,12 +44,12 @@ module _ (t : Columns) (w : LawfulColumns t) (c : Cursor) (next path places₀ b
     Rowed row = (test : ℕ → Bool) → g .bits ≡ wordOf test 0 64
         → row ≡ rowWith (t .text) (t .starts) (t .lengths) (t .shared) (c .number) (c .entries) (c .stand) (c .length) (g .past) (wordOf test 0 32) (wordOf test 32 32)
 
-    pub row-size : (row : List ℕ) → Rowed row → length row ≡ 8
-    row-size row f = ap length (f (heldIn (t .region) (standsAt (t .shared) (visitOf c))) (k .word))
+    pub row-size : {row : List ℕ} → Rowed row → length row ≡ 8
+    row-size f = ap length (f (heldIn (t .region) (standsAt (t .shared) (visitOf c))) (k .word))
 
-    pub row-now : (row : List ℕ) → Rowed row → row ≡ rowOf t (c .number) (c .entries) (visitOf c)
+    row-now : {row : List ℕ} → Rowed row → row ≡ rowOf t (c .number) (c .entries) (visitOf c)
     unfolding rowAt
-    row-now row f =
+    row-now f =
         let test = heldIn (t .region) (standsAt (t .shared) (visitOf c)) in
         f test (k .word)
         ∙ ap (λ (e : ℕ). rowWith (t .text) (t .starts) (t .lengths) (t .shared) (c .number) (c .entries) (c .stand) (c .length) e (wordOf test 0 32) (wordOf test 32 32)) (k .past)
@@ -77,8 +76,8 @@ module _ (t : Columns) (w : LawfulColumns t) (c : Cursor) (next path places₀ b
       s .scratch .path-size,
     )
 
-    pub moved : (next′ path′ : List ℕ) (r : Cursor) → Advanced (t .lengths) (t .shared) (t .region) c (g .held) next′ path′ r → Moved t c r next′ path′ places best ranked
-    moved next′ path′ r a =
+    pub moved : {next′ path′ : List ℕ} {r : Cursor} → Advanced (t .lengths) (t .shared) (t .region) c (g .held) next′ path′ r → Moved t c r next′ path′ places best ranked
+    moved a =
         record {
           stepped = rw count-now at (a .stepped);
           next-is = a .places;
@@ -88,38 +87,40 @@ module _ (t : Columns) (w : LawfulColumns t) (c : Cursor) (next path places₀ b
 
     -- ---- the words put
 
-    pub wrote : (nodes entries nodes′ entries′ row : List ℕ) → row ≡ rowOf t (c .number) (c .entries) (visitOf c) → nodes′ ≡ over nodes (c .number * 8) row
+    pub wrote : {nodes entries nodes′ entries′ row : List ℕ} → Rowed row → nodes′ ≡ over nodes (c .number * 8) row
         → entries′ ≡ over entries (c .entries * 4) (entryRows (entriesFrom best next places ranked (g .held))) → Wrote t c nodes entries nodes′ entries′
-    wrote nodes entries nodes′ entries′ row e p q =
+    wrote {nodes} {entries} f p q =
         record {
-          row-now = p ∙ ap (over nodes (c .number * 8)) e;
+          row-now = p ∙ ap (over nodes (c .number * 8)) (row-now f);
           entries-now = q ∙ ap (λ (l : List Entry). over entries (c .entries * 4) (entryRows l)) own-now;
         }
 
     -- ---- the words compared
 
-    module _ (nodes entries row : List ℕ) (e : row ≡ rowOf t (c .number) (c .entries) (visitOf c)) where
-      row-has : (b : Bool) → begins row (drop (c .number * 8) nodes) ≡ b → hasRow t c nodes ≡ b
-      row-has b q = sym (ap (λ (l : List ℕ). begins l (drop (c .number * 8) nodes)) e) ∙ q
+    row-has : (nodes : List ℕ) {row : List ℕ} {b : Bool} → Rowed row → begins row (drop (c .number * 8) nodes) ≡ b → hasRow t c nodes ≡ b
+    row-has nodes f q = sym (ap (λ (l : List ℕ). begins l (drop (c .number * 8) nodes)) (row-now f)) ∙ q
 
-      entries-have : (b : Bool) → begins (entryRows (entriesFrom best next places ranked (g .held))) (drop (c .entries * 4) entries) ≡ b → hasEntries t c entries ≡ b
-      entries-have b q = sym (ap (λ (l : List Entry). begins (entryRows l) (drop (c .entries * 4) entries)) own-now) ∙ q
+    entries-have : (entries : List ℕ) {b : Bool} → begins (entryRows (entriesFrom best next places ranked (g .held))) (drop (c .entries * 4) entries) ≡ b
+        → hasEntries t c entries ≡ b
+    entries-have entries q = sym (ap (λ (l : List Entry). begins (entryRows l) (drop (c .entries * 4) entries)) own-now) ∙ q
 
-      unequal : (next′ path′ : List ℕ) → hasRow t c nodes && hasEntries t c entries ≡ false → Compares t c next′ path′ places best ranked nodes entries Different
-      unequal next′ path′ q = record { same = λ r v. (let z : _≡_ {A = ℕ} 0 1 = cc in absurd (omega arith)); different = λ v. q }
+    module _ {nodes entries next′ path′ : List ℕ} where
+      unequal : hasRow t c nodes && hasEntries t c entries ≡ false → Compares t c next′ path′ places best ranked nodes entries Different
+      unequal q = record { same = λ r v. (let z : _≡_ {A = ℕ} 0 1 = cc in absurd (omega arith)); different = λ v. q }
 
-      pub row-differs : (next′ path′ : List ℕ) → begins row (drop (c .number * 8) nodes) ≡ false → Compares t c next′ path′ places best ranked nodes entries Different
-      row-differs next′ path′ q = unequal next′ path′ (rw (row-has false q))
-
-      pub entries-differ : (next′ path′ : List ℕ) → begins (entryRows (entriesFrom best next places ranked (g .held))) (drop (c .entries * 4) entries) ≡ false
+      pub row-differs : {row : List ℕ} → Rowed row → begins row (drop (c .number * 8) nodes) ≡ false
           → Compares t c next′ path′ places best ranked nodes entries Different
-      entries-differ next′ path′ q = unequal next′ path′ (rw (entries-have false q) (and-false (hasRow t c nodes)))
+      row-differs f q = unequal (rw (row-has nodes f q))
 
-      pub agrees : (next′ path′ : List ℕ) (r : Cursor) → begins row (drop (c .number * 8) nodes) ≡ true
+      pub entries-differ : begins (entryRows (entriesFrom best next places ranked (g .held))) (drop (c .entries * 4) entries) ≡ false
+          → Compares t c next′ path′ places best ranked nodes entries Different
+      entries-differ q = unequal (rw (entries-have entries q) (and-false (hasRow t c nodes)))
+
+      pub agrees : {row : List ℕ} {r : Cursor} → Rowed row → begins row (drop (c .number * 8) nodes) ≡ true
           → begins (entryRows (entriesFrom best next places ranked (g .held))) (drop (c .entries * 4) entries) ≡ true
           → Advanced (t .lengths) (t .shared) (t .region) c (g .held) next′ path′ r → Compares t c next′ path′ places best ranked nodes entries (Same r)
-      agrees next′ path′ r p q a =
+      agrees {row} {r} f p q a =
           record {
-            same = λ x v. (let z : r ≡ x = cc in (row-has true p, entries-have true q, rw z at (moved next′ path′ r a)));
+            same = λ x v. (let z : r ≡ x = cc in (row-has nodes f p, entries-have entries q, rw z at (moved a)));
             different = λ v. (let z : _≡_ {A = ℕ} 0 1 = cc in absurd (omega arith));
           }

@@ -1,32 +1,28 @@
 -- The loops over the nodes: the cursor on its way, and what counting, writing and checking have done so far.
 -- Assumes nothing.
 use mathlib.Core.Path.{_≡_, refl, sym, ap, _∙_}
-use mathlib.Core.Logic.{_⊎_, inl, inr, ⊎-elim}
-use mathlib.Core.Bool.{Bool, true, false, _&&_}
-use mathlib.Core.List.{List, [], _∷_, _++_, append-assoc, append-nil}
-use Prim.Native.Nat.{ℕ, zero, suc, _+_, _-_, _*_, _≤_, _<_}
+use mathlib.Core.Logic.{⊎-elim}
+use mathlib.Core.List.{List, [], _∷_, _++_}
+use Prim.Native.Nat.{ℕ, suc, _+_, _-_, _*_, _≤_, _<_}
 use native.Mathlib.Omega.{arith}
-use lib.ListN.{length, drop, length-append, List·getD-eq-default}
+use lib.ListN.{length, length-append, drop-of-length-le, List·getD-eq-default}
 use lib.Count.{ones}
-use lib.Seq.{drop-drop}
-use Rattle.base.specs.Lists.{fromOn, upTo, each, eachList, total, begins}
+use Rattle.base.specs.Lists.{fromOn, upTo, each, eachList, total}
 use Rattle.rules.specs.Places.{regions}
-use Rattle.base.proofs.Tests.{which, le-or-lt, and-false}
+use Rattle.base.proofs.Tests.{le-or-lt}
 use Rattle.base.proofs.Members.{length-each, length-keep, each-same}
 use Rattle.base.proofs.Runs.{length-from}
-use Rattle.base.proofs.Begins.{begins-parts}
 use Rattle.base.proofs.Words.{ones-word}
 use Rattle.node.specs.declared.cursor.Cursor.{Cursor}
-use Rattle.node.specs.Columns.{Columns, LawfulColumns, Grows, at, endOf, span, growth, grownOf, heldIn, regionsIn, bitsIn, entriesIn}
+use Rattle.node.specs.Columns.{Columns, LawfulColumns, Grows, at, endOf, span, growth, grownOf, heldIn, regionsIn, bitsIn}
 use Rattle.node.specs.Visits.{Visit, visitsAt, newVisits, visitsFrom, placesAt, On, Ways, Stepped}
 use Rattle.node.specs.Rows.{standsAt, entriesAt, rowAt, rowOf}
 use Rattle.node.proofs.Ends.{grown-small}
 use Rattle.node.proofs.Placing.{regions-are}
 use Rattle.node.proofs.Gathering.{entries-held}
 use Rattle.node.proofs.Steps.{visits-first, visits-done}
-use Rattle.words.specs.Over.{over}
-use Rattle.words.specs.Words.{entryRows, rowsFrom, entryWordsFrom, countFrom, visitsOf, nodeCountOf, entryCountOf, nodeWordsOf, entryWordsOf, visitOf, Scratch, Standing, Moved, Room, Wrote, hasRow, hasEntries}
-use Rattle.words.proofs.Overs.{over-none, over-over, length-over, length-rows}
+use Rattle.words.specs.Words.{entryRows, rowsFrom, entryWordsFrom, countFrom, nodeCountOf, visitOf, Scratch, Standing, Moved}
+use Rattle.words.proofs.Overs.{length-rows}
 
 abbrev pub restOf : List ℕ → List ℕ → Cursor → List Visit
 restOf lengths shared c = visitsFrom lengths shared (c .stand) (c .length)
@@ -59,13 +55,15 @@ module _ (lengths shared : List ℕ) (g : Grows lengths shared) where
           length-eachList (newVisits lengths shared) (fromOn 1 (length lengths - 1))
           ∙ ap total (each-same (λ k. length (newVisits lengths shared k)) (growth lengths shared) (fromOn 1 (length lengths - 1)) (λ x k. new-count x))
 
-      some : 0 < length lengths → length (visitsAt lengths 0 0) + length (eachList (newVisits lengths shared) (fromOn 1 (length lengths - 1))) ≡ total (each (growth lengths shared) (span 0 (length lengths))) + 1
+      some : 0 < length lengths
+          → length (visitsAt lengths 0 0) + length (eachList (newVisits lengths shared) (fromOn 1 (length lengths - 1))) ≡ total (each (growth lengths shared) (span 0 (length lengths))) + 1
       some h =
           let n : length lengths - 0 ≡ suc (length lengths - 1) = omega arith in
           let s : total (each (growth lengths shared) (span 0 (length lengths))) ≡ growth lengths shared 0 + total (each (growth lengths shared) (fromOn 1 (length lengths - 1))) = rw n in
           omega (arith, first, rest, s, g .first)
 
-      none : length lengths ≤ 0 → length (visitsAt lengths 0 0) + length (eachList (newVisits lengths shared) (fromOn 1 (length lengths - 1))) ≡ total (each (growth lengths shared) (span 0 (length lengths))) + 1
+      none : length lengths ≤ 0
+          → length (visitsAt lengths 0 0) + length (eachList (newVisits lengths shared) (fromOn 1 (length lengths - 1))) ≡ total (each (growth lengths shared) (span 0 (length lengths))) + 1
       none h =
           let n : length lengths - 0 ≡ 0 = omega arith in
           let m : length lengths - 1 ≡ 0 = omega arith in
@@ -87,14 +85,9 @@ pub ones-held : (region s : List ℕ) → ones (bitsIn region s) ≡ length (reg
 unfolding regions
 ones-held region s = ones-word (heldIn region s) 0 64
 
-module _ (t : Columns) where
-  pub entries-held-at : (v : Visit) → length (entriesAt t v) ≡ length (regionsIn (t .region) (standsAt (t .shared) v))
-  unfolding entriesAt
-  entries-held-at v = entries-held (t .region) (t .score) (placesAt (t .region) (v .stand)) (standsAt (t .shared) v)
-
-  -- counted by regions, or by entries
-  pub count-entries : (vs : List Visit) → total (each (λ v. length (entriesAt t v)) vs) ≡ countFrom (t .shared) (t .region) vs
-  count-entries vs = ap total (each-same (λ v. length (entriesAt t v)) (λ v. length (regionsIn (t .region) (standsAt (t .shared) v))) vs (λ v k. entries-held-at v))
+entries-held-at : (t : Columns) (v : Visit) → length (entriesAt t v) ≡ length (regionsIn (t .region) (standsAt (t .shared) v))
+unfolding entriesAt
+entries-held-at t v = entries-held (t .region) (t .score) (placesAt (t .region) (v .stand)) (standsAt (t .shared) v)
 
 -- ---- the cursor on its way
 
@@ -104,10 +97,10 @@ pub record Going (lengths shared : List ℕ) (all : ℕ) (c : Cursor) : Type 0 w
   pub low : c .entries ≤ 64 * c .number
   pub on : c .number < all → On lengths shared c
 
-module _ (lengths shared : List ℕ) (all : ℕ) where
-  pub going : (c : Cursor) → c ≡ rootCursor → Grows lengths shared → all ≡ length (visitsFrom lengths shared 0 0) → Going lengths shared all c
+module _ {lengths shared : List ℕ} {all : ℕ} where
+  going : {c : Cursor} → c ≡ rootCursor → Grows lengths shared → all ≡ length (visitsFrom lengths shared 0 0) → Going lengths shared all c
   unfolding grownOf
-  going c r g e =
+  going r g e =
       rw r
       record {
         left = omega arith;
@@ -116,12 +109,12 @@ module _ (lengths shared : List ℕ) (all : ℕ) where
         on = λ h. record { within = omega arith; long = omega arith; new = λ u. absurd (omega arith); count = omega (arith, g .first) };
       }
 
-  module _ (c : Cursor) (s : Going lengths shared all c) (lt : c .number < all) where
+  module _ {c : Cursor} (s : Going lengths shared all c) (lt : c .number < all) where
     pub going-first : restOf lengths shared c ≡ visitOf c ∷ visitsFrom lengths shared (c .stand) (suc (c .length))
     going-first = visits-first lengths shared (c .stand) (c .length) (s .on lt .long)
 
-    module _ (held : ℕ) (r : Cursor) (p : Stepped lengths shared c held r) where
-      pub going-rest : restOf lengths shared c ≡ visitOf c ∷ restOf lengths shared r
+    module _ {held : ℕ} {r : Cursor} (p : Stepped lengths shared c held r) where
+      going-rest : restOf lengths shared c ≡ visitOf c ∷ restOf lengths shared r
       going-rest = going-first ∙ ap (λ (l : List Visit). visitOf c ∷ l) (sym (p .visits))
 
       left-more : r .number + length (restOf lengths shared r) ≡ all
@@ -135,15 +128,11 @@ module _ (lengths shared : List ℕ) (all : ℕ) where
           (λ (q : r .stand < length lengths). q)
           (le-or-lt (length lengths) (r .stand))
 
-      pub going-more : held ≤ 64 → Going lengths shared all r
+      going-more : held ≤ 64 → Going lengths shared all r
       going-more h = record { left = left-more; few = s .few; low = omega (arith, p .number, p .entries, s .low); on = λ l. p .on (inside l) }
 
-  pub going-end : (c : Cursor) → Going lengths shared all c → all ≤ c .number → restOf lengths shared c ≡ []
-  going-end c s h = none (restOf lengths shared c) (omega (arith, s .left))
-    where
-      none : (l : List Visit) → length l ≡ 0 → l ≡ []
-      none [] e = refl
-      none (x ∷ l) e = absurd (omega arith)
+  pub going-end : {c : Cursor} → Going lengths shared all c → all ≤ c .number → restOf lengths shared c ≡ []
+  going-end {c} s h = drop-of-length-le (restOf lengths shared c) {i = 0} (omega (arith, s .left))
 
 -- ---- counting
 
@@ -151,27 +140,27 @@ pub record Counting (lengths shared region : List ℕ) (all : ℕ) (c : Cursor) 
   pub way : Going lengths shared all c
   pub so-far : c .entries + countFrom shared region (restOf lengths shared c) ≡ countFrom shared region (visitsFrom lengths shared 0 0)
 
-module _ (lengths shared region : List ℕ) (all : ℕ) where
-  pub counting : (c : Cursor) → c ≡ rootCursor → Grows lengths shared → all ≡ length (visitsFrom lengths shared 0 0) → Counting lengths shared region all c
-  counting c r g e = record { way = going lengths shared all c r g e; so-far = rw r (omega arith) }
+module _ {lengths shared region : List ℕ} {all : ℕ} where
+  pub counting : {c : Cursor} → c ≡ rootCursor → Grows lengths shared → all ≡ length (visitsFrom lengths shared 0 0) → Counting lengths shared region all c
+  counting r g e = record { way = going r g e; so-far = rw r (omega arith) }
 
-  module _ (c : Cursor) (s : Counting lengths shared region all c) where
-    module _ (lt : c .number < all) (past held : ℕ) (e : past ≡ endOf shared (c .stand) (c .length)) (k : held ≡ ones (bitsIn region (span (c .stand) past))) where
+  module _ {c : Cursor} (s : Counting lengths shared region all c) where
+    module _ (lt : c .number < all) {past held : ℕ} (e : past ≡ endOf shared (c .stand) (c .length)) (k : held ≡ ones (bitsIn region (span (c .stand) past))) where
       held-is : held ≡ length (regionsIn region (standsAt shared (visitOf c)))
       held-is = k ∙ ap (λ (x : ℕ). ones (bitsIn region (span (c .stand) x))) e ∙ ones-held region (standsAt shared (visitOf c))
 
       pub counting-fits : c .entries + held < 4294967296
       counting-fits = omega (arith, held-is, held-few region (standsAt shared (visitOf c)), s .way .low, s .way .few)
 
-      pub counting-more : (r : Cursor) → Stepped lengths shared c held r → Counting lengths shared region all r
-      counting-more r p =
+      pub counting-more : {r : Cursor} → Stepped lengths shared c held r → Counting lengths shared region all r
+      counting-more p =
           record {
-            way = going-more lengths shared all c (s .way) lt held r p (omega (arith, held-is, held-few region (standsAt shared (visitOf c))));
-            so-far = omega (arith, s .so-far, held-is, p .entries, ap (countFrom shared region) (going-rest lengths shared all c (s .way) lt held r p));
+            way = going-more (s .way) lt p (omega (arith, held-is, held-few region (standsAt shared (visitOf c))));
+            so-far = omega (arith, s .so-far, held-is, p .entries, ap (countFrom shared region) (going-rest (s .way) lt p));
           }
 
     pub counting-end : all ≤ c .number → c .entries ≡ countFrom shared region (visitsFrom lengths shared 0 0)
-    counting-end h = omega (arith, s .so-far, ap (countFrom shared region) (going-end lengths shared all c (s .way) h))
+    counting-end h = omega (arith, s .so-far, ap (countFrom shared region) (going-end (s .way) h))
 
 -- ---- with what is lent beside the cursor
 
@@ -181,38 +170,37 @@ pub record Carrying (t : Columns) (all : ℕ) (c : Cursor) (next path places bes
   pub ways : c .number < all → Ways (t .lengths) (t .shared) path (c .stand) (c .length)
   pub scratch : Scratch path places best ranked
 
-module _ (t : Columns) (w : LawfulColumns t) (all : ℕ) where
-  pub carrying : (c : Cursor) → c ≡ rootCursor → all ≡ nodeCountOf t → (next path places best ranked : List ℕ) → next ≡ placesAt (t .region) 0 → Scratch path places best ranked → Carrying t all c next path places best ranked
-  carrying c r e next path places best ranked n s =
-      record { way = going (t .lengths) (t .shared) all c r (w .grows) e; next-is = rw r n; ways = rw r (λ h k u. absurd (omega arith)); scratch = s }
+module _ {t : Columns} {all : ℕ} {c : Cursor} {next path places best ranked : List ℕ} where
+  pub carrying : LawfulColumns t → c ≡ rootCursor → all ≡ nodeCountOf t → next ≡ placesAt (t .region) 0 → Scratch path places best ranked
+      → Carrying t all c next path places best ranked
+  carrying w r e n s =
+      record { way = going r (w .grows) e; next-is = rw r n; ways = rw r (λ h k u. absurd (omega arith)); scratch = s }
 
-  module _ (c : Cursor) (next path places best ranked : List ℕ) (s : Carrying t all c next path places best ranked) (lt : c .number < all) where
+  module _ (s : Carrying t all c next path places best ranked) (lt : c .number < all) where
     pub standing : Standing t c next path places best ranked
     standing = record { on = s .way .on lt; low = omega (arith, s .way .few); few = s .way .low; next-is = s .next-is; ways = s .ways lt; scratch = s .scratch }
 
     entries-few : length (entriesAt t (visitOf c)) ≤ 64
     entries-few = omega (arith, entries-held-at t (visitOf c), held-few (t .region) (standsAt (t .shared) (visitOf c)))
 
-    module _ (r : Cursor) (next′ path′ places′ best′ ranked′ : List ℕ) (m : Moved t c r next′ path′ places′ best′ ranked′) where
+    module _ {r : Cursor} {next′ path′ places′ best′ ranked′ : List ℕ} (m : Moved t c r next′ path′ places′ best′ ranked′) where
       pub carrying-more : Carrying t all r next′ path′ places′ best′ ranked′
       carrying-more =
-          let held = length (entriesAt t (visitOf c)) in
           record {
-            way = going-more (t .lengths) (t .shared) all c (s .way) lt held r (m .stepped) entries-few;
+            way = going-more (s .way) lt (m .stepped) entries-few;
             next-is = m .next-is;
-            ways = λ h. m .ways (inside (t .lengths) (t .shared) all c (s .way) lt held r (m .stepped) h);
+            ways = λ h. m .ways (inside (s .way) lt (m .stepped) h);
             scratch = m .scratch;
           }
 
       -- the node's words, and those of the nodes after it
       pub rows-next : rowsFrom t (c .number) (c .entries) (restOf (t .lengths) (t .shared) c) ≡ rowOf t (c .number) (c .entries) (visitOf c) ++ rowsFrom t (r .number) (r .entries) (restOf (t .lengths) (t .shared) r)
       rows-next =
-          let held = length (entriesAt t (visitOf c)) in
-          ap (rowsFrom t (c .number) (c .entries)) (going-rest (t .lengths) (t .shared) all c (s .way) lt held r (m .stepped))
+          ap (rowsFrom t (c .number) (c .entries)) (going-rest (s .way) lt (m .stepped))
           ∙ rw (← m .stepped .number, ← m .stepped .entries)
 
       pub entries-next : entryWordsFrom t (restOf (t .lengths) (t .shared) c) ≡ entryRows (entriesAt t (visitOf c)) ++ entryWordsFrom t (restOf (t .lengths) (t .shared) r)
-      entries-next = ap (entryWordsFrom t) (going-rest (t .lengths) (t .shared) all c (s .way) lt (length (entriesAt t (visitOf c))) r (m .stepped))
+      entries-next = ap (entryWordsFrom t) (going-rest (s .way) lt (m .stepped))
 
 pub length-row : (t : Columns) (j n : ℕ) (v : Visit) → length (rowOf t j n v) ≡ 8
 unfolding rowAt

@@ -6,7 +6,7 @@ use Prim.Native.Nat.{ℕ, suc, _+_, _*_, _≤_, _<_}
 use native.Mathlib.Omega.{arith}
 use lib.ListN.{length, length-append}
 use Rattle.node.specs.declared.cursor.Cursor.{Cursor}
-use Rattle.node.specs.Columns.{Columns, LawfulColumns}
+use Rattle.node.specs.Columns.{Columns}
 use Rattle.node.specs.Visits.{Visit, visitsFrom}
 use Rattle.node.specs.Rows.{entriesAt, rowOf}
 use Rattle.words.specs.Over.{over}
@@ -21,19 +21,20 @@ pub record Filled (all-words d room rest : List ℕ) (size : ℕ) : Type 0 where
   pub split : all-words ≡ done ++ rest
   pub now : room ≡ over d 0 done
 
-module _ (all-words d : List ℕ) where
-  pub filled : Filled all-words d d all-words 0
+module _ {all-words d : List ℕ} where
+  filled : Filled all-words d d all-words 0
   filled = record { done = []; done-size = refl; split = refl; now = sym (over-none d 0) }
 
-  module _ (room rest : List ℕ) (size : ℕ) (f : Filled all-words d room rest size) where
-    pub filled-length : length all-words ≤ length d → length room ≡ length d
+  module _ {room rest : List ℕ} {size : ℕ} (f : Filled all-words d room rest size) where
+    filled-length : length all-words ≤ length d → length room ≡ length d
     filled-length fits = ap length (f .now) ∙ length-over d 0 (f .done) (omega (arith, ap length (f .split) ∙ length-append (f .done) rest))
 
-    pub filled-room : length all-words ≤ length d → size + length rest ≤ length room
+    filled-room : length all-words ≤ length d → size + length rest ≤ length room
     filled-room fits = omega (arith, filled-length fits, f .done-size, ap length (f .split) ∙ length-append (f .done) rest)
 
-    pub filled-more : (w rest′ room′ : List ℕ) (p size′ : ℕ) → rest ≡ w ++ rest′ → p ≡ size → room′ ≡ over room p w → size′ ≡ size + length w → Filled all-words d room′ rest′ size′
-    filled-more w rest′ room′ p size′ e q r l =
+    filled-more : (w : List ℕ) {rest′ room′ : List ℕ} {p size′ : ℕ} → rest ≡ w ++ rest′ → p ≡ size → room′ ≡ over room p w → size′ ≡ size + length w
+        → Filled all-words d room′ rest′ size′
+    filled-more w {rest′} {room′} {p} e q r l =
         let place : p ≡ 0 + length (f .done) = omega (arith, f .done-size) in
         record {
           done = f .done ++ w;
@@ -42,7 +43,7 @@ module _ (all-words d : List ℕ) where
           now = r ∙ ap (λ (x : List ℕ). over x p w) (f .now) ∙ ap (λ (k : ℕ). over (over d 0 (f .done)) k w) place ∙ over-over d 0 (f .done) w (omega arith);
         }
 
-    pub filled-end : rest ≡ [] → room ≡ over d 0 all-words
+    filled-end : rest ≡ [] → room ≡ over d 0 all-words
     filled-end e = f .now ∙ ap (over d 0) (sym (f .split ∙ ap (λ (x : List ℕ). f .done ++ x) e ∙ append-nil (f .done)))
 
 pub record Writing (t : Columns) (all : ℕ) (n₀ e₀ : List ℕ) (next path places best ranked nodes entries : List ℕ) (c : Cursor) : Type 0 where
@@ -60,62 +61,61 @@ rows-length t j n (v ∷ vs) =
       rows-length t (suc j) (n + length (entriesAt t v)) vs,
     )
 
-module _ (t : Columns) (w : LawfulColumns t) (all : ℕ) (n₀ e₀ : List ℕ) (n-fits : nodeCountOf t * 8 ≤ length n₀) (e-fits : entryCountOf t * 4 ≤ length e₀) where
-  nodes-fit : length (nodeWordsOf t) ≤ length n₀
-  nodes-fit = omega (arith, rows-length t 0 0 (visitsOf t))
+nodes-fit : (t : Columns) (n : ℕ) → nodeCountOf t * 8 ≤ n → length (nodeWordsOf t) ≤ n
+nodes-fit t n h = omega (arith, rows-length t 0 0 (visitsOf t))
 
-  entries-fit : length (entryWordsOf t) ≤ length e₀
-  entries-fit = omega (arith, entries-length t (visitsOf t))
+entries-fit : (t : Columns) (n : ℕ) → entryCountOf t * 4 ≤ n → length (entryWordsOf t) ≤ n
+entries-fit t n h = omega (arith, entries-length t (visitsOf t))
 
-  pub writing : (next path places best ranked : List ℕ) (c : Cursor) → c ≡ rootCursor → Carrying t all c next path places best ranked → Writing t all n₀ e₀ next path places best ranked n₀ e₀ c
-  writing next path places best ranked c r s = record { carried = s; rows = rw r (filled (nodeWordsOf t) n₀); own = rw r (filled (entryWordsOf t) e₀) }
+module _ {t : Columns} {all : ℕ} {n₀ e₀ next path places best ranked : List ℕ} {c : Cursor} where
+  pub writing : c ≡ rootCursor → Carrying t all c next path places best ranked → Writing t all n₀ e₀ next path places best ranked n₀ e₀ c
+  writing r s = record { carried = s; rows = rw r filled; own = rw r filled }
 
-  module _ (next path places best ranked nodes entries : List ℕ) (c : Cursor) (s : Writing t all n₀ e₀ next path places best ranked nodes entries c) where
-    pub writing-nodes : length nodes ≡ length n₀
-    writing-nodes = filled-length (nodeWordsOf t) n₀ nodes _ _ (s .rows) nodes-fit
+  module _ {nodes entries : List ℕ} (s : Writing t all n₀ e₀ next path places best ranked nodes entries c) where
+    pub writing-nodes : nodeCountOf t * 8 ≤ length n₀ → length nodes ≡ length n₀
+    writing-nodes fits = filled-length (s .rows) (nodes-fit t (length n₀) fits)
 
-    pub writing-entries : length entries ≡ length e₀
-    writing-entries = filled-length (entryWordsOf t) e₀ entries _ _ (s .own) entries-fit
+    pub writing-entries : entryCountOf t * 4 ≤ length e₀ → length entries ≡ length e₀
+    writing-entries fits = filled-length (s .own) (entries-fit t (length e₀) fits)
 
     module _ (lt : c .number < all) where
-      pub writing-room : Room t c nodes entries
-      writing-room =
-          let first = going-first (t .lengths) (t .shared) all c (s .carried .way) lt in
+      pub writing-room : nodeCountOf t * 8 ≤ length n₀ → entryCountOf t * 4 ≤ length e₀ → Room t c nodes entries
+      writing-room n-fits e-fits =
+          let first = going-first (s .carried .way) lt in
           let after = visitsFrom (t .lengths) (t .shared) (c .stand) (suc (c .length)) in
           record {
             row-room =
                 omega (
                   arith,
-                  filled-room (nodeWordsOf t) n₀ nodes _ _ (s .rows) nodes-fit,
+                  filled-room (s .rows) (nodes-fit t (length n₀) n-fits),
                   rows-length t (c .number) (c .entries) (restOf (t .lengths) (t .shared) c),
                   ap length first,
                 );
             entry-room =
                 omega (
                   arith,
-                  filled-room (entryWordsOf t) e₀ entries _ _ (s .own) entries-fit,
+                  filled-room (s .own) (entries-fit t (length e₀) e-fits),
                   ap (λ (l : List Visit). length (entryWordsFrom t l)) first
                       ∙ length-append (entryRows (entriesAt t (visitOf c))) (entryWordsFrom t after),
                   length-rows (entriesAt t (visitOf c)),
                 );
           }
 
-      pub writing-more : (r : Cursor) (next′ path′ places′ best′ ranked′ nodes′ entries′ : List ℕ) → Moved t c r next′ path′ places′ best′ ranked′ × Wrote t c nodes entries nodes′ entries′
+      pub writing-more : {r : Cursor} {next′ path′ places′ best′ ranked′ nodes′ entries′ : List ℕ}
+          → Moved t c r next′ path′ places′ best′ ranked′ × Wrote t c nodes entries nodes′ entries′
           → Writing t all n₀ e₀ next′ path′ places′ best′ ranked′ nodes′ entries′ r
-      writing-more r next′ path′ places′ best′ ranked′ nodes′ entries′ m =
+      writing-more m =
           record {
-            carried = carrying-more t w all c next path places best ranked (s .carried) lt r next′ path′ places′ best′ ranked′ (m .0);
+            carried = carrying-more (s .carried) lt (m .0);
             rows =
-                filled-more (nodeWordsOf t) n₀ nodes _ _ (s .rows) (rowOf t (c .number) (c .entries) (visitOf c)) _ nodes′ (c .number * 8) (r .number * 8)
-                (rows-next t w all c next path places best ranked (s .carried) lt r next′ path′ places′ best′ ranked′ (m .0)) refl (m .1 .row-now)
+                filled-more (s .rows) (rowOf t (c .number) (c .entries) (visitOf c)) (rows-next (s .carried) lt (m .0)) refl (m .1 .row-now)
                 (omega (arith, m .0 .stepped .number, length-row t (c .number) (c .entries) (visitOf c)));
             own =
-                filled-more (entryWordsOf t) e₀ entries _ _ (s .own) (entryRows (entriesAt t (visitOf c))) _ entries′ (c .entries * 4) (r .entries * 4)
-                (entries-next t w all c next path places best ranked (s .carried) lt r next′ path′ places′ best′ ranked′ (m .0)) refl (m .1 .entries-now)
+                filled-more (s .own) (entryRows (entriesAt t (visitOf c))) (entries-next (s .carried) lt (m .0)) refl (m .1 .entries-now)
                 (omega (arith, m .0 .stepped .entries, length-rows (entriesAt t (visitOf c))));
           }
 
     pub writing-end : all ≤ c .number → (nodes ≡ over n₀ 0 (nodeWordsOf t)) × (entries ≡ over e₀ 0 (entryWordsOf t))
     writing-end h =
-        let none = going-end (t .lengths) (t .shared) all c (s .carried .way) h in
-        (filled-end (nodeWordsOf t) n₀ nodes _ _ (s .rows) (ap (rowsFrom t (c .number) (c .entries)) none), filled-end (entryWordsOf t) e₀ entries _ _ (s .own) (ap (entryWordsFrom t) none))
+        let none = going-end (s .carried .way) h in
+        (filled-end (s .rows) (ap (rowsFrom t (c .number) (c .entries)) none), filled-end (s .own) (ap (entryWordsFrom t) none))

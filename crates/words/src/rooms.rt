@@ -8,6 +8,7 @@ ghost use Rattle.node.specs.Columns.{Slots, entryFrom, entriesFrom};
 ghost use Rattle.words.specs.Over.{over};
 ghost use Rattle.words.specs.Words.{entryRows};
 
+// Words from a place of the room on; and whether it has them there.
 pub fn put_words(room: &mut [u32], at: usize, words: &[u32])
     requires { ⌜ at + length (now words) ≤ length (now room) ⌝ }
     ensures { λ _. ⌜ now (room .exit) ≡ over (now (room .entry)) at (now (words .entry)) ⌝ }
@@ -46,7 +47,7 @@ fn entry_row(r: u32, best: &[u32; 64], next: &[u32; 64], places: &[u32; 64]) -> 
     [r, best[i], next[i], places[i]]
 }
 
-// The entries of the first held ranked regions.
+// The entries of the first held ranked regions, from a place of the room on.
 pub fn put_entries(
     room: &mut [u32],
     at: usize,
@@ -67,6 +68,7 @@ pub fn put_entries(
     }
 }
 
+// Whether the room has them there.
 pub fn has_entries(
     room: &[u32],
     at: usize,

@@ -8,7 +8,6 @@ use node::cursor::Cursor;
 use node::cursor::advance;
 use node::gather;
 use node::row;
-ghost use mathlib.Core.Path.{_≡_};
 ghost use Rattle.node.specs.Columns.{columnsOf, LawfulColumns};
 ghost use Rattle.words.specs.Words.{Standing, Moved, Room, Wrote, Compares};
 

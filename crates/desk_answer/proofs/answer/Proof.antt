@@ -12,10 +12,18 @@ use Rattle.desk_answer.proofs.answer.Statement.{statement}
 use Rattle.desk_answer.proofs.answer.Tie as tie
 
 -- what was read
-read : (c : tie.After-known-told) → let a = c .before .before .before .before .before .before .before .before .before .before .args in let v = c .before .reading .given .0 in let l = c .before .before .before .read-input .last in ReadsInput (a .input .now) (tableOf (a .text .now) (a .starts .now) (a .east .now) (a .north .now) (a .score .now)) (Of (v .0) (v .1 .0) (v .1 .1 .0) (v .1 .1 .1 .0) (v .1 .1 .1 .1 .0) (v .1 .1 .1 .1 .1 .0)) (tableOf (l .1 .0) (l .1 .1 .0) (l .1 .1 .1 .0) (l .1 .1 .1 .1 .0) (l .1 .1 .1 .1 .1 .0))
+read : (c : tie.After-known-told) →
+    let a = c .before .before .before .before .before .before .before .before .before .before .args in
+    let v = c .before .reading .given .0 in
+    let l = c .before .before .before .read-input .last in
+    ReadsInput (a .input .now) (tableOf (a .text .now) (a .starts .now) (a .east .now) (a .north .now) (a .score .now)) (Of (v .0) (v .1 .0) (v .1 .1 .0) (v .1 .1 .1 .0) (v .1 .1 .1 .1 .0) (v .1 .1 .1 .1 .1 .0)) (tableOf (l .1 .0) (l .1 .1 .0) (l .1 .1 .1 .0) (l .1 .1 .1 .1 .0) (l .1 .1 .1 .1 .1 .0))
 read c = rw (c .before .reading .given .1) at (c .before .before .before .read-input .ensures)
 
-got : (c : tie.After-known-told) → let a = c .before .before .before .before .before .before .before .before .before .before .args in let v = c .before .reading .given .0 in let l = c .before .before .before .read-input .last in (r : Input) × Parts (a .input .now) (tableOf (l .1 .0) (l .1 .1 .0) (l .1 .1 .1 .0) (l .1 .1 .1 .1 .0) (l .1 .1 .1 .1 .1 .0)) (v .0) (v .1 .0) (v .1 .1 .1 .0) (v .1 .1 .1 .1 .0) (tableFrom (r .stands)) (r .text)
+got : (c : tie.After-known-told) →
+    let a = c .before .before .before .before .before .before .before .before .before .before .args in
+    let v = c .before .reading .given .0 in
+    let l = c .before .before .before .read-input .last in
+    (r : Input) × Parts (a .input .now) (tableOf (l .1 .0) (l .1 .1 .0) (l .1 .1 .1 .0) (l .1 .1 .1 .1 .0) (l .1 .1 .1 .1 .1 .0)) (v .0) (v .1 .0) (v .1 .1 .1 .0) (v .1 .1 .1 .1 .0) (tableFrom (r .stands)) (r .text)
 got c = parts-read _ _ _ _ _ _ _ _ _ (read c)
 
 read-input-requires : tie.Need-read-input-requires

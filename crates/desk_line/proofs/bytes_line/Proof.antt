@@ -1,4 +1,4 @@
--- `line::bytes_line` finds the value between the key and the first line feed past it.
+-- `bytes_line` finds the value between the key and the first line feed past it.
 -- Assumes nothing.
 use mathlib.Core.Path.{_≡_, sym, _∙_}
 use mathlib.Core.Bool.{true}
@@ -11,23 +11,21 @@ use Rattle.desk_line.proofs.Places.{key-missing, key-fits, feed-missing
 use Rattle.desk_line.proofs.bytes_line.Statement.{statement}
 use Rattle.desk_line.proofs.bytes_line.Tie as tie
 
--- src/line.rt:58:16
 sub-begins : tie.Need-sub-begins
 sub-begins c = search needs
 
--- src/line.rt:58:16
 part-begins-start : tie.Need-part-begins-start
 part-begins-start c = search needs
 
--- src/line.rt:58:16
 part-begins-end : tie.Need-part-begins-end
 part-begins-end c = search needs
 
--- src/line.rt:58:9
 begins-requires : tie.Need-begins-requires
 begins-requires c κs = search needs
 
-key-there : (c : tie.Else1) → let a = c .before .before .before .before .before .args in begins (a .key .now) (take (length (a .input .now) - a .at) (drop (a .at) (a .input .now))) ≡ true
+key-there : (c : tie.Else1) →
+    let a = c .before .before .before .before .before .args in
+    begins (a .key .now) (take (length (a .input .now) - a .at) (drop (a .at) (a .input .now))) ≡ true
 key-there c = sym (c .before .begins .ensures) ∙ not-false _ (c .if1 .left)
 
 fits : (c : tie.Else1) → let a = c .before .before .before .before .before .args in a .at + length (a .key .now) ≤ length (a .input .now)
@@ -35,28 +33,23 @@ fits c =
     let a = c .before .before .before .before .before .args in
     key-fits (a .input .now) (a .key .now) (a .at) (search needs) (key-there c)
 
--- src/line.rt:59:9
 returns : tie.Need-returns
 returns c =
     let a = c .before .before .before .before .before .args in
     key-missing (a .input .now) (a .key .now) (a .at) (sym (c .before .begins .ensures) ∙ not-true _ (c .if1 .taken))
 
--- src/line.rt:61:16
 add-from : tie.Need-add-from
 add-from c = search needs
 
--- src/line.rt:62:9
 feed-from-requires : tie.Need-feed-from-requires
 feed-from-requires c κs = fits c
 
--- src/line.rt:64:9
 returns-2 : tie.Need-returns-2
 returns-2 c =
     let e = c .before .before in
     let a = e .before .before .before .before .before .args in
     feed-missing (a .input .now) (a .key .now) (a .at) (c .before .feed-from .result) (key-there e) (fits e) (c .before .feed-from .ensures) (c .if2 .taken)
 
--- src/line.rt:54:1
 returns-3 : tie.Need-returns-3
 returns-3 c =
     let e = c .before .before in

@@ -1,4 +1,4 @@
--- `line::decimal_of` turns away a leading zero, and no digit at all; the rest is gathered.
+-- `decimal_of` turns away a leading zero, and no digit at all; the rest is gathered.
 -- Assumes nothing.
 use mathlib.Core.Path.{sym, ap, _∙_}
 use mathlib.Core.Logic.{⊎-elim}
@@ -8,27 +8,19 @@ use Rattle.desk_line.specs.Says.{saidNumber}
 use Rattle.desk_line.proofs.Places.{no-digit, leading-zero, one-digit, no-leading-zero}
 use Rattle.desk_line.proofs.decimal_of.Statement.{statement}
 use Rattle.desk_line.proofs.decimal_of.Tie as tie
-use Rattle.desk_line.proofs.decimal_of.Reads as reads
-use Rattle.desk_line.proofs.decimal_of.Lts as lts
-use Rattle.desk_line.proofs.gathered.Reads as gathered-reads
 
--- src/line.rt:95:9
 returns : tie.Need-returns
 returns c = ap saidNumber (sym (no-digit _ _ (c .if1 .taken)))
 
--- src/line.rt:97:28
 shared-slice-read-if3 : tie.Need-shared-slice-read-if3
 shared-slice-read-if3 c = search needs
 
--- src/line.rt:98:9
 returns-2 : tie.Need-returns-2
 returns-2 c = ap saidNumber (sym (leading-zero _ _ (c .before .before .if2 .taken) (eqb-true _ _ (c .if3 .taken))))
 
--- src/line.rt:100:5
 gathered-requires : tie.Need-gathered-requires
 gathered-requires c κs = search needs
 
--- src/line.rt:91:1
 returns-3 : tie.Need-returns-3
 returns-3 c =
     let a = c .before .before .before .before .args in

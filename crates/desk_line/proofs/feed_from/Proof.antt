@@ -1,11 +1,11 @@
+-- `feed_from` looks for the first line feed: the invariant is Seeking.
+-- Assumes nothing.
 use Prim.Native.Nat.{_-_}
 use lib.ListN.{length}
 use borrow.Author.Needs.{needs}
 use Rattle.desk_line.proofs.Turns.{Seeking, seek, sought, seek-on, not-there}
 use Rattle.desk_line.proofs.feed_from.Statement.{statement}
 use Rattle.desk_line.proofs.feed_from.Tie as tie
-use Rattle.desk_line.proofs.feed_from.Reads as reads
-use Rattle.desk_line.proofs.feed_from.Lts as lts
 
 abbrev Inv-loop : tie.InvT-loop
 Inv-loop input at i₀ i = Seeking input at i
@@ -13,31 +13,24 @@ Inv-loop input at i₀ i = Seeking input at i
 abbrev μ-loop : tie.MeasureT-loop
 μ-loop input at i₀ i = length input - i
 
--- src/line.rt:45:5
 loop-holds : tie.Need-loop-holds Inv-loop μ-loop
 loop-holds c = seek _ _ (search needs)
 
--- src/line.rt:46:12
 shared-slice-read-if1 : tie.Need-shared-slice-read-if1 Inv-loop μ-loop
 shared-slice-read-if1 c = search needs
 
--- src/line.rt:47:13
 returns : tie.Need-returns Inv-loop μ-loop
 returns c = sought _ _ _ (search needs) (c .if1 .taken) (search needs)
 
--- src/line.rt:49:9
 add-i : tie.Need-add-i Inv-loop μ-loop
 add-i c = search needs
 
--- src/line.rt:45:5
 loop-less : tie.Need-loop-less Inv-loop μ-loop
 loop-less c = search needs
 
--- src/line.rt:45:5
 loop-again : tie.Need-loop-again Inv-loop μ-loop
 loop-again c = seek-on _ _ _ (search needs) (c .if1 .left) (search needs)
 
--- src/line.rt:40:1
 returns-2 : tie.Need-returns-2 Inv-loop μ-loop
 returns-2 c = not-there _ _ _ (c .loop-test .left) (search needs)
 

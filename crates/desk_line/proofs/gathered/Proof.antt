@@ -1,3 +1,5 @@
+-- `gathered` takes digit after digit: the invariant is Gathering.
+-- Assumes nothing.
 use Prim.Native.Nat.{_-_}
 use mathlib.Core.Path.{sym, ap}
 use mathlib.Core.Logic.{⊎-elim}
@@ -9,8 +11,6 @@ use borrow.Author.Needs.{needs}
 use Rattle.desk_line.proofs.Turns.{Gathering, gather-none, too-low, too-high, too-large, gather-one, gather-all}
 use Rattle.desk_line.proofs.gathered.Statement.{statement}
 use Rattle.desk_line.proofs.gathered.Tie as tie
-use Rattle.desk_line.proofs.gathered.Reads as reads
-use Rattle.desk_line.proofs.gathered.Lts as lts
 
 abbrev Inv-loop : tie.InvT-loop
 Inv-loop digits most value₀ i₀ value i = Gathering most digits value i
@@ -18,58 +18,45 @@ Inv-loop digits most value₀ i₀ value i = Gathering most digits value i
 abbrev μ-loop : tie.MeasureT-loop
 μ-loop digits most value₀ i₀ value i = length digits - i
 
--- src/line.rt:75:5
 loop-holds : tie.Need-loop-holds Inv-loop μ-loop
 loop-holds c = gather-none _ _
 
--- src/line.rt:76:17
 shared-slice-read-b : tie.Need-shared-slice-read-b Inv-loop μ-loop
 shared-slice-read-b c = search needs
 
--- src/line.rt:78:13
 returns : tie.Need-returns Inv-loop μ-loop
 returns c =
     let now = c .before .before .before .loop in
     let more = c .before .before .loop-test .taken in
     ap saidNumber (sym (⊎-elim (λ w. too-low _ _ _ _ more (w .taken) (now .inv)) (λ w. too-high _ _ _ _ more (ltb-true 57 _ (w .1 .taken)) (now .inv)) (c .if1 .came)))
 
--- src/line.rt:80:20
 cast-more : tie.Need-cast-more Inv-loop μ-loop
 cast-more c = search needs
 
--- src/line.rt:80:20
 mul-more : tie.Need-mul-more Inv-loop μ-loop
 mul-more c = search needs
 
--- src/line.rt:80:40
 cast-more-2 : tie.Need-cast-more-2 Inv-loop μ-loop
 cast-more-2 c = omega (arith, ltb-false)
 
--- src/line.rt:80:20
 add-more : tie.Need-add-more Inv-loop μ-loop
 add-more c = omega (arith, ltb-false)
 
--- src/line.rt:82:13
 returns-2 : tie.Need-returns-2 Inv-loop μ-loop
 returns-2 c = ap saidNumber (sym (too-large _ _ _ _ (search needs) (c .if3 .taken) (c .before .before .before .before .before .loop .inv)))
 
--- src/line.rt:84:17
 cast-value : tie.Need-cast-value Inv-loop μ-loop
 cast-value c = search needs
 
--- src/line.rt:85:9
 add-i : tie.Need-add-i Inv-loop μ-loop
 add-i c = search needs
 
--- src/line.rt:75:5
 loop-less : tie.Need-loop-less Inv-loop μ-loop
 loop-less c = search needs
 
--- src/line.rt:75:5
 loop-again : tie.Need-loop-again Inv-loop μ-loop
 loop-again c = gather-one _ _ _ _ (search needs) (c .before .before .if1 .left) (ltb-false 57 _ (c .before .if2 .left)) (c .if3 .left) (c .before .before .before .before .before .loop .inv)
 
--- src/line.rt:70:1
 returns-3 : tie.Need-returns-3 Inv-loop μ-loop
 returns-3 c = ap saidNumber (sym (gather-all _ _ _ _ (c .loop-test .left) (c .before .loop .inv)))
 

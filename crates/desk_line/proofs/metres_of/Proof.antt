@@ -1,4 +1,4 @@
--- `line::metres_of` reads a signed number: with a sign, what is behind it is read, and is no 0.
+-- `metres_of` reads a signed number: with a sign, what is behind it is read, and is no 0.
 -- Assumes nothing.
 use mathlib.Core.Path.{_≡_, sym, _∙_}
 use mathlib.Core.Bool.{true, false}
@@ -10,23 +10,18 @@ use Rattle.desk_line.proofs.Signs.{plain-none, plain-fits, plain-some, 
 use Rattle.desk_line.proofs.metres_of.Statement.{statement}
 use Rattle.desk_line.proofs.metres_of.Tie as tie
 
--- src/line.rt:107:24
 slice-aggregate-begins : tie.Need-slice-aggregate-begins
 slice-aggregate-begins c = search needs
 
--- src/line.rt:107:9
 begins-requires : tie.Need-begins-requires
 begins-requires c κs = search needs
 
--- src/line.rt:108:34
 decimal-of-requires : tie.Need-decimal-of-requires
 decimal-of-requires c κs = search needs
 
--- src/line.rt:108:29
 enum-known-n : tie.Need-enum-known-n
 enum-known-n c = search needs
 
--- src/line.rt:109:13
 enum-told : tie.Need-enum-told
 enum-told c = search needs
 
@@ -36,69 +31,54 @@ plain c = sym (c .before .begins .ensures) ∙ not-true _ (c .if1 .taken)
 minus : (c : tie.Else1) → begins (ascii "-") (c .before .before .before .before .args .digits .now) ≡ true
 minus c = sym (c .before .begins .ensures) ∙ not-false _ (c .if1 .left)
 
--- src/line.rt:109:13
 returns : tie.Need-returns
 returns c = plain-none _ (plain (c .before .before .before)) (sym (c .before .before .decimal-of .ensures) ∙ c .enum-told .given .1)
 
--- src/line.rt:111:31
 cast-t11 : tie.Need-cast-t11
 cast-t11 c = plain-fits _ (plain (c .before .before .before .before)) _ (sym (c .before .before .before .decimal-of .ensures) ∙ c .before .n .given .1)
 
--- src/line.rt:111:9
 returns-2 : tie.Need-returns-2
 returns-2 c = plain-some _ (plain (c .before .before .before .before)) _ (sym (c .before .before .before .decimal-of .ensures) ∙ c .before .n .given .1)
 
--- src/line.rt:113:41
 sub-decimal-of : tie.Need-sub-decimal-of
 sub-decimal-of c = sign-there (c .before .before .before .before .args .digits .now) (minus c)
 
--- src/line.rt:113:41
 part-decimal-of-start : tie.Need-part-decimal-of-start
 part-decimal-of-start c = sign-there (c .before .before .before .before .args .digits .now) (minus c)
 
--- src/line.rt:113:41
 part-decimal-of-end : tie.Need-part-decimal-of-end
 part-decimal-of-end c = search needs
 
--- src/line.rt:113:30
 decimal-of-requires-2 : tie.Need-decimal-of-requires-2
 decimal-of-requires-2 c κs = search needs
 
--- src/line.rt:113:25
 enum-known-n-2 : tie.Need-enum-known-n-2
 enum-known-n-2 c = search needs
 
--- src/line.rt:114:9
 enum-told-2 : tie.Need-enum-told-2
 enum-told-2 c = search needs
 
--- src/line.rt:114:9
 returns-3 : tie.Need-returns-3
 returns-3 c = minus-none _ (minus (c .before .before .before .before)) (sym (c .before .before .decimal-of2 .ensures) ∙ c .enum-told2 .given .1)
 
--- src/line.rt:117:9
 returns-4 : tie.Need-returns-4
 returns-4 c =
     let e = c .before .before .before .before .before .before in
     minus-zero (e .before .before .before .before .args .digits .now) (minus e) (c .before .before .n2 .given .0 .0) (sym (c .before .before .before .before .decimal-of2 .ensures) ∙ c .before .before .n2 .given .1) (c .if2 .taken)
 
--- src/line.rt:119:19
 sub-before : tie.Need-sub-before
 sub-before c = search needs
 
--- src/line.rt:119:18
 cast-before : tie.Need-cast-before
 cast-before c =
     let e = c .before .before .before .before .before .before in
     minus-fits (e .before .before .before .before .args .digits .now) (minus e) (c .before .before .n2 .given .0 .0) (sym (c .before .before .before .before .decimal-of2 .ensures) ∙ c .before .before .n2 .given .1) (c .if2 .left)
 
--- src/line.rt:120:20
 sub-t18 : tie.Need-sub-t18
 sub-t18 c =
     let e = c .before .before .before .before .before .before in
     down-fits (e .before .before .before .before .args .digits .now) (minus e) (c .before .before .n2 .given .0 .0) (sym (c .before .before .before .before .decimal-of2 .ensures) ∙ c .before .before .n2 .given .1) (c .if2 .left)
 
--- src/line.rt:104:1
 returns-5 : tie.Need-returns-5
 returns-5 c =
     let e = c .before .before .before .before .before .before in

@@ -1,4 +1,4 @@
--- `line::signed_line` reads the value of its line.
+-- `signed_line` reads the value of its line.
 -- Assumes nothing.
 use mathlib.Core.Path.{sym, _∙_}
 use Prim.Native.Nat.{_+_}
@@ -10,24 +10,22 @@ use mir.Facts.{toZ-ofZ}
 use Rattle.desk_line.specs.Reads.{signedIn, bytesLine}
 use Rattle.desk_line.specs.Says.{PartReached}
 use Rattle.desk_line.proofs.Places.{value-missing, value-broken, value-there}
-use Rattle.desk_line.proofs.Signs.{said-signed, said-unsigned}
+use Rattle.desk_line.proofs.Signs.{said-metres, said-no-metres}
 use Rattle.desk_line.proofs.signed_line.Statement.{statement}
 use Rattle.desk_line.proofs.signed_line.Tie as tie
 
--- src/line.rt:140:35
 bytes-line-requires : tie.Need-bytes-line-requires
 bytes-line-requires c κs = search needs
 
--- src/line.rt:140:21
 enum-known-from : tie.Need-enum-known-from
 enum-known-from c = search needs
 
--- src/line.rt:141:9
 enum-told : tie.Need-enum-told
 enum-told c = search needs
 
--- src/line.rt:141:9
-value-part : (c : tie.After-known-told) → let a = c .before .before .before .before .before .before .args in PartReached (a .input .now) (a .at + length (a .key .now)) (bytesLine (a .key .now) (drop (a .at) (a .input .now))) (c .before .from .given .0 .0) (c .before .from .given .0 .1 .0)
+value-part : (c : tie.After-known-told) →
+    let a = c .before .before .before .before .before .before .args in
+    PartReached (a .input .now) (a .at + length (a .key .now)) (bytesLine (a .key .now) (drop (a .at) (a .input .now))) (c .before .from .given .0 .0) (c .before .from .given .0 .1 .0)
 value-part c = rw (c .before .from .given .1) at (c .before .before .before .bytes-line .ensures)
 
 returns : tie.Need-returns
@@ -35,48 +33,39 @@ returns c =
     let a = c .before .before .before .before .before .args in
     value-missing signedIn (a .key .now) _ (rw (c .enum-told .given .1) at (c .before .before .bytes-line .ensures))
 
--- src/line.rt:143:39
 sub-metres-of : tie.Need-sub-metres-of
 sub-metres-of c = value-part c .forward
 
--- src/line.rt:143:39
 part-metres-of-start : tie.Need-part-metres-of-start
 part-metres-of-start c = value-part c .forward
 
--- src/line.rt:143:39
 part-metres-of-end : tie.Need-part-metres-of-end
 part-metres-of-end c = omega (arith, value-part c .reached .within)
 
--- src/line.rt:143:29
 metres-of-requires : tie.Need-metres-of-requires
 metres-of-requires c κs = search needs
 
--- src/line.rt:143:24
 enum-known-n : tie.Need-enum-known-n
 enum-known-n c = search needs
 
--- src/line.rt:144:9
 enum-told-2 : tie.Need-enum-told-2
 enum-told-2 c = search needs
 
--- src/line.rt:144:9
 returns-2 : tie.Need-returns-2
 returns-2 c =
     let a = c .before .before .before .before .before .before .before .before .before .before .args in
     let e = c .before .before .before .before in
-    value-broken signedIn (a .key .now) _ (a .input .now) _ _ _ (value-part e) (said-unsigned _ (sym (c .before .before .metres-of .ensures) ∙ c .enum-told2 .given .1))
+    value-broken signedIn (a .key .now) _ (a .input .now) _ _ _ (value-part e) (said-no-metres _ (sym (c .before .before .metres-of .ensures) ∙ c .enum-told2 .given .1))
 
--- src/line.rt:146:23
 add-t10 : tie.Need-add-t10
 add-t10 c = let e = c .before .before .before .before .before in omega (arith, value-part e .reached .within, e .before .before .before .before .before .before .good .0)
 
--- src/line.rt:136:1
 returns-3 : tie.Need-returns-3
 returns-3 c =
     let a = c .before .before .before .before .before .before .before .before .before .before .before .args in
     let e = c .before .before .before .before .before in
     rw (toZ-ofZ {w = w32} {z = c .before .n .given .0 .0} (search needs))
-    (value-there signedIn (a .key .now) _ (a .input .now) _ _ _ (value-part e) _ (said-signed _ _ (sym (c .before .before .before .metres-of .ensures) ∙ c .before .n .given .1)))
+    (value-there signedIn (a .key .now) _ (a .input .now) _ _ _ (value-part e) _ (said-metres _ _ (sym (c .before .before .before .metres-of .ensures) ∙ c .before .n .given .1)))
 
 pub signed-line-spec : {M : Type 1} → statement M
 signed-line-spec =

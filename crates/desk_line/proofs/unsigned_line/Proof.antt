@@ -1,4 +1,4 @@
--- `line::unsigned_line` reads the value of its line.
+-- `unsigned_line` reads the value of its line.
 -- Assumes nothing.
 use mathlib.Core.Path.{sym, _∙_}
 use Prim.Native.Nat.{_+_}
@@ -8,24 +8,22 @@ use borrow.Author.Needs.{needs}
 use Rattle.desk_line.specs.Reads.{numberIn, bytesLine}
 use Rattle.desk_line.specs.Says.{PartReached}
 use Rattle.desk_line.proofs.Places.{value-missing, value-broken, value-there}
-use Rattle.desk_line.proofs.Signs.{said-some, said-none}
+use Rattle.desk_line.proofs.Signs.{said-number, said-no-number}
 use Rattle.desk_line.proofs.unsigned_line.Statement.{statement}
 use Rattle.desk_line.proofs.unsigned_line.Tie as tie
 
--- src/line.rt:127:35
 bytes-line-requires : tie.Need-bytes-line-requires
 bytes-line-requires c κs = search needs
 
--- src/line.rt:127:21
 enum-known-from : tie.Need-enum-known-from
 enum-known-from c = search needs
 
--- src/line.rt:128:9
 enum-told : tie.Need-enum-told
 enum-told c = search needs
 
--- src/line.rt:128:9
-value-part : (c : tie.After-known-told) → let a = c .before .before .before .before .before .before .args in PartReached (a .input .now) (a .at + length (a .key .now)) (bytesLine (a .key .now) (drop (a .at) (a .input .now))) (c .before .from .given .0 .0) (c .before .from .given .0 .1 .0)
+value-part : (c : tie.After-known-told) →
+    let a = c .before .before .before .before .before .before .args in
+    PartReached (a .input .now) (a .at + length (a .key .now)) (bytesLine (a .key .now) (drop (a .at) (a .input .now))) (c .before .from .given .0 .0) (c .before .from .given .0 .1 .0)
 value-part c = rw (c .before .from .given .1) at (c .before .before .before .bytes-line .ensures)
 
 returns : tie.Need-returns
@@ -33,47 +31,38 @@ returns c =
     let a = c .before .before .before .before .before .args in
     value-missing (numberIn (a .most)) (a .key .now) _ (rw (c .enum-told .given .1) at (c .before .before .bytes-line .ensures))
 
--- src/line.rt:130:41
 sub-decimal-of : tie.Need-sub-decimal-of
 sub-decimal-of c = value-part c .forward
 
--- src/line.rt:130:41
 part-decimal-of-start : tie.Need-part-decimal-of-start
 part-decimal-of-start c = value-part c .forward
 
--- src/line.rt:130:41
 part-decimal-of-end : tie.Need-part-decimal-of-end
 part-decimal-of-end c = omega (arith, value-part c .reached .within)
 
--- src/line.rt:130:30
 decimal-of-requires : tie.Need-decimal-of-requires
 decimal-of-requires c κs = search needs
 
--- src/line.rt:130:25
 enum-known-n : tie.Need-enum-known-n
 enum-known-n c = search needs
 
--- src/line.rt:131:9
 enum-told-2 : tie.Need-enum-told-2
 enum-told-2 c = search needs
 
--- src/line.rt:131:9
 returns-2 : tie.Need-returns-2
 returns-2 c =
     let a = c .before .before .before .before .before .before .before .before .before .before .args in
     let e = c .before .before .before .before in
-    value-broken (numberIn (a .most)) (a .key .now) _ (a .input .now) _ _ _ (value-part e) (said-none _ (sym (c .before .before .decimal-of .ensures) ∙ c .enum-told2 .given .1))
+    value-broken (numberIn (a .most)) (a .key .now) _ (a .input .now) _ _ _ (value-part e) (said-no-number _ (sym (c .before .before .decimal-of .ensures) ∙ c .enum-told2 .given .1))
 
--- src/line.rt:133:25
 add-t11 : tie.Need-add-t11
 add-t11 c = let e = c .before .before .before .before .before in omega (arith, value-part e .reached .within, e .before .before .before .before .before .before .good .0)
 
--- src/line.rt:123:1
 returns-3 : tie.Need-returns-3
 returns-3 c =
     let a = c .before .before .before .before .before .before .before .before .before .before .before .args in
     let e = c .before .before .before .before .before in
-    value-there (numberIn (a .most)) (a .key .now) _ (a .input .now) _ _ _ (value-part e) _ (said-some _ _ (sym (c .before .before .before .decimal-of .ensures) ∙ c .before .n .given .1))
+    value-there (numberIn (a .most)) (a .key .now) _ (a .input .now) _ _ _ (value-part e) _ (said-number _ _ (sym (c .before .before .before .decimal-of .ensures) ∙ c .before .n .given .1))
 
 pub unsigned-line-spec : {M : Type 1} → statement M
 unsigned-line-spec =

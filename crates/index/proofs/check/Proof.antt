@@ -1,17 +1,14 @@
 -- `check` says no for a table that is refused; else it compares the buffers with what the table's columns give.
 -- Assumes nothing.
-use Prim.Native.Nat.{ℕ}
 use mathlib.Core.Path.{_≡_, sym, ap, _∙_}
-use native.Mathlib.Omega.{arith}
-use lib.ListN.{length, take}
-use lib.Seq.{length-take-le}
+use lib.ListN.{take}
 use borrow.Author.Needs.{needs}
 use Rattle.rules.specs.Numbers.{verdictNumber}
 use Rattle.rules.specs.Tables.{Table, tableOf, stands, LawfulTable}
 use Rattle.rules.proofs.Lawful.{granted}
 use Rattle.node.specs.Columns.{columnsOf}
 use Rattle.index.specs.Columns.{columns}
-use Rattle.index.proofs.ByStand.{spelled, located, columns-are, columns-lawful}
+use Rattle.index.proofs.ByStand.{spelled, located, front-fits, front-size, columns-are, columns-lawful}
 use Rattle.index.proofs.Answers.{refused-checked, compared-checked}
 use Rattle.index.proofs.check.Statement.{statement}
 use Rattle.index.proofs.check.Tie as tie
@@ -32,7 +29,8 @@ abbrev table-of : tie.Start → Table
 table-of s = let a = s .args in tableOf (a .text .now) (a .starts .now) (a .east .now) (a .north .now) (a .score .now)
 
 -- past the refusals
-lawful-here : (c : tie.After-enum-told) → LawfulTable (table-of (c .before .before .before .before .before .before .before .before .before)) (c .before .before .before .before .before .before .before .before .before .args .grid)
+lawful-here : (c : tie.After-enum-told)
+    → LawfulTable (table-of (c .before .before .before .before .before .before .before .before .before)) (c .before .before .before .before .before .before .before .before .before .args .grid)
 lawful-here c = granted _ _ _ (c .before .before .table-refusal .ensures) (c .enum-told .given .1)
 
 lengths-requires : tie.Need-lengths-requires
@@ -45,22 +43,22 @@ regions-requires : tie.Need-regions-requires
 regions-requires c κs = located _ _ (lawful-here (c .before .before))
 
 array-share-prefix-long : tie.Need-array-share-prefix-long
-array-share-prefix-long c = let size : length (c .before .before .lengths .result) ≡ 1024 = search needs in omega (arith, lawful-here (c .before .before .before) .shaped .few)
+array-share-prefix-long c = front-fits _ _ (lawful-here (c .before .before .before)) (c .before .before .lengths .result) (search needs)
 
 slice-aggregate-has-index : tie.Need-slice-aggregate-has-index
-slice-aggregate-has-index c = let size : length (c .before .before .before .lengths .result) ≡ 1024 = search needs in sym (length-take-le _ (c .before .before .before .lengths .result) (omega (arith, lawful-here (c .before .before .before .before) .shaped .few)))
+slice-aggregate-has-index c = front-size _ _ (lawful-here (c .before .before .before .before)) (c .before .before .before .lengths .result) (search needs)
 
 array-share-prefix-alike : tie.Need-array-share-prefix-alike
-array-share-prefix-alike c = let size : length (c .before .before .shares .result) ≡ 1024 = search needs in omega (arith, lawful-here (c .before .before .before .before) .shaped .few)
+array-share-prefix-alike c = front-fits _ _ (lawful-here (c .before .before .before .before)) (c .before .before .shares .result) (search needs)
 
 slice-aggregate-has-index-2 : tie.Need-slice-aggregate-has-index-2
-slice-aggregate-has-index-2 c = let size : length (c .before .before .before .shares .result) ≡ 1024 = search needs in sym (length-take-le _ (c .before .before .before .shares .result) (omega (arith, lawful-here (c .before .before .before .before .before) .shaped .few)))
+slice-aggregate-has-index-2 c = front-size _ _ (lawful-here (c .before .before .before .before .before)) (c .before .before .before .shares .result) (search needs)
 
-array-share-prefix-places : tie.Need-array-share-prefix-places
-array-share-prefix-places c = let size : length (c .before .before .regions .result) ≡ 1024 = search needs in omega (arith, lawful-here (c .before .before .before .before .before) .shaped .few)
+array-share-prefix-region : tie.Need-array-share-prefix-region
+array-share-prefix-region c = front-fits _ _ (lawful-here (c .before .before .before .before .before)) (c .before .before .regions .result) (search needs)
 
 slice-aggregate-has-index-3 : tie.Need-slice-aggregate-has-index-3
-slice-aggregate-has-index-3 c = let size : length (c .before .before .before .regions .result) ≡ 1024 = search needs in sym (length-take-le _ (c .before .before .before .regions .result) (omega (arith, lawful-here (c .before .before .before .before .before .before) .shaped .few)))
+slice-aggregate-has-index-3 c = front-size _ _ (lawful-here (c .before .before .before .before .before .before)) (c .before .before .before .regions .result) (search needs)
 
 -- the columns that are lent
 columns-here : (c : tie.After-regions) →
@@ -90,7 +88,7 @@ check-spec =
     slice-aggregate-has-index
     array-share-prefix-alike
     slice-aggregate-has-index-2
-    array-share-prefix-places
+    array-share-prefix-region
     slice-aggregate-has-index-3
     has-index-requires
     returns-2)

@@ -8,13 +8,19 @@ use Rattle.node.proofs.past_number.Statement.{statement}
 use Rattle.node.proofs.past_number.Tie as tie
 
 -- the sum fits, and is no less than what is taken off
-sum-fits : (c : tie.After-word2) → (c .before .before .word .result ≤ 24) × (c .before .grown .result ≤ 24576) × (c .word2 .result ≤ c .before .before .word .result + c .before .grown .result)
+sum-fits : (c : tie.After-word2)
+    → (c .before .before .word .result ≤ 24) × (c .before .grown .result ≤ 24576) × (c .word2 .result ≤ c .before .before .word .result + c .before .grown .result)
 sum-fits c =
-    let g = c .before .before .before .before .before .before .pre .0 in
-    let old = shared-short _ _ g (c .before .before .before .before .before .before .args .i) in
-    let grew = grown-small _ _ g (c .before .before .before .before .before .before .args .i) (c .before .before .before .before .before .before .args .e) (c .before .before .before .before .before .before .pre .2) in
-    let fits = past-fits _ _ g (c .before .before .before .before .before .before .args .i) (c .before .before .before .before .before .before .args .e) (c .before .before .before .before .before .before .args .l) (c .before .before .before .before .before .before .pre .4) (c .before .before .before .before .before .before .pre .5) in
-    (omega (arith, c .before .before .word .ensures, c .before .before .before .value-at .ensures), omega (arith, c .before .grown .ensures), omega (arith, c .word2 .ensures, c .before .before .word .ensures, c .before .before .before .value-at .ensures, c .before .grown .ensures))
+    let s = c .before .before .before .before .before .before in
+    let a = s .args in
+    let g = s .pre .0 in
+    let old = shared-short _ _ g (a .i) in
+    let grew = grown-small _ _ g (a .i) (a .e) (s .pre .2) in
+    let fits = past-fits _ _ g (a .i) (a .e) (a .l) (s .pre .4) (s .pre .5) in (
+      omega (arith, c .before .before .word .ensures, c .before .before .before .value-at .ensures),
+      omega (arith, c .before .grown .ensures),
+      omega (arith, c .word2 .ensures, c .before .before .word .ensures, c .before .before .before .value-at .ensures, c .before .grown .ensures),
+    )
 
 value-at-requires : tie.Need-value-at-requires
 value-at-requires c κs = search needs

@@ -24,12 +24,12 @@ root-requires c κs = search needs
 loop-holds : tie.Need-loop-holds Inv-loop μ-loop
 loop-holds c =
     let p = c .before .before .before .before .before .before .before .before .before .before .pre in
-    checking _ (p .0) _ _ _ _ _ _ _ _ _ (c .root .ensures) (carrying _ (p .0) _ _ (c .root .ensures) (p .1) _ _ _ _ _ (c .before .places-of .ensures) (record { path-size = refl; places-size = refl; best-size = refl; ranked-size = refl }))
+    checking (c .root .ensures) (carrying (p .0) (c .root .ensures) (p .1) (c .before .places-of .ensures) (record { path-size = refl; places-size = refl; best-size = refl; ranked-size = refl }))
 
 check-node-requires : tie.Need-check-node-requires Inv-loop μ-loop
 check-node-requires c κs =
     let p = c .before .before .before .before .before .before .before .before .before .before .before .before .before .before .before .before .before .before .pre in
-    (p .0, standing _ (p .0) _ _ _ _ _ _ _ (c .before .before .before .before .before .before .before .loop .inv .carried) (c .before .before .before .before .before .if1 .taken))
+    (p .0, standing (c .before .before .before .before .before .before .before .loop .inv .carried) (c .before .before .before .before .before .if1 .taken))
 
 enum-known-further : tie.Need-enum-known-further Inv-loop μ-loop
 enum-known-further c = search needs
@@ -38,7 +38,7 @@ enum-told : tie.Need-enum-told Inv-loop μ-loop
 enum-told c = search needs
 
 returns : tie.Need-returns Inv-loop μ-loop
-returns c = checking-not _ (c .before .before .before .before .before .before .before .before .before .before .before .before .before .before .before .before .before .before .before .before .before .pre .0) _ _ _ _ _ _ _ _ _ (c .before .before .before .before .before .before .before .before .before .before .loop .inv) (c .before .before .before .before .before .before .before .before .if1 .taken) (c .before .before .check-node .ensures .different (c .enum-told .given .1))
+returns c = checking-not (c .before .before .before .before .before .before .before .before .before .before .loop .inv) (c .before .before .before .before .before .before .before .before .if1 .taken) (c .before .before .check-node .ensures .different (c .enum-told .given .1))
 
 loop-less : tie.Need-loop-less Inv-loop μ-loop
 loop-less c = omega (arith, c .before .before .before .check-node .ensures .same _ (c .before .further .given .1) .2 .stepped .number, c .before .before .before .before .before .before .before .before .before .if1 .taken)
@@ -46,10 +46,10 @@ loop-less c = omega (arith, c .before .before .before .check-node .ensures .same
 loop-again : tie.Need-loop-again Inv-loop μ-loop
 loop-again c =
     let same = c .before .before .before .check-node .ensures .same _ (c .before .further .given .1) in
-    checking-more _ (c .before .before .before .before .before .before .before .before .before .before .before .before .before .before .before .before .before .before .before .before .before .before .pre .0) _ _ _ _ _ _ _ _ _ (c .before .before .before .before .before .before .before .before .before .before .before .loop .inv) (c .before .before .before .before .before .before .before .before .before .if1 .taken) _ _ _ _ _ _ (same .0) (same .1) (same .2)
+    checking-more (c .before .before .before .before .before .before .before .before .before .before .before .loop .inv) (c .before .before .before .before .before .before .before .before .before .if1 .taken) (same .0) (same .1) (same .2)
 
 returns-2 : tie.Need-returns-2 Inv-loop μ-loop
-returns-2 c = checking-end _ (c .before .before .before .before .before .before .before .before .before .before .before .before .before .pre .0) _ _ _ _ _ _ _ _ _ (c .before .before .loop .inv) (c .if1 .left)
+returns-2 c = checking-end (c .before .before .loop .inv) (c .if1 .left)
 
 pub check-spec : {M : Type 1} → statement M
 check-spec =

@@ -18,7 +18,7 @@ root-requires : tie.Need-root-requires Inv-loop μ-loop
 root-requires c κs = search needs
 
 loop-holds : tie.Need-loop-holds Inv-loop μ-loop
-loop-holds c = counting _ _ _ _ _ (c .root .ensures) (c .before .before .before .before .pre .0) (c .before .before .before .before .pre .3)
+loop-holds c = counting (c .root .ensures) (c .before .before .before .before .pre .0) (c .before .before .before .before .pre .3)
 
 end-of-requires : tie.Need-end-of-requires Inv-loop μ-loop
 end-of-requires c κs = omega (arith, c .before .before .loop .inv .way .on (c .if1 .taken) .within, c .before .before .before .before .before .before .before .pre .0 .same)
@@ -30,16 +30,16 @@ step-requires : tie.Need-step-requires Inv-loop μ-loop
 step-requires c κs =
     let s = c .before .before .before .before .loop .inv in
     let lt = c .before .before .if1 .taken in
-    (c .before .before .before .before .before .before .before .before .before .pre .0, s .way .on lt, omega (arith, s .way .few), counting-fits _ _ _ _ _ s lt _ _ (c .before .end-of .ensures .0) (ap ones (c .regions-of .ensures)))
+    (c .before .before .before .before .before .before .before .before .before .pre .0, s .way .on lt, omega (arith, s .way .few), counting-fits s lt (c .before .end-of .ensures .0) (ap ones (c .regions-of .ensures)))
 
 loop-less : tie.Need-loop-less Inv-loop μ-loop
 loop-less c = omega (arith, c .step .ensures .number, c .before .before .before .if1 .taken)
 
 loop-again : tie.Need-loop-again Inv-loop μ-loop
-loop-again c = counting-more _ _ _ _ _ (c .before .before .before .before .before .loop .inv) (c .before .before .before .if1 .taken) _ _ (c .before .before .end-of .ensures .0) (ap ones (c .before .regions-of .ensures)) _ (c .step .ensures)
+loop-again c = counting-more (c .before .before .before .before .before .loop .inv) (c .before .before .before .if1 .taken) (c .before .before .end-of .ensures .0) (ap ones (c .before .regions-of .ensures)) (c .step .ensures)
 
 returns : tie.Need-returns Inv-loop μ-loop
-returns c = counting-end _ _ _ _ _ (c .before .before .loop .inv) (c .if1 .left)
+returns c = counting-end (c .before .before .loop .inv) (c .if1 .left)
 
 pub count-entries-spec : {M : Type 1} → statement M
 count-entries-spec =

@@ -24,29 +24,29 @@ root-requires c κs = search needs
 loop-holds : tie.Need-loop-holds Inv-loop μ-loop
 loop-holds c =
     let p = c .before .before .before .before .before .before .before .before .before .before .pre in
-    writing _ (p .0) _ _ _ (p .2) (p .3) _ _ _ _ _ _ (c .root .ensures) (carrying _ (p .0) _ _ (c .root .ensures) (p .1) _ _ _ _ _ (c .before .places-of .ensures) (record { path-size = refl; places-size = refl; best-size = refl; ranked-size = refl }))
+    writing (c .root .ensures) (carrying (p .0) (c .root .ensures) (p .1) (c .before .places-of .ensures) (record { path-size = refl; places-size = refl; best-size = refl; ranked-size = refl }))
 
 write-node-requires : tie.Need-write-node-requires Inv-loop μ-loop
 write-node-requires c κs =
     let p = c .before .before .before .before .before .before .before .before .before .before .before .before .before .before .before .before .before .before .before .before .pre in
     let s = c .before .before .before .before .before .before .before .before .before .loop .inv in
     let lt = c .before .before .before .before .before .before .before .if1 .taken in
-    (p .0, standing _ (p .0) _ _ _ _ _ _ _ (s .carried) lt, writing-room _ (p .0) _ _ _ (p .2) (p .3) _ _ _ _ _ _ _ _ s lt)
+    (p .0, standing (s .carried) lt, writing-room s lt (p .2) (p .3))
 
 loop-less : tie.Need-loop-less Inv-loop μ-loop
 loop-less c = omega (arith, c .before .before .before .before .write-node .ensures .0 .stepped .number, c .before .before .before .before .before .before .before .before .before .before .before .before .if1 .taken)
 
 loop-again : tie.Need-loop-again Inv-loop μ-loop
-loop-again c = let p = c .before .before .before .before .before .before .before .before .before .before .before .before .before .before .before .before .before .before .before .before .before .before .before .before .before .pre in writing-more _ (p .0) _ _ _ (p .2) (p .3) _ _ _ _ _ _ _ _ (c .before .before .before .before .before .before .before .before .before .before .before .before .before .before .loop .inv) (c .before .before .before .before .before .before .before .before .before .before .before .before .if1 .taken) _ _ _ _ _ _ _ _ (c .before .before .before .before .write-node .ensures)
+loop-again c = writing-more (c .before .before .before .before .before .before .before .before .before .before .before .before .before .before .loop .inv) (c .before .before .before .before .before .before .before .before .before .before .before .before .if1 .taken) (c .before .before .before .before .write-node .ensures)
 
 same-length : tie.Need-same-length Inv-loop μ-loop
-same-length c = let p = c .before .before .before .before .before .before .before .before .before .before .before .before .before .pre in writing-nodes _ (p .0) _ _ _ (p .2) (p .3) _ _ _ _ _ _ _ _ (c .before .before .loop .inv)
+same-length c = let p = c .before .before .before .before .before .before .before .before .before .before .before .before .before .pre in writing-nodes (c .before .before .loop .inv) (p .2)
 
 same-length-2 : tie.Need-same-length-2 Inv-loop μ-loop
-same-length-2 c = let p = c .before .before .before .before .before .before .before .before .before .before .before .before .before .pre in writing-entries _ (p .0) _ _ _ (p .2) (p .3) _ _ _ _ _ _ _ _ (c .before .before .loop .inv)
+same-length-2 c = let p = c .before .before .before .before .before .before .before .before .before .before .before .before .before .pre in writing-entries (c .before .before .loop .inv) (p .3)
 
 returns : tie.Need-returns Inv-loop μ-loop
-returns c = let p = c .before .before .before .before .before .before .before .before .before .before .before .before .before .pre in writing-end _ (p .0) _ _ _ (p .2) (p .3) _ _ _ _ _ _ _ _ (c .before .before .loop .inv) (c .if1 .left)
+returns c = writing-end (c .before .before .loop .inv) (c .if1 .left)
 
 pub write-spec : {M : Type 1} → statement M
 write-spec =

@@ -12,49 +12,38 @@ Inv-loop text₀ to input from past i₀ text i = Copying text₀ to input from 
 abbrev μ-loop : tie.MeasureT-loop
 μ-loop text₀ to input from past i₀ text i = past - from - i
 
--- src/columns.rt:25:5
 loop-holds : tie.Need-loop-holds Inv-loop μ-loop
 loop-holds c = copy-none _ _ _ _ _
 
--- src/columns.rt:25:15
 sub-loop : tie.Need-sub-loop Inv-loop μ-loop
 sub-loop c = search needs
 
--- src/columns.rt:26:30
 add-text : tie.Need-add-text Inv-loop μ-loop
 add-text c = search needs
 
--- src/columns.rt:26:24
 shared-slice-read-text : tie.Need-shared-slice-read-text Inv-loop μ-loop
 shared-slice-read-text c = search needs
 
--- src/columns.rt:26:14
 add-text-2 : tie.Need-add-text-2 Inv-loop μ-loop
 add-text-2 c = search needs
 
--- src/columns.rt:26:9
 slice-write-text : tie.Need-slice-write-text Inv-loop μ-loop
 slice-write-text c = search needs
 
--- src/columns.rt:27:9
 add-i : tie.Need-add-i Inv-loop μ-loop
 add-i c = search needs
 
--- src/columns.rt:25:5
 loop-less : tie.Need-loop-less Inv-loop μ-loop
 loop-less c = search needs
 
--- src/columns.rt:25:5
 loop-again : tie.Need-loop-again Inv-loop μ-loop
 loop-again c =
     let p = c .before .before .before .pre in
     copy-one _ _ _ _ _ _ _ (p .0) (p .1) (p .2) (c .before .loop-test .taken) (c .before .before .loop .inv)
 
--- src/columns.rt:20:1
 same-length : tie.Need-same-length Inv-loop μ-loop
 same-length c = search needs
 
--- src/columns.rt:20:1
 returns : tie.Need-returns Inv-loop μ-loop
 returns c = copy-all _ _ _ _ _ _ _ (c .loop-test .left) (c .before .loop .inv)
 

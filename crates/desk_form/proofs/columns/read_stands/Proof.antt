@@ -23,13 +23,20 @@ abbrev μ-loop : tie.MeasureT-loop
 μ-loop input at stands text₀ starts₀ east₀ north₀ score₀ bytes₀ next₀ i₀ text starts east north score bytes next i =
     stands - i
 
-room : (c : tie.At-loop Inv-loop μ-loop) → let a = c .before .before .before .before .before .args in RoomFor (a .input .now) (a .at) (a .stands) (tableOf (a .text .now) (set (a .starts .now) 0 0) (a .east .now) (a .north .now) (a .score .now))
+room : (c : tie.At-loop Inv-loop μ-loop) →
+    let a = c .before .before .before .before .before .args in
+    RoomFor (a .input .now) (a .at) (a .stands) (tableOf (a .text .now) (set (a .starts .now) 0 0) (a .east .now) (a .north .now) (a .score .now))
 room c = with-first _ _ _ _ _ _ _ _ (c .before .before .before .before .before .pre)
 
-long : (c : tie.At-loop Inv-loop μ-loop) → let a = c .before .before .before .before .before .args in SameLong (tableOf (c .loop .text) (c .loop .starts) (c .loop .east) (c .loop .north) (c .loop .score)) (tableOf (a .text .now) (set (a .starts .now) 0 0) (a .east .now) (a .north .now) (a .score .now))
+long : (c : tie.At-loop Inv-loop μ-loop) →
+    let a = c .before .before .before .before .before .args in
+    SameLong (tableOf (c .loop .text) (c .loop .starts) (c .loop .east) (c .loop .north) (c .loop .score)) (tableOf (a .text .now) (set (a .starts .now) 0 0) (a .east .now) (a .north .now) (a .score .now))
 long c = lay-long _ _ _ _ _ _ _ _ (room c) (c .loop .inv)
 
-there : (c : tie.After-known-told Inv-loop μ-loop) → let a = c .before .before .before .before .before .before .before .before .before .before .args in let s = c .before .from .given .0 in StandReached (a .input .now) (standLines (drop (c .before .before .before .before .before .loop .next) (a .input .now))) (s .0) (s .1 .0) (s .1 .1 .0) (s .1 .1 .1 .0) (s .1 .1 .1 .1 .0) (s .1 .1 .1 .1 .1 .0)
+there : (c : tie.After-known-told Inv-loop μ-loop) →
+    let a = c .before .before .before .before .before .before .before .before .before .before .args in
+    let s = c .before .from .given .0 in
+    StandReached (a .input .now) (standLines (drop (c .before .before .before .before .before .loop .next) (a .input .now))) (s .0) (s .1 .0) (s .1 .1 .0) (s .1 .1 .1 .0) (s .1 .1 .1 .1 .0) (s .1 .1 .1 .1 .1 .0)
 there c = rw (c .before .from .given .1) at (c .before .before .before .read-stand .ensures)
 
 east-fits : (c : tie.After-known-told Inv-loop μ-loop) → SFits w32 (c .before .from .given .0 .1 .1 .0)
@@ -38,87 +45,68 @@ east-fits c = search needs
 north-fits : (c : tie.After-known-told Inv-loop μ-loop) → SFits w32 (c .before .from .given .0 .1 .1 .1 .0)
 north-fits c = search needs
 
--- src/columns.rt:65:5
 slice-write-starts : tie.Need-slice-write-starts Inv-loop μ-loop
 slice-write-starts c = search needs
 
--- src/columns.rt:69:5
 loop-holds : tie.Need-loop-holds Inv-loop μ-loop
 loop-holds c =
     let a = c .before .before .before .before .args in
     lay-none _ _ _ _ (with-first _ _ _ _ _ _ _ _ (c .before .before .before .before .pre)) (first-start (a .starts .now) (omega (arith, c .before .before .before .before .pre .starts)))
 
--- src/columns.rt:70:94
 read-stand-requires : tie.Need-read-stand-requires Inv-loop μ-loop
 read-stand-requires c κs = c .before .loop .inv .within
 
--- src/columns.rt:70:32
 enum-known-from : tie.Need-enum-known-from Inv-loop μ-loop
 enum-known-from c = search needs
 
--- src/columns.rt:71:13
 enum-told : tie.Need-enum-told Inv-loop μ-loop
 enum-told c = search needs
 
--- src/columns.rt:71:13
 same-length : tie.Need-same-length Inv-loop μ-loop
 same-length c = long (c .before .before .before .before) .text
 
--- src/columns.rt:71:13
 same-length-2 : tie.Need-same-length-2 Inv-loop μ-loop
 same-length-2 c = long (c .before .before .before .before) .starts ∙ length-set {A = ℕ} (c .before .before .before .before .before .before .before .before .before .args .starts .now) 0 0
 
--- src/columns.rt:71:13
 same-length-3 : tie.Need-same-length-3 Inv-loop μ-loop
 same-length-3 c = long (c .before .before .before .before) .east
 
--- src/columns.rt:71:13
 same-length-4 : tie.Need-same-length-4 Inv-loop μ-loop
 same-length-4 c = long (c .before .before .before .before) .north
 
--- src/columns.rt:71:13
 same-length-5 : tie.Need-same-length-5 Inv-loop μ-loop
 same-length-5 c = long (c .before .before .before .before) .score
 
--- src/columns.rt:71:13
 returns : tie.Need-returns Inv-loop μ-loop
 returns c = no-stand _ _ _ _ _ _ _ _ (c .before .before .before .loop-test .taken) (rw (c .enum-told .given .1) at (c .before .before .read-stand .ensures)) (c .before .before .before .before .loop .inv)
 
--- src/columns.rt:73:9
 lay-bytes-requires : tie.Need-lay-bytes-requires Inv-loop μ-loop
 lay-bytes-requires c κs =
     let now = c .before .before .before .before .before .before in
     let s = there (c .before) in
     (s .forward, s .inside, omega (arith, grows _ _ _ _ _ _ _ _ _ _ _ _ _ _ s (now .loop .inv), long now .text, room now .text))
 
--- src/columns.rt:74:18
 sub-bytes : tie.Need-sub-bytes Inv-loop μ-loop
 sub-bytes c = there (c .before .before .before .before) .forward
 
--- src/columns.rt:74:9
 add-bytes : tie.Need-add-bytes Inv-loop μ-loop
 add-bytes c = omega (arith, grows _ _ _ _ _ _ _ _ _ _ _ _ _ _ (there (c .before .before .before .before)) (c .before .before .before .before .before .before .before .before .before .loop .inv), room (c .before .before .before .before .before .before .before .before .before) .short)
 
--- src/columns.rt:75:24
 cast-lay-numbers : tie.Need-cast-lay-numbers Inv-loop μ-loop
 cast-lay-numbers c = omega (arith, grows _ _ _ _ _ _ _ _ _ _ _ _ _ _ (there (c .before .before .before .before)) (c .before .before .before .before .before .before .before .before .before .loop .inv), room (c .before .before .before .before .before .before .before .before .before) .short)
 
--- src/columns.rt:75:9
 lay-numbers-requires : tie.Need-lay-numbers-requires Inv-loop μ-loop
 lay-numbers-requires c κs =
     let now = c .before .before .before .before .before .before .before .before .before .before .before .before .before in
     let h = c .before .before .before .before .before .before .before .before .before .before .before .before .loop-test .taken in
     (omega (arith, long now .starts, room now .starts), omega (arith, long now .east, room now .east), omega (arith, long now .north, room now .north), omega (arith, long now .score, room now .score))
 
--- src/columns.rt:77:9
 add-i : tie.Need-add-i Inv-loop μ-loop
 add-i c = omega (arith, c .before .before .before .before .before .before .before .before .before .before .before .before .before .before .before .before .before .before .before .loop-test .taken, c .before .before .before .before .before .before .before .before .before .before .before .before .before .before .before .before .before .before .before .before .before .before .before .before .before .fits .stands)
 
--- src/columns.rt:69:5
 loop-less : tie.Need-loop-less Inv-loop μ-loop
 loop-less c = omega arith
 
--- src/columns.rt:69:5
 loop-again : tie.Need-loop-again Inv-loop μ-loop
 loop-again c =
     let named = c .before .before .before .before .before .before .before .before .before .before .before .before .before .lay-bytes in
@@ -128,27 +116,21 @@ loop-again c =
     let now = c .before .before .before .before .before .before .before .before .before .before .before .before .before .before .before .before .before .before .before .before in
     lay-one _ _ _ _ _ _ _ _ _ _ _ _ _ _ (there at) (now .loop .inv) (room now) (c .before .before .before .before .before .before .before .before .before .before .before .before .before .before .before .before .before .before .before .loop-test .taken) _ _ _ _ _ (named .ensures) (put .ensures .0) (put .ensures .1 ∙ arrives (set (now .loop .east) (now .loop .i)) (read .1 .1 .0) (east-fits at)) (put .ensures .2 ∙ arrives (set (now .loop .north) (now .loop .i)) (read .1 .1 .1 .0) (north-fits at)) (put .ensures .3)
 
--- src/columns.rt:52:1
 same-length-6 : tie.Need-same-length-6 Inv-loop μ-loop
 same-length-6 c = long (c .before) .text
 
--- src/columns.rt:52:1
 same-length-7 : tie.Need-same-length-7 Inv-loop μ-loop
 same-length-7 c = long (c .before) .starts ∙ length-set {A = ℕ} (c .before .before .before .before .before .before .args .starts .now) 0 0
 
--- src/columns.rt:52:1
 same-length-8 : tie.Need-same-length-8 Inv-loop μ-loop
 same-length-8 c = long (c .before) .east
 
--- src/columns.rt:52:1
 same-length-9 : tie.Need-same-length-9 Inv-loop μ-loop
 same-length-9 c = long (c .before) .north
 
--- src/columns.rt:52:1
 same-length-10 : tie.Need-same-length-10 Inv-loop μ-loop
 same-length-10 c = long (c .before) .score
 
--- src/columns.rt:52:1
 returns-2 : tie.Need-returns-2 Inv-loop μ-loop
 returns-2 c = from-entry _ _ _ _ _ _ _ _ _ _ (all-laid _ _ _ _ _ _ _ _ (c .loop-test .left) (c .before .loop .inv))
 

@@ -1,10 +1,8 @@
 -- `group::read_opening` reads the four lines of the grid in a row: each helper says what one of them left.
 -- Assumes nothing.
-use Prim.Native.Nat.{_+_}
-use native.Mathlib.Omega.{arith}
 use mir.Syntax.{w32}
 use mir.Facts.{toZ-ofZ}
-use lib.ListN.{length, drop}
+use lib.ListN.{drop}
 use borrow.Author.Needs.{needs}
 use Rattle.desk_line.specs.Writing.{ascii}
 use Rattle.desk_line.specs.Reads.{onward, signedLine, unsignedLine}
@@ -13,80 +11,73 @@ use Rattle.desk_line.specs.Says.{Reached}
 use Rattle.desk_form.proofs.group.read_opening.Statement.{statement}
 use Rattle.desk_form.proofs.group.read_opening.Tie as tie
 
-west : (c : tie.After-known-told) → Reached (c .before .before .before .before .before .before .args .input .now) (signedLine (ascii "west=") (c .before .before .before .before .before .before .args .input .now)) (c .before .west .given .0 .0) (c .before .west .given .0 .1 .0)
+west : (c : tie.After-known-told) →
+    let a = c .before .before .before .before .before .before .args in
+    Reached (a .input .now) (signedLine (ascii "west=") (a .input .now)) (c .before .west .given .0 .0) (c .before .west .given .0 .1 .0)
 west c = rw (c .before .west .given .1) at (c .before .before .before .signed-line .ensures)
 
-south : (c : tie.After-known-told2) → Reached (c .before .before .before .before .before .before .before .before .before .before .before .args .input .now) (signedLine (ascii "south=") (drop (c .before .before .before .before .before .before .west .given .0 .1 .0) (c .before .before .before .before .before .before .before .before .before .before .before .args .input .now))) (c .before .south .given .0 .0) (c .before .south .given .0 .1 .0)
+south : (c : tie.After-known-told2) →
+    let a = c .before .before .before .before .before .before .before .before .before .before .before .args in
+    Reached (a .input .now) (signedLine (ascii "south=") (drop (c .before .before .before .before .before .before .west .given .0 .1 .0) (a .input .now))) (c .before .south .given .0 .0) (c .before .south .given .0 .1 .0)
 south c = rw (c .before .south .given .1) at (c .before .before .before .signed-line2 .ensures)
 
-cell : (c : tie.After-known-told3) → Reached (c .before .before .before .before .before .before .before .before .before .before .before .before .before .before .before .before .args .input .now) (unsignedLine 65535 (ascii "cell=") (drop (c .before .before .before .before .before .before .south .given .0 .1 .0) (c .before .before .before .before .before .before .before .before .before .before .before .before .before .before .before .before .args .input .now))) (c .before .cell .given .0 .0) (c .before .cell .given .0 .1 .0)
+cell : (c : tie.After-known-told3) →
+    let a = c .before .before .before .before .before .before .before .before .before .before .before .before .before .before .before .before .args in
+    Reached (a .input .now) (unsignedLine 65535 (ascii "cell=") (drop (c .before .before .before .before .before .before .south .given .0 .1 .0) (a .input .now))) (c .before .cell .given .0 .0) (c .before .cell .given .0 .1 .0)
 cell c = rw (c .before .cell .given .1) at (c .before .before .before .unsigned-line .ensures)
 
-stands : (c : tie.After-known-told4) → Reached (c .before .before .before .before .before .before .before .before .before .before .before .before .before .before .before .before .before .before .before .before .before .args .input .now) (unsignedLine 64 (ascii "stands=") (drop (c .before .before .before .before .before .before .cell .given .0 .1 .0) (c .before .before .before .before .before .before .before .before .before .before .before .before .before .before .before .before .before .before .before .before .before .args .input .now))) (c .before .stands .given .0 .0) (c .before .stands .given .0 .1 .0)
+stands : (c : tie.After-known-told4) →
+    let a = c .before .before .before .before .before .before .before .before .before .before .before .before .before .before .before .before .before .before .before .before .before .args in
+    Reached (a .input .now) (unsignedLine 64 (ascii "stands=") (drop (c .before .before .before .before .before .before .cell .given .0 .1 .0) (a .input .now))) (c .before .stands .given .0 .0) (c .before .stands .given .0 .1 .0)
 stands c = rw (c .before .stands .given .1) at (c .before .before .before .unsigned-line2 .ensures)
 
--- src/group.rt:55:58
 slice-aggregate-signed-line : tie.Need-slice-aggregate-signed-line
 slice-aggregate-signed-line c = search needs
 
--- src/group.rt:55:36
 signed-line-requires : tie.Need-signed-line-requires
 signed-line-requires c κs = search needs
 
--- src/group.rt:55:24
 enum-known-west : tie.Need-enum-known-west
 enum-known-west c = search needs
 
--- src/group.rt:56:9
 enum-told : tie.Need-enum-told
 enum-told c = search needs
 
--- src/group.rt:56:9
 returns : tie.Need-returns
 unfolding gridLines onward
 returns c =
     rw (rw (c .enum-told .given .1) at (c .before .before .signed-line .ensures))
 
--- src/group.rt:58:60
 slice-aggregate-signed-line-2 : tie.Need-slice-aggregate-signed-line-2
 slice-aggregate-signed-line-2 c = search needs
 
--- src/group.rt:58:37
 signed-line-requires-2 : tie.Need-signed-line-requires-2
 signed-line-requires-2 c κs = west (c .before) .within
 
--- src/group.rt:58:24
 enum-known-south : tie.Need-enum-known-south
 enum-known-south c = search needs
 
--- src/group.rt:59:9
 enum-told-2 : tie.Need-enum-told-2
 enum-told-2 c = search needs
 
--- src/group.rt:59:9
 returns-2 : tie.Need-returns-2
 unfolding gridLines onward
 returns-2 c =
     let at-west = c .before .before .before .before in
     rw (west at-west .is, rw (c .enum-told2 .given .1) at (c .before .before .signed-line2 .ensures))
 
--- src/group.rt:61:63
 slice-aggregate-unsigned-line : tie.Need-slice-aggregate-unsigned-line
 slice-aggregate-unsigned-line c = search needs
 
--- src/group.rt:61:38
 unsigned-line-requires : tie.Need-unsigned-line-requires
 unsigned-line-requires c κs = south (c .before) .within
 
--- src/group.rt:61:26
 enum-known-cell : tie.Need-enum-known-cell
 enum-known-cell c = search needs
 
--- src/group.rt:62:9
 enum-told-3 : tie.Need-enum-told-3
 enum-told-3 c = search needs
 
--- src/group.rt:62:9
 returns-3 : tie.Need-returns-3
 unfolding gridLines onward
 returns-3 c =
@@ -94,23 +85,18 @@ returns-3 c =
     let at-west = at-south .before .before .before .before .before in
     rw (west at-west .is, south at-south .is, rw (c .enum-told3 .given .1) at (c .before .before .unsigned-line .ensures))
 
--- src/group.rt:64:65
 slice-aggregate-unsigned-line-2 : tie.Need-slice-aggregate-unsigned-line-2
 slice-aggregate-unsigned-line-2 c = search needs
 
--- src/group.rt:64:40
 unsigned-line-requires-2 : tie.Need-unsigned-line-requires-2
 unsigned-line-requires-2 c κs = cell (c .before) .within
 
--- src/group.rt:64:26
 enum-known-stands : tie.Need-enum-known-stands
 enum-known-stands c = search needs
 
--- src/group.rt:65:9
 enum-told-4 : tie.Need-enum-told-4
 enum-told-4 c = search needs
 
--- src/group.rt:65:9
 returns-4 : tie.Need-returns-4
 unfolding gridLines onward
 returns-4 c =
@@ -119,7 +105,6 @@ returns-4 c =
     let at-west = at-south .before .before .before .before .before in
     rw (west at-west .is, south at-south .is, cell at-cell .is, rw (c .enum-told4 .given .1) at (c .before .before .unsigned-line2 .ensures))
 
--- src/group.rt:52:1
 returns-5 : tie.Need-returns-5
 unfolding gridLines onward
 returns-5 c =

@@ -1,161 +1,84 @@
--- `group::read_stand` reads the four lines of a stand in a row: each helper says what one of them left.
+-- `group::read_stand` reads a heading and a score in a row: each helper says what one of them left.
 -- Assumes nothing.
 use Prim.Native.Nat.{_+_}
-use native.Mathlib.Omega.{arith}
 use mir.Syntax.{w32}
 use mir.Facts.{toZ-ofZ}
 use lib.ListN.{length, drop}
 use borrow.Author.Needs.{needs}
 use Rattle.desk_line.specs.Writing.{ascii}
-use Rattle.desk_line.specs.Reads.{onward, bytesLine, signedLine, unsignedLine}
-use Rattle.desk_form.specs.Reads.{standLines}
-use Rattle.desk_line.specs.Says.{Reached, PartReached}
+use Rattle.desk_line.specs.Reads.{onward, unsignedLine}
+use Rattle.desk_form.specs.Reads.{headingLines, standLines}
+use Rattle.desk_line.specs.Says.{Reached}
+use Rattle.desk_form.specs.Says.{HeadingReached}
 use Rattle.desk_form.proofs.group.read_stand.Statement.{statement}
 use Rattle.desk_form.proofs.group.read_stand.Tie as tie
 
-name : (c : tie.After-known-told) → PartReached (c .before .before .before .before .before .before .args .input .now) (c .before .before .before .before .before .before .args .at + length (ascii "name=")) (bytesLine (ascii "name=") (drop (c .before .before .before .before .before .before .args .at) (c .before .before .before .before .before .before .args .input .now))) (c .before .from .given .0 .0) (c .before .from .given .0 .1 .0)
-name c = rw (c .before .from .given .1) at (c .before .before .before .bytes-line .ensures)
+heading : (c : tie.After-known-told) →
+    let a = c .before .before .before .before .before .before .args in
+    let h = c .before .from .given .0 in
+    HeadingReached (a .input .now) (a .at + length (ascii "name=")) (headingLines (ascii "name=") (drop (a .at) (a .input .now))) (h .0) (h .1 .0) (h .1 .1 .0) (h .1 .1 .1 .0) (h .1 .1 .1 .1 .0)
+heading c = rw (c .before .from .given .1) at (c .before .before .before .read-heading .ensures)
 
-east : (c : tie.After-known-told2) → Reached (c .before .before .before .before .before .before .before .before .before .before .before .args .input .now) (signedLine (ascii "east=") (drop (c .before .before .before .before .before .before .from .given .0 .1 .0 + 1) (c .before .before .before .before .before .before .before .before .before .before .before .args .input .now))) (c .before .east .given .0 .0) (c .before .east .given .0 .1 .0)
-east c = rw (c .before .east .given .1) at (c .before .before .before .signed-line .ensures)
-
-north : (c : tie.After-known-told3) → Reached (c .before .before .before .before .before .before .before .before .before .before .before .before .before .before .before .before .args .input .now) (signedLine (ascii "north=") (drop (c .before .before .before .before .before .before .east .given .0 .1 .0) (c .before .before .before .before .before .before .before .before .before .before .before .before .before .before .before .before .args .input .now))) (c .before .north .given .0 .0) (c .before .north .given .0 .1 .0)
-north c = rw (c .before .north .given .1) at (c .before .before .before .signed-line2 .ensures)
-
-score : (c : tie.After-known-told4) → Reached (c .before .before .before .before .before .before .before .before .before .before .before .before .before .before .before .before .before .before .before .before .before .args .input .now) (unsignedLine 65535 (ascii "score=") (drop (c .before .before .before .before .before .before .north .given .0 .1 .0) (c .before .before .before .before .before .before .before .before .before .before .before .before .before .before .before .before .before .before .before .before .before .args .input .now))) (c .before .score .given .0 .0) (c .before .score .given .0 .1 .0)
+score : (c : tie.After-known-told2) →
+    let a = c .before .before .before .before .before .before .before .before .before .before .before .args in
+    Reached (a .input .now) (unsignedLine 65535 (ascii "score=") (drop (c .before .before .before .before .before .before .from .given .0 .1 .1 .1 .1 .0) (a .input .now))) (c .before .score .given .0 .0) (c .before .score .given .0 .1 .0)
 score c = rw (c .before .score .given .1) at (c .before .before .before .unsigned-line .ensures)
 
--- src/group.rt:78:57
-slice-aggregate-bytes-line : tie.Need-slice-aggregate-bytes-line
-slice-aggregate-bytes-line c = search needs
+slice-aggregate-read-heading : tie.Need-slice-aggregate-read-heading
+slice-aggregate-read-heading c = search needs
 
--- src/group.rt:78:35
-bytes-line-requires : tie.Need-bytes-line-requires
-bytes-line-requires c κs = search needs
+read-heading-requires : tie.Need-read-heading-requires
+read-heading-requires c κs = search needs
 
--- src/group.rt:78:21
 enum-known-from : tie.Need-enum-known-from
 enum-known-from c = search needs
 
--- src/group.rt:79:9
 enum-told : tie.Need-enum-told
 enum-told c = search needs
 
--- src/group.rt:79:9
 returns : tie.Need-returns
 unfolding standLines onward
-returns c =
-    rw (rw (c .enum-told .given .1) at (c .before .before .bytes-line .ensures))
+returns c = rw (rw (c .enum-told .given .1) at (c .before .before .read-heading .ensures))
 
--- src/group.rt:81:55
-add-signed-line : tie.Need-add-signed-line
-add-signed-line c = omega (arith, name c .reached .within, c .before .before .before .before .before .before .good .0)
-
--- src/group.rt:81:65
-slice-aggregate-signed-line : tie.Need-slice-aggregate-signed-line
-slice-aggregate-signed-line c = search needs
-
--- src/group.rt:81:36
-signed-line-requires : tie.Need-signed-line-requires
-signed-line-requires c κs = name (c .before) .reached .within
-
--- src/group.rt:81:24
-enum-known-east : tie.Need-enum-known-east
-enum-known-east c = search needs
-
--- src/group.rt:82:9
-enum-told-2 : tie.Need-enum-told-2
-enum-told-2 c = search needs
-
--- src/group.rt:82:9
-returns-2 : tie.Need-returns-2
-unfolding standLines onward
-returns-2 c =
-    let at-name = c .before .before .before .before in
-    rw (name at-name .reached .is, rw (c .enum-told2 .given .1) at (c .before .before .signed-line .ensures))
-
--- src/group.rt:84:60
-slice-aggregate-signed-line-2 : tie.Need-slice-aggregate-signed-line-2
-slice-aggregate-signed-line-2 c = search needs
-
--- src/group.rt:84:37
-signed-line-requires-2 : tie.Need-signed-line-requires-2
-signed-line-requires-2 c κs = east (c .before) .within
-
--- src/group.rt:84:24
-enum-known-north : tie.Need-enum-known-north
-enum-known-north c = search needs
-
--- src/group.rt:85:9
-enum-told-3 : tie.Need-enum-told-3
-enum-told-3 c = search needs
-
--- src/group.rt:85:9
-returns-3 : tie.Need-returns-3
-unfolding standLines onward
-returns-3 c =
-    let at-east = c .before .before .before .before in
-    let at-name = at-east .before .before .before .before .before in
-    rw (name at-name .reached .is, east at-east .is, rw (c .enum-told3 .given .1) at (c .before .before .signed-line2 .ensures))
-
--- src/group.rt:87:64
 slice-aggregate-unsigned-line : tie.Need-slice-aggregate-unsigned-line
 slice-aggregate-unsigned-line c = search needs
 
--- src/group.rt:87:39
 unsigned-line-requires : tie.Need-unsigned-line-requires
-unsigned-line-requires c κs = north (c .before) .within
+unsigned-line-requires c κs = heading (c .before) .reached .within
 
--- src/group.rt:87:26
 enum-known-score : tie.Need-enum-known-score
 enum-known-score c = search needs
 
--- src/group.rt:88:9
-enum-told-4 : tie.Need-enum-told-4
-enum-told-4 c = search needs
+enum-told-2 : tie.Need-enum-told-2
+enum-told-2 c = search needs
 
--- src/group.rt:88:9
-returns-4 : tie.Need-returns-4
+returns-2 : tie.Need-returns-2
 unfolding standLines onward
-returns-4 c =
-    let at-north = c .before .before .before .before in
-    let at-east = at-north .before .before .before .before .before in
-    let at-name = at-east .before .before .before .before .before in
-    rw (name at-name .reached .is, east at-east .is, north at-north .is, rw (c .enum-told4 .given .1) at (c .before .before .unsigned-line .ensures))
+returns-2 c =
+    let at-heading = c .before .before .before .before in
+    rw (heading at-heading .reached .is, rw (c .enum-told2 .given .1) at (c .before .before .unsigned-line .ensures))
 
--- src/group.rt:74:1
-returns-5 : tie.Need-returns-5
+returns-3 : tie.Need-returns-3
 unfolding standLines onward
-returns-5 c =
-    let at-north = c .before .before .before .before .before in
-    let at-east = at-north .before .before .before .before .before in
-    let at-name = at-east .before .before .before .before .before in
-    rw (toZ-ofZ {w = w32} {z = at-east .before .east .given .0 .0} (search needs), toZ-ofZ {w = w32} {z = at-north .before .north .given .0 .0} (search needs))
-    (record { forward = name at-name .forward; inside = omega (arith, name at-name .reached .within); reached = record { within = score c .within; is = rw (name at-name .reached .is, east at-east .is, north at-north .is, score c .is) } })
+returns-3 c =
+    let at-heading = c .before .before .before .before .before in
+    let h = heading at-heading in
+    let z = at-heading .before .from .given .0 .1 .1 in
+    rw (toZ-ofZ {w = w32} {z = z .0} (search needs), toZ-ofZ {w = w32} {z = z .1 .0} (search needs))
+    (record { forward = h .forward; inside = h .inside; reached = record { within = score c .within; is = rw (h .reached .is, score c .is) } })
 
 pub read-stand-spec : {M : Type 1} → statement M
 read-stand-spec =
     tie.close
     (tie.spec
-    slice-aggregate-bytes-line
-    bytes-line-requires
+    slice-aggregate-read-heading
+    read-heading-requires
     enum-known-from
     enum-told
     returns
-    add-signed-line
-    slice-aggregate-signed-line
-    signed-line-requires
-    enum-known-east
-    enum-told-2
-    returns-2
-    slice-aggregate-signed-line-2
-    signed-line-requires-2
-    enum-known-north
-    enum-told-3
-    returns-3
     slice-aggregate-unsigned-line
     unsigned-line-requires
     enum-known-score
-    enum-told-4
-    returns-4
-    returns-5)
+    enum-told-2
+    returns-2
+    returns-3)

@@ -25,16 +25,22 @@ columns-of s = let a = s .args in columnsOf (a .text .now) (a .starts .now) (a .
 abbrev buffers-of : tie.Start → Index
 buffers-of s = let a = s .args in indexOf (a .order .now) (a .nodes .now) (a .entries .now)
 
-room : (c : tie.Else1) → Roomy (columns-of (c .before .before .before .before .before .before .before .before .before .before .before .before .before)) (buffers-of (c .before .before .before .before .before .before .before .before .before .before .before .before .before))
+abbrev start : tie.Else1 → tie.Start
+start c = c .before .before .before .before .before .before .before .before .before .before .before .before .before
+
+room : (c : tie.Else1) → Roomy (columns-of (start c)) (buffers-of (start c))
 room c =
-    roomy (columns-of (c .before .before .before .before .before .before .before .before .before .before .before .before .before)) (buffers-of (c .before .before .before .before .before .before .before .before .before .before .before .before .before)) _ _
+    roomy (columns-of (start c)) (buffers-of (start c)) _ _
     (c .before .before .before .count-nodes .ensures) (c .before .before .count-entries .ensures) _ (c .before .too-small .ensures) (c .if1 .left)
 
 put-order-requires : tie.Need-put-order-requires
-put-order-requires c κs = (c .before .before .before .before .before .before .before .before .before .before .before .before .before .before .pre .placed, room (c .before) .for-order)
+put-order-requires c κs = (start (c .before) .pre .placed, room (c .before) .for-order)
 
 write-requires : tie.Need-write-requires
-write-requires c κs = let r = room (c .before .before .before .before .before .before) in (c .before .before .before .before .before .before .before .before .before .before .before .before .before .before .before .before .before .before .before .pre, c .before .before .before .before .before .before .before .before .before .count-nodes .ensures, r .for-nodes, r .for-entries)
+write-requires c κs =
+    let s = c .before .before .before .before .before .before in
+    let r = room s in
+    (start s .pre, s .before .before .before .count-nodes .ensures, r .for-nodes, r .for-entries)
 
 same-length : tie.Need-same-length
 same-length c = search needs
@@ -47,7 +53,8 @@ same-length-3 c = search needs
 
 returns-2 : tie.Need-returns-2
 returns-2 c =
-    wrote _ _ _ _ (c .before .before .before .before .before .before .before .before .before .before .before .before .before .before .count-nodes .ensures) (c .before .before .before .before .before .before .before .before .before .before .before .before .before .count-entries .ensures) _ (c .before .before .before .before .before .before .before .before .before .before .before .before .too-small .ensures) (c .before .before .before .before .before .before .before .before .before .before .before .if1 .left) _ _ _
+    let s = c .before .before .before .before .before .before .before .before .before .before .before in
+    wrote _ _ _ _ (s .before .before .before .count-nodes .ensures) (s .before .before .count-entries .ensures) _ (s .before .too-small .ensures) (s .if1 .left) _ _ _
     (c .before .before .before .before .before .before .before .before .before .put-order .ensures) (c .before .before .before .before .write .ensures .0) (c .before .before .before .before .write .ensures .1)
 
 pub put-index-spec : {M : Type 1} → statement M

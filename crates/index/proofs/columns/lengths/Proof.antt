@@ -1,7 +1,7 @@
 -- `columns::lengths` fills the column of the names' lengths: the invariant is Filled.
 -- Assumes nothing.
 use Prim.Native.Nat.{_-_}
-use mathlib.Core.Path.{_≡_, ap, _∙_}
+use mathlib.Core.Path.{ap}
 use lib.ListN.{length}
 use Rattle.index.specs.Columns.{lengthIn}
 use Rattle.index.proofs.Filling.{Filled, filled, filled-more, filled-end}

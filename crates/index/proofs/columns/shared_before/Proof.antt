@@ -1,10 +1,9 @@
 -- `columns::shared_before` asks for what two names share, but before the first name there is none.
 -- Assumes nothing.
 use native.Mathlib.Omega.{arith}
-use mathlib.Core.Path.{_≡_, ap, _∙_}
+use mathlib.Core.Path.{_≡_, _∙_}
 use Rattle.base.specs.Lists.{sharedLength}
 use Rattle.base.proofs.Tests.{ap2}
-use Rattle.rules.specs.Names.{name}
 use Rattle.index.specs.Columns.{sharedIn}
 use Rattle.index.proofs.ByStand.{shared-first, shared-later, shared-short}
 use borrow.Author.Needs.{needs}

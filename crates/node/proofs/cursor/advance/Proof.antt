@@ -2,7 +2,6 @@
 use borrow.Author.Needs.{needs}
 use native.Mathlib.Omega.{arith}
 use Prim.Native.Nat.{_<_}
-use lib.ListN.{length}
 use Rattle.node.proofs.Ends.{length-short}
 use Rattle.node.proofs.Steps.{advanced}
 use Rattle.node.proofs.cursor.advance.Statement.{statement}
@@ -10,7 +9,7 @@ use Rattle.node.proofs.cursor.advance.Tie as tie
 
 -- a name's length is a place of the path
 length-room : (c : tie.After-wide) → c .wide .result < 25
-length-room c = omega (arith, c .before .before .before .before .pre .3 .long, length-short _ _ (c .before .before .before .before .pre .0) (c .before .before .before .before .args .c .stand), c .wide .ensures)
+length-room c = let s = c .before .before .before .before in omega (arith, s .pre .3 .long, length-short _ _ (s .pre .0) (s .args .c .stand), c .wide .ensures)
 
 wide-requires : tie.Need-wide-requires
 wide-requires c κs = search needs
@@ -22,13 +21,18 @@ element-write-path : tie.Need-element-write-path
 element-write-path c = length-room c
 
 step-requires : tie.Need-step-requires
-step-requires c κs = (c .before .before .before .before .pre .0, c .before .before .before .before .pre .3, c .before .before .before .before .pre .4, c .before .before .before .before .pre .5)
+step-requires c κs = let p = c .before .before .before .before .pre in (p .0, p .3, p .4, p .5)
 
 pass-requires : tie.Need-pass-requires
-pass-requires c κs = (c .before .before .before .before .before .before .pre .1, c .before .step .ensures .after, omega (arith, c .before .step .ensures .within, c .before .before .before .before .before .before .pre .2), c .before .before .before .before .before .before .pre .6)
+pass-requires c κs =
+    let p = c .before .before .before .before .before .before .pre in
+    (p .1, c .before .step .ensures .after, omega (arith, c .before .step .ensures .within, p .2), p .6)
 
 returns : tie.Need-returns
-returns c = advanced _ _ (c .before .before .before .before .before .before .before .pre .0) _ _ (c .before .before .before .before .before .before .before .args .path .now) (c .before .before .before .before .before .before .before .args .c) _ _ _ (c .before .before .before .before .before .before .before .pre .3) (c .before .before .before .before .before .before .before .pre .7) (c .before .before .before .before .before .before .before .pre .8) (c .before .before .before .wide .ensures) (c .before .before .step .ensures) (c .pass .ensures)
+returns c =
+    let s = c .before .before .before .before .before .before .before in
+    let p = s .pre in
+    advanced _ _ (p .0) _ _ (s .args .path .now) (s .args .c) _ _ _ (p .3) (p .7) (p .8) (c .before .before .before .wide .ensures) (c .before .before .step .ensures) (c .pass .ensures)
 
 pub advance-spec : {M : Type 1} → statement M
 advance-spec =

@@ -41,7 +41,9 @@ has-words-requires : tie.Need-has-words-requires Inv-loop μ-loop
 has-words-requires c κs = (omega arith, omega (arith, ap length (c .before .entry-row .ensures)))
 
 returns : tie.Need-returns Inv-loop μ-loop
-returns c = slots-not _ _ _ _ _ (c .before .before .before .before .before .before .before .before .pre .0) (c .before .before .before .before .before .before .before .before .pre .1) _ _ _ (c .before .before .before .before .before .before .loop .inv) _ (c .before .before .before .before .before .loop-test .taken) (c .before .before .before .entry-row .ensures) (breaks _ _ (c .before .has-words .ensures) (c .if1 .taken))
+returns c =
+    let p = c .before .before .before .before .before .before .before .before .pre in
+    slots-not _ _ _ _ _ (p .0) (p .1) _ _ _ (c .before .before .before .before .before .before .loop .inv) _ (c .before .before .before .before .before .loop-test .taken) (c .before .before .before .entry-row .ensures) (breaks _ _ (c .before .has-words .ensures) (c .if1 .taken))
 
 add-k : tie.Need-add-k Inv-loop μ-loop
 add-k c = search needs
@@ -50,7 +52,9 @@ loop-less : tie.Need-loop-less Inv-loop μ-loop
 loop-less c = search needs
 
 loop-again : tie.Need-loop-again Inv-loop μ-loop
-loop-again c = slots-same _ _ _ _ _ (c .before .before .before .before .before .before .before .before .pre .0) (c .before .before .before .before .before .before .before .before .pre .1) _ _ _ (c .before .before .before .before .before .before .loop .inv) _ (c .before .before .before .before .before .loop-test .taken) (c .before .before .before .entry-row .ensures) (holds _ _ (c .before .has-words .ensures) (c .if1 .left))
+loop-again c =
+    let p = c .before .before .before .before .before .before .before .before .pre in
+    slots-same _ _ _ _ _ (p .0) (p .1) _ _ _ (c .before .before .before .before .before .before .loop .inv) _ (c .before .before .before .before .before .loop-test .taken) (c .before .before .before .entry-row .ensures) (holds _ _ (c .before .has-words .ensures) (c .if1 .left))
 
 returns-2 : tie.Need-returns-2 Inv-loop μ-loop
 returns-2 c = slots-all _ _ _ _ _ (c .before .before .before .pre .0) (c .before .before .before .pre .1) _ _ _ (c .before .loop .inv) (c .loop-test .left)

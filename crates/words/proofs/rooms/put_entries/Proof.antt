@@ -46,7 +46,9 @@ loop-less : tie.Need-loop-less Inv-loop μ-loop
 loop-less c = search needs
 
 loop-again : tie.Need-loop-again Inv-loop μ-loop
-loop-again c = slots-more _ _ _ _ _ (c .before .before .before .before .before .before .before .before .before .before .pre .0) (c .before .before .before .before .before .before .before .before .before .before .pre .1) _ _ _ _ _ _ (c .before .before .before .before .before .before .before .before .before .before .pre .3) (c .before .before .before .before .before .before .before .before .loop .inv) (c .before .before .before .before .before .before .before .loop-test .taken) (c .before .before .before .before .before .entry-row .ensures) (c .before .before .put-words .ensures)
+loop-again c =
+    let p = c .before .before .before .before .before .before .before .before .before .before .pre in
+    slots-more _ _ _ _ _ (p .0) (p .1) _ _ _ _ _ _ (p .3) (c .before .before .before .before .before .before .before .before .loop .inv) (c .before .before .before .before .before .before .before .loop-test .taken) (c .before .before .before .before .before .entry-row .ensures) (c .before .before .put-words .ensures)
 
 same-length : tie.Need-same-length Inv-loop μ-loop
 same-length c = c .before .loop .inv .size

@@ -2,63 +2,80 @@
 use borrow.Author.Needs.{needs}
 use native.Mathlib.Omega.{arith}
 use Rattle.base.proofs.Tests.{breaks, holds}
-use Rattle.words.proofs.Turns.{gather-asks, row-asks, row-size, row-now, advance-asks, row-differs, entries-differ, agrees}
+use Rattle.words.proofs.Turns.{gather-asks, row-asks, row-size, advance-asks, row-differs, entries-differ, agrees}
 use Rattle.words.proofs.turn.check_node.Statement.{statement}
 use Rattle.words.proofs.turn.check_node.Tie as tie
 
+-- the turn's beginning, from where the node is gathered
+abbrev start : tie.After-gather → tie.Start
+start c = c .before .before .before .before .before .before .before .before .before .before .before .before .before
+
 gather-requires : tie.Need-gather-requires
-gather-requires c κs = gather-asks _ (c .before .before .before .before .before .before .before .before .before .before .before .before .pre .0) _ _ _ _ _ _ (c .before .before .before .before .before .before .before .before .before .before .before .before .pre .1)
+gather-requires c κs = let p = c .before .before .before .before .before .before .before .before .before .before .before .before .pre in gather-asks (p .0) (p .1)
 
 row-requires : tie.Need-row-requires
-row-requires c κs = row-asks _ (c .before .before .before .before .before .before .before .before .before .before .before .before .before .before .pre .0) _ _ _ _ _ _ (c .before .before .before .before .before .before .before .before .before .before .before .before .before .before .pre .1) _ _ _ _ (c .before .gather .ensures)
+row-requires c κs = let p = start (c .before) .pre in row-asks (p .0) (p .1) (c .before .gather .ensures)
 
 cast-has-words : tie.Need-cast-has-words
 cast-has-words c = search needs
 
 mul-has-words : tie.Need-mul-has-words
-mul-has-words c = omega (arith, c .before .before .before .before .before .before .before .before .before .before .before .before .before .before .before .before .pre .1 .low)
+mul-has-words c = omega (arith, start (c .before .before .before) .pre .1 .low)
 
 slice-aggregate-has-words : tie.Need-slice-aggregate-has-words
 slice-aggregate-has-words c = search needs
 
 has-words-requires : tie.Need-has-words-requires
 has-words-requires c κs =
-    let s = c .before .before .before .before .before .before .before .before .before .before .before .before .before .before .before .before .before in
-    let g = c .before .before .before .before .gather .ensures in
-    (omega (arith, s .pre .1 .low), omega (arith, row-size _ (s .pre .0) _ _ _ _ _ _ (s .pre .1) _ _ _ _ g _ (c .before .before .row .ensures)))
+    let at-row = c .before .before in
+    let gathered = at-row .before .before in
+    let p = start gathered .pre in
+    (omega (arith, p .1 .low), omega (arith, row-size (p .0) (p .1) (gathered .gather .ensures) (at-row .row .ensures)))
 
 returns : tie.Need-returns
 returns c =
-    let s = c .before .before .before .before .before .before .before .before .before .before .before .before .before .before .before .before .before .before .before in
-    let g = c .before .before .before .before .before .before .gather .ensures in
-    row-differs _ (s .pre .0) _ _ _ _ _ _ (s .pre .1) _ _ _ _ g _ _ _ (row-now _ (s .pre .0) _ _ _ _ _ _ (s .pre .1) _ _ _ _ g _ (c .before .before .before .before .row .ensures)) _ _ (breaks _ _ (c .before .has-words .ensures) (c .if1 .taken))
+    let at-row = c .before .before .before .before in
+    let gathered = at-row .before .before in
+    let p = start gathered .pre in
+    row-differs (p .0) (p .1) (gathered .gather .ensures) (at-row .row .ensures) (breaks _ _ (c .before .has-words .ensures) (c .if1 .taken))
 
 cast-has-entries : tie.Need-cast-has-entries
 cast-has-entries c = search needs
 
 mul-has-entries : tie.Need-mul-has-entries
-mul-has-entries c = omega (arith, c .before .before .before .before .before .before .before .before .before .before .before .before .before .before .before .before .before .before .before .before .pre .1 .low, c .before .before .before .before .before .before .before .before .before .before .before .before .before .before .before .before .before .before .before .before .pre .1 .few)
+mul-has-entries c = let p = start (c .before .before .before .before .before .before .before) .pre in omega (arith, p .1 .low, p .1 .few)
 
 has-entries-requires : tie.Need-has-entries-requires
-has-entries-requires c κs = let g = c .before .before .before .before .before .before .before .before .before .before .before .gather .ensures in (g .ranked-size, g .few, g .small, omega (arith, c .before .before .before .before .before .before .before .before .before .before .before .before .before .before .before .before .before .before .before .before .before .before .before .before .pre .1 .low, c .before .before .before .before .before .before .before .before .before .before .before .before .before .before .before .before .before .before .before .before .before .before .before .before .pre .1 .few))
+has-entries-requires c κs =
+    let gathered = c .before .before .before .before .before .before .before .before .before .before .before in
+    let p = start gathered .pre in
+    let g = gathered .gather .ensures in
+    (g .ranked-size, g .few, g .small, omega (arith, p .1 .low, p .1 .few))
 
 returns-2 : tie.Need-returns-2
 returns-2 c =
-    let s = c .before .before .before .before .before .before .before .before .before .before .before .before .before .before .before .before .before .before .before .before .before .before .before .before .before .before in
-    let g = c .before .before .before .before .before .before .before .before .before .before .before .before .before .gather .ensures in
-    entries-differ _ (s .pre .0) _ _ _ _ _ _ (s .pre .1) _ _ _ _ g _ _ _ (row-now _ (s .pre .0) _ _ _ _ _ _ (s .pre .1) _ _ _ _ g _ (c .before .before .before .before .before .before .before .before .before .before .before .row .ensures)) _ _ (breaks _ _ (c .before .has-entries .ensures) (c .if2 .taken))
+    let gathered = c .before .before .before .before .before .before .before .before .before .before .before .before .before in
+    let p = start gathered .pre in
+    entries-differ (p .0) (p .1) (gathered .gather .ensures) (breaks _ _ (c .before .has-entries .ensures) (c .if2 .taken))
 
 cast-advance : tie.Need-cast-advance
 cast-advance c = search needs
 
 advance-requires : tie.Need-advance-requires
-advance-requires c κs = advance-asks _ (c .before .before .before .before .before .before .before .before .before .before .before .before .before .before .before .before .before .before .before .before .before .before .before .before .before .before .before .before .before .pre .0) _ _ _ _ _ _ (c .before .before .before .before .before .before .before .before .before .before .before .before .before .before .before .before .before .before .before .before .before .before .before .before .before .before .before .before .before .pre .1) _ _ _ _ (c .before .before .before .before .before .before .before .before .before .before .before .before .before .before .before .before .gather .ensures)
+advance-requires c κs =
+    let gathered = c .before .before .before .before .before .before .before .before .before .before .before .before .before .before .before .before in
+    let p = start gathered .pre in
+    advance-asks (p .0) (p .1) (gathered .gather .ensures)
 
 returns-3 : tie.Need-returns-3
 returns-3 c =
-    let s = c .before .before .before .before .before .before .before .before .before .before .before .before .before .before .before .before .before .before .before .before .before .before .before .before .before .before .before .before .before .before in
-    let g = c .before .before .before .before .before .before .before .before .before .before .before .before .before .before .before .before .before .gather .ensures in
-    agrees _ (s .pre .0) _ _ _ _ _ _ (s .pre .1) _ _ _ _ g _ _ _ (row-now _ (s .pre .0) _ _ _ _ _ _ (s .pre .1) _ _ _ _ g _ (c .before .before .before .before .before .before .before .before .before .before .before .before .before .before .before .row .ensures)) _ _ _ (holds _ _ (c .before .before .before .before .before .before .before .before .before .before .before .before .has-words .ensures) (c .before .before .before .before .before .before .before .before .before .before .before .if1 .left)) (holds _ _ (c .before .before .before .before .before .has-entries .ensures) (c .before .before .before .before .if2 .left)) (c .advance .ensures)
+    let at-entries = c .before .before .before .before in
+    let at-words = at-entries .before .before .before .before .before .before .before in
+    let at-row = at-words .before .before .before .before in
+    let gathered = at-row .before .before in
+    let p = start gathered .pre in
+    agrees (p .0) (p .1) (gathered .gather .ensures) (at-row .row .ensures)
+    (holds _ _ (at-words .before .has-words .ensures) (at-words .if1 .left)) (holds _ _ (at-entries .before .has-entries .ensures) (at-entries .if2 .left)) (c .advance .ensures)
 
 pub check-node-spec : {M : Type 1} → statement M
 check-node-spec =

@@ -1,15 +1,19 @@
 -- `words::turn::write_node` meets its contract, by those of the calls that it makes and the laws of proofs/Turns.antt. Assumes nothing.
 use borrow.Author.Needs.{needs}
 use native.Mathlib.Omega.{arith}
-use Rattle.words.proofs.Turns.{gather-asks, row-asks, row-size, row-now, count-now, advance-asks, moved, wrote}
+use Rattle.words.proofs.Turns.{gather-asks, row-asks, row-size, count-now, advance-asks, moved, wrote}
 use Rattle.words.proofs.turn.write_node.Statement.{statement}
 use Rattle.words.proofs.turn.write_node.Tie as tie
 
+-- the turn's beginning, from where the node is gathered
+abbrev start : tie.After-gather → tie.Start
+start c = c .before .before .before .before .before .before .before .before .before .before .before .before .before
+
 gather-requires : tie.Need-gather-requires
-gather-requires c κs = gather-asks _ (c .before .before .before .before .before .before .before .before .before .before .before .before .pre .0) _ _ _ _ _ _ (c .before .before .before .before .before .before .before .before .before .before .before .before .pre .1)
+gather-requires c κs = let p = c .before .before .before .before .before .before .before .before .before .before .before .before .pre in gather-asks (p .0) (p .1)
 
 row-requires : tie.Need-row-requires
-row-requires c κs = row-asks _ (c .before .before .before .before .before .before .before .before .before .before .before .before .before .before .pre .0) _ _ _ _ _ _ (c .before .before .before .before .before .before .before .before .before .before .before .before .before .before .pre .1) _ _ _ _ (c .before .gather .ensures)
+row-requires c κs = let p = start (c .before) .pre in row-asks (p .0) (p .1) (c .before .gather .ensures)
 
 cast-put-words : tie.Need-cast-put-words
 cast-put-words c = search needs
@@ -22,9 +26,10 @@ slice-aggregate-put-words c = search needs
 
 put-words-requires : tie.Need-put-words-requires
 put-words-requires c κs =
-    let s = c .before .before .before .before .before .before .before .before .before .before .before .before .before .before .before .before .before .before in
-    let g = c .before .before .before .before .before .gather .ensures in
-    omega (arith, s .pre .2 .row-room, row-size _ (s .pre .0) _ _ _ _ _ _ (s .pre .1) _ _ _ _ g _ (c .before .before .before .row .ensures))
+    let at-row = c .before .before .before in
+    let gathered = at-row .before .before in
+    let p = start gathered .pre in
+    omega (arith, p .2 .row-room, row-size (p .0) (p .1) (gathered .gather .ensures) (at-row .row .ensures))
 
 cast-put-entries : tie.Need-cast-put-entries
 cast-put-entries c = search needs
@@ -34,15 +39,19 @@ mul-put-entries c = search needs
 
 put-entries-requires : tie.Need-put-entries-requires
 put-entries-requires c κs =
-    let s = c .before .before .before .before .before .before .before .before .before .before .before .before .before .before .before .before .before .before .before .before .before .before .before .before .before .before .before in
-    let g = c .before .before .before .before .before .before .before .before .before .before .before .before .before .before .gather .ensures in
-    (g .ranked-size, g .few, g .small, omega (arith, s .pre .2 .entry-room, count-now _ (s .pre .0) _ _ _ _ _ _ (s .pre .1) _ _ _ _ g))
+    let gathered = c .before .before .before .before .before .before .before .before .before .before .before .before .before .before in
+    let p = start gathered .pre in
+    let g = gathered .gather .ensures in
+    (g .ranked-size, g .few, g .small, omega (arith, p .2 .entry-room, count-now (p .0) (p .1) g))
 
 cast-advance : tie.Need-cast-advance
 cast-advance c = search needs
 
 advance-requires : tie.Need-advance-requires
-advance-requires c κs = advance-asks _ (c .before .before .before .before .before .before .before .before .before .before .before .before .before .before .before .before .before .before .before .before .before .before .before .before .before .before .before .before .before .before .before .before .before .pre .0) _ _ _ _ _ _ (c .before .before .before .before .before .before .before .before .before .before .before .before .before .before .before .before .before .before .before .before .before .before .before .before .before .before .before .before .before .before .before .before .before .pre .1) _ _ _ _ (c .before .before .before .before .before .before .before .before .before .before .before .before .before .before .before .before .before .before .before .before .gather .ensures)
+advance-requires c κs =
+    let gathered = c .before .before .before .before .before .before .before .before .before .before .before .before .before .before .before .before .before .before .before .before in
+    let p = start gathered .pre in
+    advance-asks (p .0) (p .1) (gathered .gather .ensures)
 
 same-length : tie.Need-same-length
 same-length c = search needs
@@ -52,9 +61,13 @@ same-length-2 c = search needs
 
 returns : tie.Need-returns
 returns c =
-    let s = c .before .before .before .before .before .before .before .before .before .before .before .before .before .before .before .before .before .before .before .before .before .before .before .before .before .before .before .before .before .before .before .before .before .before in
-    let g = c .before .before .before .before .before .before .before .before .before .before .before .before .before .before .before .before .before .before .before .before .before .gather .ensures in
-    (moved _ (s .pre .0) _ _ _ _ _ _ (s .pre .1) _ _ _ _ g _ _ _ (c .advance .ensures), wrote _ (s .pre .0) _ _ _ _ _ _ (s .pre .1) _ _ _ _ g _ _ _ _ _ (row-now _ (s .pre .0) _ _ _ _ _ _ (s .pre .1) _ _ _ _ g _ (c .before .before .before .before .before .before .before .before .before .before .before .before .before .before .before .before .before .before .before .row .ensures)) (c .before .before .before .before .before .before .before .before .before .before .before .before .before .before .before .put-words .ensures) (c .before .before .before .before .before .before .put-entries .ensures))
+    let at-entries = c .before .before .before .before .before .before in
+    let at-words = at-entries .before .before .before .before .before .before .before .before .before in
+    let at-row = at-words .before .before .before .before in
+    let gathered = at-row .before .before in
+    let p = start gathered .pre in
+    let g = gathered .gather .ensures in
+    (moved (p .0) (p .1) g (c .advance .ensures), wrote (p .0) (p .1) g (at-row .row .ensures) (at-words .put-words .ensures) (at-entries .put-entries .ensures))
 
 pub write-node-spec : {M : Type 1} → statement M
 write-node-spec =
