@@ -12,8 +12,8 @@ use lib.ListN.{length, getD, set, replicate, length-set, length-append, List·ge
 use lib.Seq.{getD-set-same, getD-set-other, ext-getD, getD-append-seam}
 use borrow.Author.Tests.{eqb-true, eqb-false}
 use Rattle.base.specs.Lists.{fromOn, upTo, keep, each, firstOf, In}
-use Rattle.base.proofs.Tests.{which, never, le-or-lt}
-use Rattle.base.proofs.Members.{keep-none, length-each, keep-append, keep-each}
+use Rattle.base.proofs.Tests.{which, never, refuted, le-or-lt}
+use Rattle.base.proofs.Members.{keep-none, keep-append, keep-each, length-each, getD-each, each-each}
 
 pub length-from : (a n : ℕ) → length (fromOn a n) ≡ n
 length-from a zero = refl
@@ -37,10 +37,6 @@ from-in a (suc n) x h k = step (from-in (suc a) n x) (which (eqb x a))
     step below (inl q) = inl (eqb-true x a q)
     step below (inr q) = let n = eqb-false x a q in inr (below (omega arith) (omega arith))
 
-pub each-shift : {B : Type 0} (g : ℕ → B) (a n : ℕ) → each g (fromOn (suc a) n) ≡ each (λ i. g (suc i)) (fromOn a n)
-each-shift g a zero = refl
-each-shift {B} g a (suc n) = ap (λ (l : List B). g (suc a) ∷ l) (each-shift g (suc a) n)
-
 pub from-shift : (a n : ℕ) → fromOn (suc a) n ≡ each suc (fromOn a n)
 from-shift a zero = refl
 from-shift a (suc n) = ap (λ (l : List ℕ). suc a ∷ l) (from-shift (suc a) n)
@@ -48,7 +44,10 @@ from-shift a (suc n) = ap (λ (l : List ℕ). suc a ∷ l) (from-shift (suc a) n
 -- the list by its places
 pub each-getD : {A : Type 0} (d : A) (l : List A) → l ≡ each (λ i. getD l i d) (upTo (length l))
 each-getD d [] = refl
-each-getD {A} d (x ∷ l) = ap (λ (r : List A). x ∷ r) (each-getD d l ∙ sym (each-shift (λ i. getD (x ∷ l) i d) 0 (length l)))
+each-getD {A} d (x ∷ l) = ap (λ (r : List A). x ∷ r) (each-getD d l ∙ sym shifted)
+  where
+    shifted : each (λ i. getD (x ∷ l) i d) (fromOn 1 (length l)) ≡ each (λ i. getD l i d) (upTo (length l))
+    shifted = ap (each (λ i. getD (x ∷ l) i d)) (from-shift 0 (length l)) ∙ each-each (λ i. getD (x ∷ l) i d) suc (upTo (length l))
 
 pub from-split : (a n m : ℕ) → fromOn a (n + m) ≡ fromOn a n ++ fromOn (a + n) m
 from-split a zero m = rw (zero-add, add-zero)
@@ -78,9 +77,7 @@ pub upTo-suc : (i : ℕ) → upTo (suc i) ≡ upTo i ++ (i ∷ [])
 upTo-suc i = let z : suc i - suc i ≡ 0 = omega arith in upTo-split i (suc i) (omega arith) ∙ ap (λ (k : ℕ). upTo i ++ (i ∷ fromOn (suc i) k)) z
 
 pub getD-each-from : {B : Type 0} (g : ℕ → B) (a n k : ℕ) (d : B) → k < n → getD (each g (fromOn a n)) k d ≡ g (a + k)
-getD-each-from g a zero k d h = absurd (omega arith)
-getD-each-from g a (suc n) zero d h = ap g (omega arith)
-getD-each-from g a (suc n) (suc k) d h = let e : suc a + k ≡ a + suc k = omega arith in getD-each-from g (suc a) n k d (omega arith) ∙ ap g e
+getD-each-from g a n k d h = getD-each g (fromOn a n) k 0 d (omega (arith, length-from a n)) ∙ ap g (getD-from a n k 0 h)
 
 -- what lists the same everywhere
 pub each-constant : {B : Type 0} (g : ℕ → B) (v : B) → ((i : ℕ) → g i ≡ v) → (a n : ℕ) → each g (fromOn a n) ≡ replicate n v
@@ -106,21 +103,13 @@ set-each {B} f g n k v here other = ext-getD v (set (each f (upTo n)) k v) (each
         ap (λ (m : ℕ). getD (set (each f (upTo n)) k v) m v) e ∙ getD-set-same (each f (upTo n)) k v v (omega (arith, counted f)) ∙ here ∙ ap g (sym e) ∙ sym (listed g i l)
     place i l (inr q) = getD-set-other (each f (upTo n)) k i v v (eqb-false i k q) ∙ listed f i l ∙ other i (eqb-false i k q) ∙ sym (listed g i l)
 
-each-from : {B : Type 0} (f g : ℕ → B) (a n : ℕ) → ((x : ℕ) → a ≤ x → x < a + n → f x ≡ g x) → each f (fromOn a n) ≡ each g (fromOn a n)
-each-from f g a zero h = refl
-each-from f g a (suc n) h = rw (h a (omega arith) (omega arith), each-from f g (suc a) n (λ x u v. h x (omega arith) (omega arith)))
-
 module _ (f : ℕ → Bool) (e : ℕ) where
   keep-down : (a n : ℕ) → a + n ≡ e → ((i k : ℕ) → a ≤ i → i ≤ k → k < e → f k ≡ true → f i ≡ true) → keep f (fromOn a n) ≡ fromOn a (length (keep f (fromOn a n)))
   keep-down a zero q down = refl
   keep-down a (suc n) q down = step (which (f a)) (keep-down (suc a) n (omega arith) (λ i k u. down i k (omega arith)))
     where
       off : f a ≡ false → (x : ℕ) → In x (fromOn (suc a) n) → f x ≡ false
-      off r x h = test (which (f x)) (in-from (suc a) n x h)
-        where
-          test : (f x ≡ true) ⊎ (f x ≡ false) → (suc a ≤ x) × (x < suc a + n) → f x ≡ false
-          test (inl s) t = never _ (down a x (omega arith) (omega arith) (omega arith) s) r
-          test (inr s) t = s
+      off r x h = let t = in-from (suc a) n x h in refuted _ (λ s. never _ (down a x (omega arith) (omega arith) (omega arith) s) r)
 
       step : (f a ≡ true) ⊎ (f a ≡ false) → keep f (fromOn (suc a) n) ≡ fromOn (suc a) (length (keep f (fromOn (suc a) n))) → keep f (fromOn a (suc n)) ≡ fromOn a (length (keep f (fromOn a (suc n))))
       step (inl r) t = rw r (ap (λ (l : List ℕ). a ∷ l) t)

@@ -13,7 +13,7 @@ use Rattle.base.specs.Lists.{fromOn, upTo, each, eachList, firstOf, begins}
 use Rattle.base.proofs.Tests.{never, le-or-lt}
 use Rattle.base.proofs.Members.{length-each, eachList-append}
 use Rattle.base.proofs.Runs.{length-from, upTo-split, upTo-suc, getD-each-from}
-use Rattle.base.proofs.Begins.{begins-trans, take-begins, begins-take, begins-take-not, sharedLength-sym}
+use Rattle.base.proofs.Begins.{begins-trans, take-begins, shared-begins, past-shared, sharedLength-sym}
 use Rattle.rules.specs.Tables.{Table, stands, nameOf, Ordered}
 use Rattle.rules.specs.Questions.{under}
 use Rattle.rules.specs.Indexes.{newAt, beginnings, nodeCount, numberIn, lastByte, butLast, pastOf}
@@ -116,7 +116,7 @@ module _ (t : Table) (o : Ordered t) where
           f = firstOf (under t (take l (nameOf t (suc i))))
 
           step : (f ≤ i) ⊎ (i < f) → f ≡ suc i
-          step (inl q) = never _ (under-only t o (take l (nameOf t (suc i))) i q (omega arith) .1) (begins-take-not (nameOf t i) (nameOf t (suc i)) l u v)
+          step (inl q) = never _ (under-only t o (take l (nameOf t (suc i))) i q (omega arith) .1) (past-shared (nameOf t i) (nameOf t (suc i)) l u v)
           step (inr q) = omega arith
 
   -- the last is i, where the next name does not go through the node
@@ -137,7 +137,7 @@ module _ (t : Table) (o : Ordered t) where
       step (inl q) = omega (arith, r)
       step (inr q) =
           let s = under-only t o p (suc i) (omega (arith, r)) q in
-          let apart = begins-take-not (nameOf t (suc i)) (nameOf t i) l (omega (arith, c (s .0), sharedLength-sym (nameOf t i) (nameOf t (suc i)))) v in
+          let apart = past-shared (nameOf t (suc i)) (nameOf t i) l (omega (arith, c (s .0), sharedLength-sym (nameOf t i) (nameOf t (suc i)))) v in
           never _ (s .1) apart
 
   -- ---- where the nodes' subtrees end
@@ -146,7 +146,7 @@ module _ (t : Table) (o : Ordered t) where
     -- a name that adds nothing is the name before
     adds-none : (i : ℕ) → suc i < stands t → length (nameOf t (suc i)) ≤ sharedAt t (suc i) → nameOf t (suc i) ≡ nameOf t i
     adds-none i h u =
-        let b = begins-take (nameOf t i) (nameOf t (suc i)) (length (nameOf t (suc i))) u in
+        let b = shared-begins (nameOf t i) (nameOf t (suc i)) (length (nameOf t (suc i))) u in
         let w : begins (nameOf t (suc i)) (nameOf t i) ≡ true = subst (λ (p : List ℕ). begins p (nameOf t i) ≡ true) (take-length (nameOf t (suc i))) b in
         order-antisym (nameOf t (suc i)) (nameOf t i) (begins-order (nameOf t (suc i)) (nameOf t i) w) (rw add-one at (o i (omega arith)))
 
@@ -209,7 +209,7 @@ module _ (t : Table) (o : Ordered t) where
             let x : getD B N [] ≡ take m (nameOf t (suc i)) = ap (λ (m : ℕ). getD B m []) (sym z) ∙ node-text t (suc i) 0 k (omega arith) in
             let y : begins p (take m (nameOf t (suc i))) ≡ true = subst₂ (λ (x y : List ℕ). begins x y ≡ true) (at .1) x b in
             let through = begins-trans p (take m (nameOf t (suc i))) (nameOf t (suc i)) y (take-begins m (nameOf t (suc i))) in
-            let apart = begins-take-not (nameOf t (suc i)) (nameOf t i) l (omega (arith, c k, sharedLength-sym (nameOf t i) (nameOf t (suc i)))) v in
+            let apart = past-shared (nameOf t (suc i)) (nameOf t i) l (omega (arith, c k, sharedLength-sym (nameOf t i) (nameOf t (suc i)))) v in
             never _ through apart
 
         more : N < e → (stands t ≤ suc i) ⊎ (suc i < stands t) → (length (nameOf t (suc i)) ≤ sharedAt t (suc i)) ⊎ (sharedAt t (suc i) < length (nameOf t (suc i))) → ⊥

@@ -10,7 +10,7 @@ use borrow.Author.Tests.{not-true}
 use Rattle.base.specs.Lists.{fromOn, keep, each, begins, sharedLength, In}
 use Rattle.base.proofs.Members.{in-keep, keep-in, keep-none, keep-every, keep-append, keep-each, in-each, each-in}
 use Rattle.base.proofs.Runs.{in-from, from-in, from-split}
-use Rattle.base.proofs.Begins.{begins-length, take-begins, begins-is-take, shared-le-other, begins-take, begins-take-not}
+use Rattle.base.proofs.Begins.{begins-length, take-begins, begins-is-take, shared-le-other, shared-begins, past-shared}
 use Rattle.rules.specs.Indexes.{beginningsOf}
 use Rattle.trie.specs.Trees.{fresh}
 
@@ -31,12 +31,12 @@ fresh-takes m n = keep-each (λ p. not (begins p m)) (λ l. take l n) (fromOn 1 
         ap (fromOn 1) e ∙ from-split 1 c (length n - c) ∙ ap (λ k. fromOn 1 c ++ fromOn k (length n - c)) o
 
     old : (x : ℕ) → In x (fromOn 1 c) → new x ≡ false
-    old x h = rw (begins-take m n x (omega (arith, in-from 1 c x h)))
+    old x h = rw (shared-begins m n x (omega (arith, in-from 1 c x h)))
 
     longer : (x : ℕ) → In x (fromOn (suc c) (length n - c)) → new x ≡ true
     longer x h =
         let r = in-from (suc c) (length n - c) x h in
-        rw (begins-take-not m n x (omega arith) (omega (arith, shared-le-other m n)))
+        rw (past-shared m n x (omega arith) (omega (arith, shared-le-other m n)))
 
     lengths : keep (λ l. not (begins (take l n) m)) (fromOn 1 (length n)) ≡ fromOn (suc (sharedLength m n)) (length n - sharedLength m n)
     lengths =

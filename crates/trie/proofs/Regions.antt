@@ -124,7 +124,7 @@ module _ (t : Table) (g : Grid) (o : Ordered t) (p : List ℕ) where
   pub range-regions : (b : Rect) → rangeList t g p b ≡ eachList (λ r. keep (λ i. inRect b (placeOf t i)) (keep (inRegion g t r) (under t p))) (regionsUnder t g p)
   range-regions b =
       eachList-same (λ r. keep (inRegion g t r) (keep inside (under t p))) (λ r. keep inside (keep (inRegion g t r) (under t p))) (upTo regions)
-      (λ r. keep-comm (inRegion g t r) inside (under t p))
+      (λ r h. keep-comm (inRegion g t r) inside (under t p))
       ∙ eachList-keep (λ r. keep inside (keep (inRegion g t r) (under t p))) (occupied t g p) (upTo regions)
       (λ r q. ap (keep inside) (empty-of (keep (inRegion g t r) (under t p)) q))
     where
