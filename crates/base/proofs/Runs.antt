@@ -1,7 +1,7 @@
 -- Runs of numbers: their places and members, how they split, and the run that a convex test keeps of one.
 -- Assumes nothing.
 use mathlib.Core.Path.{_≡_, refl, sym, ap, _∙_}
-use mathlib.Core.Logic.{_⊎_, inl, inr}
+use mathlib.Core.Logic.{_⊎_, inl, inr, ⊎-elim}
 use mathlib.Core.Bool.{Bool, true, false}
 use mathlib.Core.List.{List, [], _∷_, _++_}
 use Prim.Native.Nat.{ℕ, zero, suc, _+_, _-_, _≤_, _<_}
@@ -103,29 +103,37 @@ set-each {B} f g n k v here other = ext-getD v (set (each f (upTo n)) k v) (each
         ap (λ (m : ℕ). getD (set (each f (upTo n)) k v) m v) e ∙ getD-set-same (each f (upTo n)) k v v (omega (arith, counted f)) ∙ here ∙ ap g (sym e) ∙ sym (listed g i l)
     place i l (inr q) = getD-set-other (each f (upTo n)) k i v v (eqb-false i k q) ∙ listed f i l ∙ other i (eqb-false i k q) ∙ sym (listed g i l)
 
+-- a run: its members are its first one, one more, ..
+abbrev pub Run : List ℕ → Type 0
+Run l = l ≡ fromOn (firstOf l) (length l)
+
 module _ (f : ℕ → Bool) (e : ℕ) where
+  -- where all that pass come first
   keep-down : (a n : ℕ) → a + n ≡ e → ((i k : ℕ) → a ≤ i → i ≤ k → k < e → f k ≡ true → f i ≡ true) → keep f (fromOn a n) ≡ fromOn a (length (keep f (fromOn a n)))
   keep-down a zero q down = refl
-  keep-down a (suc n) q down = step (which (f a)) (keep-down (suc a) n (omega arith) (λ i k u. down i k (omega arith)))
+  keep-down a (suc n) q down =
+      ⊎-elim
+      (λ (r : f a ≡ true). rw r (ap (λ (l : List ℕ). a ∷ l) (keep-down (suc a) n (omega arith) (λ i k u. down i k (omega arith)))))
+      (λ (r : f a ≡ false). rw (r, keep-none f (fromOn (suc a) n) (off r)))
+      (which (f a))
     where
       off : f a ≡ false → (x : ℕ) → In x (fromOn (suc a) n) → f x ≡ false
       off r x h = let t = in-from (suc a) n x h in refuted _ (λ s. never _ (down a x (omega arith) (omega arith) (omega arith) s) r)
 
-      step : (f a ≡ true) ⊎ (f a ≡ false) → keep f (fromOn (suc a) n) ≡ fromOn (suc a) (length (keep f (fromOn (suc a) n))) → keep f (fromOn a (suc n)) ≡ fromOn a (length (keep f (fromOn a (suc n))))
-      step (inl r) t = rw r (ap (λ (l : List ℕ). a ∷ l) t)
-      step (inr r) t = rw (r, keep-none f (fromOn (suc a) n) (off r))
-
-  -- the run that a convex test keeps
-  pub keep-run : (a n : ℕ) → a + n ≡ e → ((i j k : ℕ) → i ≤ j → j ≤ k → k < e → f i ≡ true → f k ≡ true → f j ≡ true) → keep f (fromOn a n) ≡ fromOn (firstOf (keep f (fromOn a n))) (length (keep f (fromOn a n)))
+  -- what a convex test keeps of a run is a run
+  pub keep-run : (a n : ℕ) → a + n ≡ e → ((i j k : ℕ) → i ≤ j → j ≤ k → k < e → f i ≡ true → f k ≡ true → f j ≡ true) → Run (keep f (fromOn a n))
   keep-run a zero q convex = refl
-  keep-run a (suc n) q convex = step (which (f a)) (keep-run (suc a) n (omega arith) convex)
-    where
-      step : (f a ≡ true) ⊎ (f a ≡ false) → keep f (fromOn (suc a) n) ≡ fromOn (firstOf (keep f (fromOn (suc a) n))) (length (keep f (fromOn (suc a) n))) → keep f (fromOn a (suc n)) ≡ fromOn (firstOf (keep f (fromOn a (suc n)))) (length (keep f (fromOn a (suc n))))
-      step (inl r) t = rw r (ap (λ (l : List ℕ). a ∷ l) (keep-down (suc a) n (omega arith) (λ i k u v w s. convex a i k (omega arith) v w r s)))
-      step (inr r) t = rw r t
+  keep-run a (suc n) q convex =
+      ⊎-elim
+      (λ (r : f a ≡ true). rw r (ap (λ (l : List ℕ). a ∷ l) (keep-down (suc a) n (omega arith) (λ i k u v w s. convex a i k (omega arith) v w r s))))
+      (λ (r : f a ≡ false). rw r (keep-run (suc a) n (omega arith) convex))
+      (which (f a))
 
--- what a test keeps of the numbers below n, by its place: as many smaller ones pass
-pub keep-at : (f : ℕ → Bool) (n k : ℕ) → k < length (keep f (upTo n)) → (x : ℕ) × (getD (keep f (upTo n)) k 0 ≡ x) × (x < n) × (f x ≡ true) × (length (keep f (upTo x)) ≡ k)
+-- what stands at place k of the numbers below n that pass: it passes, as k smaller ones do
+abbrev pub KeptAt : (ℕ → Bool) → ℕ → ℕ → Type 0
+KeptAt f n k = (x : ℕ) × (getD (keep f (upTo n)) k 0 ≡ x) × (x < n) × (f x ≡ true) × (length (keep f (upTo x)) ≡ k)
+
+pub keep-at : (f : ℕ → Bool) (n k : ℕ) → k < length (keep f (upTo n)) → KeptAt f n k
 keep-at f zero k h = absurd (omega arith)
 keep-at f (suc n) k h = step (keep-at f n k) (which (f n)) (le-or-lt (length (keep f (upTo n))) k)
   where
@@ -135,9 +143,7 @@ keep-at f (suc n) k h = step (keep-at f n k) (which (f n)) (le-or-lt (length (ke
     size : length (keep f (upTo (suc n))) ≡ length (keep f (upTo n)) + length (keep f (n ∷ []))
     size = ap length whole ∙ length-append (keep f (upTo n)) (keep f (n ∷ []))
 
-    step : (k < length (keep f (upTo n)) → (x : ℕ) × (getD (keep f (upTo n)) k 0 ≡ x) × (x < n) × (f x ≡ true) × (length (keep f (upTo x)) ≡ k)) → (f n ≡ true) ⊎ (f n ≡ false)
-        → (length (keep f (upTo n)) ≤ k) ⊎ (k < length (keep f (upTo n)))
-        → (x : ℕ) × (getD (keep f (upTo (suc n))) k 0 ≡ x) × (x < suc n) × (f x ≡ true) × (length (keep f (upTo x)) ≡ k)
+    step : (k < length (keep f (upTo n)) → KeptAt f n k) → (f n ≡ true) ⊎ (f n ≡ false) → (length (keep f (upTo n)) ≤ k) ⊎ (k < length (keep f (upTo n))) → KeptAt f (suc n) k
     step below q (inr l) =
         let r = below l in
         (r .0, ap (λ (m : List ℕ). getD m k 0) whole ∙ List·getD-append (keep f (upTo n)) (keep f (n ∷ [])) 0 k l ∙ r .1, omega (arith, r .2), r .3, r .4)

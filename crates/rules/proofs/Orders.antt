@@ -15,7 +15,11 @@ use Rattle.base.proofs.Tests.{which, never, refuted, le-or-lt, and-parts, or-ca
 use Rattle.base.proofs.Begins.{begins-cases, begins-same}
 use Rattle.rules.specs.Names.{inOrder}
 
-pub order-cases : (a b : ℕ) (m n : List ℕ) → inOrder (a ∷ m) (b ∷ n) ≡ true → (a < b) ⊎ ((a ≡ b) × (inOrder m n ≡ true))
+-- two names in order, by their first bytes
+abbrev ByFirst : ℕ → ℕ → List ℕ → List ℕ → Type 0
+ByFirst a b m n = (a < b) ⊎ ((a ≡ b) × (inOrder m n ≡ true))
+
+order-cases : (a b : ℕ) (m n : List ℕ) → inOrder (a ∷ m) (b ∷ n) ≡ true → ByFirst a b m n
 order-cases a b m n e =
     ⊎-elim
     (λ h. inl (ltb-true a b h))
@@ -38,7 +42,7 @@ order-trans (a ∷ x) [] z p q = absurd (false≢true p)
 order-trans (a ∷ x) (b ∷ y) [] p q = absurd (false≢true q)
 order-trans (a ∷ x) (b ∷ y) (c ∷ z) p q = step (order-trans x y z) (order-cases a b x y p) (order-cases b c y z q)
   where
-    step : (inOrder x y ≡ true → inOrder y z ≡ true → inOrder x z ≡ true) → (a < b) ⊎ ((a ≡ b) × (inOrder x y ≡ true)) → (b < c) ⊎ ((b ≡ c) × (inOrder y z ≡ true)) → inOrder (a ∷ x) (c ∷ z) ≡ true
+    step : (inOrder x y ≡ true → inOrder y z ≡ true → inOrder x z ≡ true) → ByFirst a b x y → ByFirst b c y z → inOrder (a ∷ x) (c ∷ z) ≡ true
     step below (inl h) (inl k) = order-less a c x z (omega arith)
     step below (inl h) (inr k) = order-less a c x z (omega arith)
     step below (inr h) (inl k) = order-less a c x z (omega arith)
@@ -50,7 +54,7 @@ order-antisym [] (b ∷ y) p q = absurd (false≢true q)
 order-antisym (a ∷ x) [] p q = absurd (false≢true p)
 order-antisym (a ∷ x) (b ∷ y) p q = step (order-antisym x y) (order-cases a b x y p) (order-cases b a y x q)
   where
-    step : (inOrder x y ≡ true → inOrder y x ≡ true → x ≡ y) → (a < b) ⊎ ((a ≡ b) × (inOrder x y ≡ true)) → (b < a) ⊎ ((b ≡ a) × (inOrder y x ≡ true)) → a ∷ x ≡ b ∷ y
+    step : (inOrder x y ≡ true → inOrder y x ≡ true → x ≡ y) → ByFirst a b x y → ByFirst b a y x → a ∷ x ≡ b ∷ y
     step below (inl h) (inl k) = absurd (omega arith)
     step below (inl h) (inr k) = absurd (omega arith)
     step below (inr h) (inl k) = absurd (omega arith)
@@ -79,7 +83,8 @@ begins-between (a ∷ p) [] n h k l = h
 begins-between (a ∷ p) (b ∷ x) [] h k l = absurd (false≢true k)
 begins-between (a ∷ p) (b ∷ x) (c ∷ n) h k l = step (begins-between p x n) (begins-cases a c p n l) (order-cases a b p x h) (order-cases b c x n k)
   where
-    step : (inOrder p x ≡ true → inOrder x n ≡ true → begins p n ≡ true → begins p x ≡ true) → (a ≡ c) × (begins p n ≡ true) → (a < b) ⊎ ((a ≡ b) × (inOrder p x ≡ true)) → (b < c) ⊎ ((b ≡ c) × (inOrder x n ≡ true)) → begins (a ∷ p) (b ∷ x) ≡ true
+    step : (inOrder p x ≡ true → inOrder x n ≡ true → begins p n ≡ true → begins p x ≡ true) → (a ≡ c) × (begins p n ≡ true)
+        → ByFirst a b p x → ByFirst b c x n → begins (a ∷ p) (b ∷ x) ≡ true
     step below s (inl u) (inl v) = absurd (omega arith)
     step below s (inl u) (inr v) = absurd (omega arith)
     step below s (inr u) (inl v) = absurd (omega arith)

@@ -122,18 +122,18 @@ module _ (t : Table) (o : Ordered t) where
   -- the last is i, where the next name does not go through the node
   pub past-stand : (i l : ℕ) → i < stands t → l ≤ length (nameOf t i) → (suc i < stands t → sharedAt t (suc i) < l)
       → firstOf (under t (take l (nameOf t i))) + length (under t (take l (nameOf t i))) ≡ suc i
-  past-stand i l h v c = step (le-or-lt e (suc i))
+  past-stand i l h v c = step (le-or-lt past (suc i))
     where
       p : List ℕ
       p = take l (nameOf t i)
 
-      e : ℕ
-      e = firstOf (under t p) + length (under t p)
+      past : ℕ
+      past = firstOf (under t p) + length (under t p)
 
-      r : (firstOf (under t p) ≤ i) × (i < e)
+      r : (firstOf (under t p) ≤ i) × (i < past)
       r = under-from t o p i h (take-begins l (nameOf t i))
 
-      step : (e ≤ suc i) ⊎ (suc i < e) → e ≡ suc i
+      step : (past ≤ suc i) ⊎ (suc i < past) → past ≡ suc i
       step (inl q) = omega (arith, r)
       step (inr q) =
           let s = under-only t o p (suc i) (omega (arith, r)) q in
@@ -175,7 +175,7 @@ module _ (t : Table) (o : Ordered t) where
     -- a node of name i's path that is not on the path of the next name ends with the nodes of the names up to i
     pub past-node : (i l : ℕ) → i < stands t → l ≤ length (nameOf t i) → (suc i < stands t → sharedAt t (suc i) < l)
         → pastOf (beginnings t) (numberIn (take l (nameOf t i)) (beginnings t)) ≡ nodesBefore t (suc i)
-    past-node i l h v c = step (le-or-lt e N)
+    past-node i l h v c = step (le-or-lt past made)
       where
         B : List (List ℕ)
         B = beginnings t
@@ -189,37 +189,38 @@ module _ (t : Table) (o : Ordered t) where
         at : (numberIn p B < length B) × (getD B (numberIn p B) [] ≡ p)
         at = number-in p B (beginnings-of t i p h (take-begins l (nameOf t i)))
 
-        N : ℕ
-        N = nodesBefore t (suc i)
+        -- the nodes of the names up to i
+        made : ℕ
+        made = nodesBefore t (suc i)
 
-        e : ℕ
-        e = pastOf B (numberIn p B)
+        past : ℕ
+        past = pastOf B (numberIn p B)
 
-        last : (numberIn p B ≤ N - 1) × (N - 1 < e)
+        last : (numberIn p B ≤ made - 1) × (made - 1 < past)
         last =
-            subtree-in B (tree .sorted) (numberIn p B) (at .0) (N - 1) (omega (arith, nodes-fit t i h))
+            subtree-in B (tree .sorted) (numberIn p B) (at .0) (made - 1) (omega (arith, nodes-fit t i h))
             (subst₂ (λ (x y : List ℕ). begins x y ≡ true) (sym (at .1)) (sym (last-node i h)) (take-begins l (nameOf t i)))
 
         -- the next node is of the next name, whose path p is not on
-        next : N < e → (suc i < stands t) → sharedAt t (suc i) < length (nameOf t (suc i)) → ⊥
+        next : made < past → (suc i < stands t) → sharedAt t (suc i) < length (nameOf t (suc i)) → ⊥
         next q k f =
             let m = suc (sharedAt t (suc i)) + 0 in
-            let z : N + 0 ≡ N = omega arith in
-            let b = subtree-only B (tree .sorted) (numberIn p B) (at .0) N (omega (arith, last)) q .1 in
-            let x : getD B N [] ≡ take m (nameOf t (suc i)) = ap (λ (m : ℕ). getD B m []) (sym z) ∙ node-text t (suc i) 0 k (omega arith) in
+            let z : made + 0 ≡ made = omega arith in
+            let b = subtree-only B (tree .sorted) (numberIn p B) (at .0) made (omega (arith, last)) q .1 in
+            let x : getD B made [] ≡ take m (nameOf t (suc i)) = ap (λ (m : ℕ). getD B m []) (sym z) ∙ node-text t (suc i) 0 k (omega arith) in
             let y : begins p (take m (nameOf t (suc i))) ≡ true = subst₂ (λ (x y : List ℕ). begins x y ≡ true) (at .1) x b in
             let through = begins-trans p (take m (nameOf t (suc i))) (nameOf t (suc i)) y (take-begins m (nameOf t (suc i))) in
             let apart = past-shared (nameOf t (suc i)) (nameOf t i) l (omega (arith, c k, sharedLength-sym (nameOf t i) (nameOf t (suc i)))) v in
             never _ through apart
 
-        more : N < e → (stands t ≤ suc i) ⊎ (suc i < stands t) → (length (nameOf t (suc i)) ≤ sharedAt t (suc i)) ⊎ (sharedAt t (suc i) < length (nameOf t (suc i))) → ⊥
+        more : made < past → (stands t ≤ suc i) ⊎ (suc i < stands t) → (length (nameOf t (suc i)) ≤ sharedAt t (suc i)) ⊎ (sharedAt t (suc i) < length (nameOf t (suc i))) → ⊥
         more q (inl k) f =
             let s : stands t ≡ suc i = omega arith in
-            let r : length B ≡ N = sym (nodes-all t) ∙ ap (nodesBefore t) s in
+            let r : length B ≡ made = sym (nodes-all t) ∙ ap (nodesBefore t) s in
             omega (arith, past-bounds B (tree .sorted) (numberIn p B) (at .0))
         more q (inr k) (inl f) = omega (arith, ap length (adds-none i k f), c k)
         more q (inr k) (inr f) = next q k f
 
-        step : (e ≤ N) ⊎ (N < e) → e ≡ N
+        step : (past ≤ made) ⊎ (made < past) → past ≡ made
         step (inl q) = omega (arith, last)
         step (inr q) = absurd (more q (le-or-lt (stands t) (suc i)) (le-or-lt (length (nameOf t (suc i))) (sharedAt t (suc i))))

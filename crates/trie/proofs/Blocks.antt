@@ -8,10 +8,10 @@ use Prim.Native.Nat.{ℕ, _+_, _-_, _≤_, _<_}
 use native.Mathlib.Omega.{arith}
 use native.Mathlib.Nat.{eq-or-lt-of-le}
 use lib.ListN.{length}
-use Rattle.base.specs.Lists.{fromOn, upTo, keep, firstOf, begins}
+use Rattle.base.specs.Lists.{upTo, keep, firstOf, begins}
 use Rattle.base.proofs.Tests.{never}
 use Rattle.base.proofs.Members.{in-keep, keep-in}
-use Rattle.base.proofs.Runs.{in-from, from-in, keep-run}
+use Rattle.base.proofs.Runs.{in-from, from-in, Run, keep-run}
 use Rattle.base.proofs.Begins.{begins-refl}
 use Rattle.rules.proofs.Orders.{begins-order, begins-interval, Rising, StrictlyRising, strict-rising}
 
@@ -20,7 +20,7 @@ abbrev pub blockOf : (ℕ → List ℕ) → ℕ → List ℕ → List ℕ
 blockOf g n p = keep (λ i. begins p (g i)) (upTo n)
 
 module _ (g : ℕ → List ℕ) (n : ℕ) (up : Rising g n) (p : List ℕ) where
-  pub block-run : blockOf g n p ≡ fromOn (firstOf (blockOf g n p)) (length (blockOf g n p))
+  pub block-run : Run (blockOf g n p)
   block-run = keep-run (λ i. begins p (g i)) n 0 n (omega arith) (λ i j k u v w a b. begins-interval p (g i) (g j) (g k) a (up i j u (omega arith)) (up j k v w) b)
 
   pub block-in : (i : ℕ) → i < n → begins p (g i) ≡ true → (firstOf (blockOf g n p) ≤ i) × (i < firstOf (blockOf g n p) + length (blockOf g n p))

@@ -163,7 +163,7 @@ last-snoc [] b = refl
 last-snoc (a ∷ []) b = refl
 last-snoc (a ∷ c ∷ p) b = last-snoc (c ∷ p) b
 
-pub length-snoc : (p : List ℕ) (b : ℕ) → length (p ++ (b ∷ [])) ≡ suc (length p)
+length-snoc : (p : List ℕ) (b : ℕ) → length (p ++ (b ∷ [])) ≡ suc (length p)
 length-snoc p b = rw (length-append p (b ∷ [])) (omega arith)
 
 module _ (B : List (List ℕ)) (t : Tree B) (j : ℕ) (lt : j < length B) where

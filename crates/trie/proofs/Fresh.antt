@@ -20,31 +20,31 @@ fresh-takes m n = keep-each (λ p. not (begins p m)) (λ l. take l n) (fromOn 1 
     new : ℕ → Bool
     new l = not (begins (take l n) m)
 
-    c : ℕ
-    c = sharedLength m n
+    shared : ℕ
+    shared = sharedLength m n
 
     -- the lengths up to what is shared, and the longer ones
-    split : fromOn 1 (length n) ≡ fromOn 1 c ++ fromOn (suc c) (length n - c)
+    split : fromOn 1 (length n) ≡ fromOn 1 shared ++ fromOn (suc shared) (length n - shared)
     split =
-        let e : length n ≡ c + (length n - c) = omega (arith, shared-le-other m n) in
-        let o : 1 + c ≡ suc c = omega arith in
-        ap (fromOn 1) e ∙ from-split 1 c (length n - c) ∙ ap (λ k. fromOn 1 c ++ fromOn k (length n - c)) o
+        let e : length n ≡ shared + (length n - shared) = omega (arith, shared-le-other m n) in
+        let o : 1 + shared ≡ suc shared = omega arith in
+        ap (fromOn 1) e ∙ from-split 1 shared (length n - shared) ∙ ap (λ k. fromOn 1 shared ++ fromOn k (length n - shared)) o
 
-    old : (x : ℕ) → In x (fromOn 1 c) → new x ≡ false
-    old x h = rw (shared-begins m n x (omega (arith, in-from 1 c x h)))
+    old : (x : ℕ) → In x (fromOn 1 shared) → new x ≡ false
+    old x h = rw (shared-begins m n x (omega (arith, in-from 1 shared x h)))
 
-    longer : (x : ℕ) → In x (fromOn (suc c) (length n - c)) → new x ≡ true
+    longer : (x : ℕ) → In x (fromOn (suc shared) (length n - shared)) → new x ≡ true
     longer x h =
-        let r = in-from (suc c) (length n - c) x h in
+        let r = in-from (suc shared) (length n - shared) x h in
         rw (past-shared m n x (omega arith) (omega (arith, shared-le-other m n)))
 
     lengths : keep (λ l. not (begins (take l n) m)) (fromOn 1 (length n)) ≡ fromOn (suc (sharedLength m n)) (length n - sharedLength m n)
     lengths =
         rw (
           split,
-          keep-append new (fromOn 1 c) (fromOn (suc c) (length n - c)),
-          keep-none new (fromOn 1 c) old,
-          keep-every new (fromOn (suc c) (length n - c)) longer,
+          keep-append new (fromOn 1 shared) (fromOn (suc shared) (length n - shared)),
+          keep-none new (fromOn 1 shared) old,
+          keep-every new (fromOn (suc shared) (length n - shared)) longer,
         )
 
 pub in-beginnings : (n p : List ℕ) → In p (beginningsOf n) → (begins p n ≡ true) × (1 ≤ length p)

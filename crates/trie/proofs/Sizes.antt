@@ -33,25 +33,25 @@ use Rattle.trie.proofs.Regions.{by-region-shuffle}
 
 -- texts strictly in order that begin one name: each is longer than those before, so they are at most one for each length
 beginnings-few : (n : List ℕ) (B : List (List ℕ)) → Sorted B → length (keep (λ p. begins p n) B) ≤ suc (length n)
-beginnings-few n B s = rw (sym (length-each length K)) (less-few (each length K) 0 (suc (length n)) longer bounded)
+beginnings-few n B s = rw (sym (length-each length chosen)) (less-few (each length chosen) 0 (suc (length n)) longer bounded)
   where
-    K : List (List ℕ)
-    K = keep (λ p. begins p n) B
+    chosen : List (List ℕ)
+    chosen = keep (λ p. begins p n) B
 
-    begun : (p : List ℕ) → In p K → begins p n ≡ true
+    begun : (p : List ℕ) → In p chosen → begins p n ≡ true
     begun p h = keep-in (λ p. begins p n) B p h .1
 
-    less : (p q : List ℕ) → In p K → In q K → inOrder q p ≡ false → length p < length q
+    less : (p q : List ℕ) → In p chosen → In q chosen → inOrder q p ≡ false → length p < length q
     less p q u v h = ⊎-elim (λ k. never _ (begins-order q p (begins-both q p n (begun q v) (begun p u) k)) h) (λ k. k) (le-or-lt (length q) (length p))
 
-    longer : Pairwise Less (each length K)
+    longer : Pairwise Less (each length chosen)
     longer =
-        pairs-each Less length K
-        (pairs-weaken (λ p q. inOrder q p ≡ false) (λ p q. length p < length q) K less (pairs-keep (λ p q. inOrder q p ≡ false) (λ p. begins p n) B s))
+        pairs-each Less length chosen
+        (pairs-weaken (λ p q. inOrder q p ≡ false) (λ p q. length p < length q) chosen less (pairs-keep (λ p q. inOrder q p ≡ false) (λ p. begins p n) B s))
 
-    bounded : (x : ℕ) → In x (each length K) → (0 ≤ x) × (x < 0 + suc (length n))
+    bounded : (x : ℕ) → In x (each length chosen) → (0 ≤ x) × (x < 0 + suc (length n))
     bounded x h =
-        let r = in-each length K x h in
+        let r = in-each length chosen x h in
         let b = begins-length (r .0) n (begun (r .0) (r .1)) in
         (omega arith, omega (arith, r .2))
 

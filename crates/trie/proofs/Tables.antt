@@ -11,7 +11,7 @@ use lib.ListN.{length}
 use Rattle.base.specs.Lists.{fromOn, upTo, each, eachList, firstOf, begins, In}
 use Rattle.base.proofs.Tests.{le-or-lt}
 use Rattle.base.proofs.Members.{in-each, each-in, keep-in, in-keep, keep-every}
-use Rattle.base.proofs.Runs.{in-from, from-in}
+use Rattle.base.proofs.Runs.{in-from, from-in, Run}
 use Rattle.rules.specs.Tables.{Table, stands, nameOf, Ordered}
 use Rattle.rules.specs.Questions.{under}
 use Rattle.rules.specs.Indexes.{newAt, beginnings, nodeCount, pastOf}
@@ -95,7 +95,7 @@ module _ (t : Table) where
   under-all = keep-every (λ i. begins [] (nameOf t i)) (upTo (stands t)) (λ x h. refl)
 
   module _ (o : Ordered t) (p : List ℕ) where
-    pub under-run : under t p ≡ fromOn (firstOf (under t p)) (length (under t p))
+    pub under-run : Run (under t p)
     unfolding under
     under-run = block-run (nameOf t) (stands t) (rising (nameOf t) (stands t) o) p
 
