@@ -42,7 +42,7 @@ module _ {A : Type 0} (R : A → A → Type 0) where
   pairs-take (suc k) (x ∷ l) h = ((λ y u. h .0 y (in-take k l y u)), pairs-take k l (h .1))
 
   -- a relation that goes both ways holds in any order
-  pub pairs-shuffle : ((x y : A) → R x y → R y x) → {l m : List A} → Shuffle l m → Pairwise R l → Pairwise R m
+  pairs-shuffle : ((x y : A) → R x y → R y x) → {l m : List A} → Shuffle l m → Pairwise R l → Pairwise R m
   pairs-shuffle both (shuffles.same l) h = h
   pairs-shuffle both (shuffles.below x p) h = ((λ y k. h .0 y (shuffle-in (shuffle-sym p) y k)), pairs-shuffle both p (h .1))
   pairs-shuffle both (shuffles.swap x y l) h = (first, ((λ z k. h .0 z (inr k)), h .1 .1))

@@ -53,7 +53,7 @@ pub from-split : (a n m : ℕ) → fromOn a (n + m) ≡ fromOn a n ++ fromOn (a 
 from-split a zero m = rw (zero-add, add-zero)
 from-split a (suc n) m = rw (suc-add, add-suc) (ap (λ (l : List ℕ). a ∷ l) (rw suc-add at (from-split (suc a) n m)))
 
-pub from-each : (a b n : ℕ) → fromOn (a + b) n ≡ each (λ k. a + k) (fromOn b n)
+from-each : (a b n : ℕ) → fromOn (a + b) n ≡ each (λ k. a + k) (fromOn b n)
 from-each a b zero = refl
 from-each a b (suc n) = rw (← add-suc a b) (ap (λ (l : List ℕ). (a + b) ∷ l) (from-each a (suc b) n))
 

@@ -19,7 +19,7 @@ use Rattle.base.proofs.Tests.{le-or-lt, and-true, and-false, which}
 use Rattle.base.proofs.Members.{keep-append}
 use Rattle.base.proofs.Runs.{from-split}
 
-pub bit-most : (b : Bool) (n : ℕ) → bit b * n ≤ n
+bit-most : (b : Bool) (n : ℕ) → bit b * n ≤ n
 bit-most true n = omega arith
 bit-most false n = omega arith
 
@@ -50,7 +50,7 @@ bit-under b w n i h =
     rw (e, pow-add 2 (suc j) i, ← mul-assoc b (2 ^ suc j) (2 ^ i), add-mul-div-right w (b * 2 ^ suc j) (pow-pos i), pow-suc 2 j, ← mul-assoc b (2 ^ j) 2)
     (drop-even (w / 2 ^ i) (b * 2 ^ j))
 
-pub bit-says : (test : ℕ → Bool) (base n i : ℕ) → i < n → wordOf test base n / 2 ^ i % 2 ≡ bit (test (base + i))
+bit-says : (test : ℕ → Bool) (base n i : ℕ) → i < n → wordOf test base n / 2 ^ i % 2 ≡ bit (test (base + i))
 unfolding wordOf
 bit-says test base zero i h = absurd (omega arith)
 bit-says test base (suc n) i h =

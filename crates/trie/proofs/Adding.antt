@@ -70,7 +70,7 @@ module _ (t : Table) where
       )
 
   -- the k-th of them
-  pub node-text : (i k : ℕ) → i < stands t → k < length (nameOf t i) - sharedAt t i → textOf t (nodesBefore t i + k) ≡ take (suc (sharedAt t i) + k) (nameOf t i)
+  node-text : (i k : ℕ) → i < stands t → k < length (nameOf t i) - sharedAt t i → textOf t (nodesBefore t i + k) ≡ take (suc (sharedAt t i) + k) (nameOf t i)
   node-text i k h l =
       let r = eachList (newAt t) (fromOn (suc i) (stands t - suc i)) in
       ap (λ (B : List (List ℕ)). getD B (nodesBefore t i + k) []) (new-split i h)

@@ -34,7 +34,7 @@ module _ (g : ℕ → List ℕ) (n : ℕ) (up : Rising g n) (p : List ℕ) where
 
 -- the block of the j-th name of names that rise strictly
 module _ (g : ℕ → List ℕ) (n : ℕ) (up : StrictlyRising g n) (j : ℕ) (lt : j < n) where
-  pub block-first : firstOf (blockOf g n (g j)) ≡ j
+  block-first : firstOf (blockOf g n (g j)) ≡ j
   block-first = ⊎-elim (λ e. e) (λ h. absurd (smaller h)) (eq-or-lt-of-le (here .0))
     where
       first : ℕ

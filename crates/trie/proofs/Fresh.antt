@@ -47,13 +47,13 @@ fresh-takes m n = keep-each (λ p. not (begins p m)) (λ l. take l n) (fromOn 1 
           keep-every new (fromOn (suc shared) (length n - shared)) longer,
         )
 
-pub in-beginnings : (n p : List ℕ) → In p (beginningsOf n) → (begins p n ≡ true) × (1 ≤ length p)
+in-beginnings : (n p : List ℕ) → In p (beginningsOf n) → (begins p n ≡ true) × (1 ≤ length p)
 in-beginnings n p h =
     let t = in-each (λ l. take l n) (fromOn 1 (length n)) p h in
     let r = in-from 1 (length n) (t .0) (t .1) in
     (rw (t .2) (take-begins (t .0) n), rw (t .2) (simp length-take (omega arith)))
 
-pub beginnings-in : (n p : List ℕ) → begins p n ≡ true → 1 ≤ length p → In p (beginningsOf n)
+beginnings-in : (n p : List ℕ) → begins p n ≡ true → 1 ≤ length p → In p (beginningsOf n)
 beginnings-in n p h k =
     let w = begins-length p n h in
     let e : take (length p) n ≡ p = sym (begins-is-take p n h) in

@@ -15,7 +15,7 @@ use Rattle.rules.specs.declared.Grid.{Grid}
 use Rattle.rules.specs.Tables.{Table}
 use Rattle.rules.specs.Indexes.{beginnings, nodeCount, nodeRow, nodeWords, regionsUnder, Entry, entryOf, ahead, entriesOf, entryRow, entryWords, entryCount}
 
-pub length-entries : (l : List Entry) → length (eachList entryRow l) ≡ length l * 4
+length-entries : (l : List Entry) → length (eachList entryRow l) ≡ length l * 4
 length-entries = length-rows entryRow 4 (λ e. refl)
 
 module _ (t : Table) (g : Grid) where
@@ -39,7 +39,7 @@ module _ (t : Table) (g : Grid) where
   pub entries-counted : (l : List (List ℕ)) → total (each (λ q. length (entriesOf t g q)) l) ≡ total (each (λ q. length (regionsUnder t g q)) l)
   entries-counted l = ap total (each-same (λ q. length (entriesOf t g q)) (λ q. length (regionsUnder t g q)) l (λ q h. entries-length q))
 
-  pub entries-total : (l : List (List ℕ)) → total (each (λ q. length (eachList entryRow (entriesOf t g q))) l) ≡ total (each (λ q. length (regionsUnder t g q)) l) * 4
+  entries-total : (l : List (List ℕ)) → total (each (λ q. length (eachList entryRow (entriesOf t g q))) l) ≡ total (each (λ q. length (regionsUnder t g q)) l) * 4
   entries-total [] = refl
   entries-total (q ∷ l) = omega (arith, entries-total l, length-entries (entriesOf t g q), entries-length q)
 
