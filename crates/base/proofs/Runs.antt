@@ -6,7 +6,7 @@ use mathlib.Core.Bool.{Bool, true, false}
 use mathlib.Core.List.{List, [], _∷_, _++_}
 use Prim.Native.Nat.{ℕ, zero, suc, _+_, _-_, _≤_, _<_}
 use native.Mathlib.Omega.{arith}
-use native.Mathlib.Nat.{add-suc, add-zero, zero-add, suc-add}
+use native.Mathlib.Nat.{add-suc, add-zero, zero-add, suc-add, eq-or-lt-of-le}
 use lib.Dec.{eqb}
 use lib.ListN.{length, getD, set, replicate, length-set, length-append, List·getD-append}
 use lib.Seq.{getD-set-same, getD-set-other, ext-getD, getD-append-seam}
@@ -31,11 +31,7 @@ in-from a (suc n) x (inr h) = let t = in-from (suc a) n x h in (omega arith, ome
 
 pub from-in : (a n x : ℕ) → a ≤ x → x < a + n → In x (fromOn a n)
 from-in a zero x h k = absurd (omega arith)
-from-in a (suc n) x h k = step (from-in (suc a) n x) (which (eqb x a))
-  where
-    step : (suc a ≤ x → x < suc a + n → In x (fromOn (suc a) n)) → (eqb x a ≡ true) ⊎ (eqb x a ≡ false) → In x (fromOn a (suc n))
-    step below (inl q) = inl (eqb-true x a q)
-    step below (inr q) = let n = eqb-false x a q in inr (below (omega arith) (omega arith))
+from-in a (suc n) x h k = ⊎-elim (λ (e : a ≡ x). inl (sym e)) (λ (l : a < x). inr (from-in (suc a) n x l (omega arith))) (eq-or-lt-of-le h)
 
 pub from-shift : (a n : ℕ) → fromOn (suc a) n ≡ each suc (fromOn a n)
 from-shift a zero = refl

@@ -1,7 +1,7 @@
 -- For a pass over the names in turn: which nodes a name adds, their numbers, their stands, and where their subtrees end.
 -- Assumes nothing.
 use mathlib.Core.Path.{_≡_, refl, sym, ap, _∙_, subst, subst₂}
-use mathlib.Core.Logic.{_⊎_, inl, inr}
+use mathlib.Core.Logic.{_⊎_, inl, inr, ⊎-elim}
 use mathlib.Core.Bool.{true}
 use mathlib.Core.List.{List, [], _∷_, _++_, append-nil}
 use Prim.Native.Nat.{ℕ, zero, suc, _+_, _-_, _≤_, _<_}
@@ -163,14 +163,13 @@ module _ (t : Table) (o : Ordered t) where
     -- the last of the nodes of the names up to i is name i
     last-node : (i : ℕ) → i < stands t → textOf t (nodesBefore t (suc i) - 1) ≡ nameOf t i
     last-node zero h = last-added 0 h (long 0 h)
-    last-node (suc i) h = step (last-node i (omega arith)) (le-or-lt (length (nameOf t (suc i))) (sharedAt t (suc i)))
-      where
-        step : textOf t (nodesBefore t (suc i) - 1) ≡ nameOf t i → (length (nameOf t (suc i)) ≤ sharedAt t (suc i)) ⊎ (sharedAt t (suc i) < length (nameOf t (suc i)))
-            → textOf t (nodesBefore t (suc (suc i)) - 1) ≡ nameOf t (suc i)
-        step r (inl u) =
-            let x : nodesBefore t (suc (suc i)) - 1 ≡ nodesBefore t (suc i) - 1 = omega (arith, nodes-step t (suc i)) in
-            ap (λ (m : ℕ). textOf t m) x ∙ r ∙ sym (adds-none i h u)
-        step r (inr u) = last-added (suc i) h u
+    last-node (suc i) h =
+        ⊎-elim
+        (λ (u : length (nameOf t (suc i)) ≤ sharedAt t (suc i)).
+        let x : nodesBefore t (suc (suc i)) - 1 ≡ nodesBefore t (suc i) - 1 = omega (arith, nodes-step t (suc i)) in
+        ap (λ (m : ℕ). textOf t m) x ∙ last-node i (omega arith) ∙ sym (adds-none i h u))
+        (λ (u : sharedAt t (suc i) < length (nameOf t (suc i))). last-added (suc i) h u)
+        (le-or-lt (length (nameOf t (suc i))) (sharedAt t (suc i)))
 
     -- a node of name i's path that is not on the path of the next name ends with the nodes of the names up to i
     pub past-node : (i l : ℕ) → i < stands t → l ≤ length (nameOf t i) → (suc i < stands t → sharedAt t (suc i) < l)
