@@ -1,8 +1,8 @@
 -- Lists that begin with another, and the length that two lists share.
--- Sharing is the invariant of a loop that compares byte by byte. Assumes nothing.
+-- Sharing is the invariant of a loop that compares element by element. Assumes nothing.
 use mathlib.Core.Path.{_≡_, refl, sym, ap, _∙_}
 use mathlib.Core.Logic.{_⊎_, inl, inr, ⊎-elim}
-use mathlib.Core.Bool.{Bool, true, false, _&&_, false≢true}
+use mathlib.Core.Bool.{true, false, _&&_, false≢true}
 use mathlib.Core.List.{List, [], _∷_, _++_}
 use Prim.Native.Nat.{ℕ, zero, suc, _+_, _≤_, _<_}
 use native.Mathlib.Numerals.{add-one}
@@ -38,7 +38,7 @@ begins-length [] n h = omega arith
 begins-length (a ∷ p) [] h = absurd (false≢true h)
 begins-length (a ∷ p) (b ∷ n) h = let t = begins-length p n (begins-cases a b p n h .1) in omega arith
 
--- of two beginnings of one name the shorter begins the longer
+-- of two beginnings of one list the shorter begins the longer
 pub begins-both : (p q n : List ℕ) → begins p n ≡ true → begins q n ≡ true → length p ≤ length q → begins p q ≡ true
 begins-both [] q n h k l = refl
 begins-both (a ∷ p) [] n h k l = absurd (omega arith)
@@ -65,12 +65,17 @@ begins-is-take [] n h = refl
 begins-is-take (a ∷ p) [] h = absurd (false≢true h)
 begins-is-take (a ∷ p) (b ∷ n) h = let t = begins-cases a b p n h in cc (t .0, begins-is-take p n (t .1))
 
--- element by element
+-- element by element, and back
 pub begins-at : (p n : List ℕ) (i d : ℕ) → begins p n ≡ true → i < length p → getD n i d ≡ getD p i d
 begins-at [] n i d h l = absurd (omega arith)
 begins-at (a ∷ p) [] i d h l = absurd (false≢true h)
 begins-at (a ∷ p) (b ∷ n) zero d h l = sym (begins-cases a b p n h .0)
 begins-at (a ∷ p) (b ∷ n) (suc i) d h l = begins-at p n i d (begins-cases a b p n h .1) (omega arith)
+
+pub begins-of : (p n : List ℕ) → length p ≤ length n → ((i : ℕ) → i < length p → getD p i 0 ≡ getD n i 0) → begins p n ≡ true
+begins-of [] n h e = refl
+begins-of (a ∷ p) [] h e = absurd (omega arith)
+begins-of (a ∷ p) (b ∷ n) h e = begins-same a b p n (e 0 (omega arith)) (begins-of p n (omega arith) (λ i l. e (suc i) (omega arith)))
 
 pub begins-part : (p n : List ℕ) (k : ℕ) → begins p n ≡ true → k ≤ length p → take k n ≡ take k p
 begins-part p n k h l = sym (ap (take k) (begins-is-take p n h) ∙ take-take k (length p) n l)
@@ -78,6 +83,14 @@ begins-part p n k h l = sym (ap (take k) (begins-is-take p n h) ∙ take-take k 
 pub begins-append : (p q : List ℕ) → begins p (p ++ q) ≡ true
 begins-append [] q = refl
 begins-append (a ∷ p) q = begins-same a a p (p ++ q) refl (begins-append p q)
+
+-- a list that begins with two lists, one after the other
+pub begins-parts : (p q n : List ℕ) → begins (p ++ q) n ≡ begins p n && begins q (drop (length p) n)
+begins-parts [] q n = refl
+begins-parts (a ∷ p) q [] = refl
+begins-parts (a ∷ p) q (b ∷ n) = ⊎-elim (λ (e : eqb a b ≡ true). rw e (begins-parts p q n)) (λ (e : eqb a b ≡ false). rw e) (which (eqb a b))
+
+-- ---- the same list, by a test
 
 pub same-true : (p q : List ℕ) → sameList p q ≡ true → p ≡ q
 same-true [] [] h = refl
@@ -102,6 +115,8 @@ in-or-out p (q ∷ B) = step (which (sameList p q)) (in-or-out p B)
     step (inl e) r = inl (inl (same-true p q e))
     step (inr e) (inl k) = inl (inr k)
     step (inr e) (inr h) = inr (neither e h)
+
+-- ---- the length that two lists share
 
 pub record Sharing (a b : List ℕ) (i : ℕ) : Type 0 where
   pub within : i ≤ length a
@@ -130,18 +145,6 @@ module _ (a b : List ℕ) where
   ended-other i h k s =
       let none : sharedLength (drop i a) (drop i b) ≡ 0 = rw (drop-cons a i 0 h, drop-of-length-le b k) in omega (arith, s .rest)
 
-pub shared-le : (a b : List ℕ) → sharedLength a b ≤ length a
-shared-le [] b = omega arith
-shared-le (x ∷ a) [] = omega arith
-shared-le (x ∷ a) (y ∷ b) =
-    ⊎-elim (λ e. rw e (omega (arith, shared-le a b))) (λ e. rw e (omega arith)) (which (eqb x y))
-
-pub shared-le-other : (a b : List ℕ) → sharedLength a b ≤ length b
-shared-le-other [] b = omega arith
-shared-le-other (x ∷ a) [] = omega arith
-shared-le-other (x ∷ a) (y ∷ b) =
-    ⊎-elim (λ e. rw e (omega (arith, shared-le-other a b))) (λ e. rw e (omega arith)) (which (eqb x y))
-
 -- a list begins with p where all of p is shared
 pub begins-shared : (p n : List ℕ) → begins p n ≡ eqb (sharedLength p n) (length p)
 begins-shared [] n = refl
@@ -149,59 +152,47 @@ begins-shared (x ∷ p) [] = sym (eqb·zero-suc (length p))
 begins-shared (x ∷ p) (y ∷ n) =
     ⊎-elim (λ e. rw e (begins-shared p n ∙ sym (eqb·suc-suc (sharedLength p n) (length p)))) (λ e. rw e (sym (eqb·zero-suc (length p)))) (which (eqb x y))
 
-pub begins-take : (m n : List ℕ) (l : ℕ) → l ≤ sharedLength m n → begins (take l n) m ≡ true
-begins-take m n zero h = refl
-begins-take [] n (suc l) h = absurd (omega arith)
-begins-take (a ∷ m) [] (suc l) h = absurd (omega arith)
-begins-take (a ∷ m) (b ∷ n) (suc l) h = step (begins-take m n l) (which (eqb a b))
-  where
-    step : (l ≤ sharedLength m n → begins (take l n) m ≡ true) → (eqb a b ≡ true) ⊎ (eqb a b ≡ false) → begins (take (suc l) (b ∷ n)) (a ∷ m) ≡ true
-    step below (inl q) = begins-same b a (take l n) m (sym (eqb-true a b q)) (below (omega (arith, rw q at h)))
-    step below (inr q) = absurd (omega (arith, rw q at h))
-
-pub begins-take-not : (m n : List ℕ) (l : ℕ) → sharedLength m n < l → l ≤ length n → begins (take l n) m ≡ false
-begins-take-not m n zero h k = absurd (omega arith)
-begins-take-not m [] (suc l) h k = absurd (omega arith)
-begins-take-not [] (b ∷ n) (suc l) h k = refl
-begins-take-not (a ∷ m) (b ∷ n) (suc l) h k = step (begins-take-not m n l) (which (eqb a b))
-  where
-    step : (sharedLength m n < l → l ≤ length n → begins (take l n) m ≡ false) → (eqb a b ≡ true) ⊎ (eqb a b ≡ false) → begins (take (suc l) (b ∷ n)) (a ∷ m) ≡ false
-    step below (inl q) = rw (eq-eqb b a (sym (eqb-true a b q))) (below (omega (arith, rw q at h)) (omega arith))
-    step below (inr q) = rw (ne-eqb b a (λ e. eqb-false a b q (sym e)))
-
--- the two names share their first `sharedLength` bytes
-pub sharedLength-take : (m n : List ℕ) (l : ℕ) → l ≤ sharedLength m n → take l m ≡ take l n
-sharedLength-take m n zero h = refl
-sharedLength-take [] n (suc l) h = absurd (omega arith)
-sharedLength-take (a ∷ m) [] (suc l) h = absurd (omega arith)
-sharedLength-take (a ∷ m) (b ∷ n) (suc l) h = step (sharedLength-take m n l) (which (eqb a b))
-  where
-    step : (l ≤ sharedLength m n → take l m ≡ take l n) → (eqb a b ≡ true) ⊎ (eqb a b ≡ false) → a ∷ take l m ≡ b ∷ take l n
-    step below (inl q) = cc (eqb-true a b q, below (omega (arith, rw q at h)))
-    step below (inr q) = absurd (omega (arith, rw q at h))
-
 pub sharedLength-sym : (m n : List ℕ) → sharedLength m n ≡ sharedLength n m
 sharedLength-sym [] [] = refl
 sharedLength-sym [] (b ∷ n) = refl
 sharedLength-sym (a ∷ m) [] = refl
-sharedLength-sym (a ∷ m) (b ∷ n) = step (which (eqb a b)) (sharedLength-sym m n)
-  where
-    step : (eqb a b ≡ true) ⊎ (eqb a b ≡ false) → sharedLength m n ≡ sharedLength n m → sharedLength (a ∷ m) (b ∷ n) ≡ sharedLength (b ∷ n) (a ∷ m)
-    step (inl q) r = rw (q, eq-eqb b a (sym (eqb-true a b q)), r)
-    step (inr q) r = rw (q, ne-eqb b a (λ e. eqb-false a b q (sym e)))
+sharedLength-sym (a ∷ m) (b ∷ n) =
+    ⊎-elim
+    (λ (q : eqb a b ≡ true). rw (q, eq-eqb b a (sym (eqb-true a b q)), sharedLength-sym m n))
+    (λ (q : eqb a b ≡ false). rw (q, ne-eqb b a (λ e. eqb-false a b q (sym e))))
+    (which (eqb a b))
 
--- a list that begins with two lists, one after the other
-pub begins-parts : (p q n : List ℕ) → begins (p ++ q) n ≡ begins p n && begins q (drop (length p) n)
-begins-parts [] q n = refl
-begins-parts (a ∷ p) q [] = refl
-begins-parts (a ∷ p) q (b ∷ n) = step (which (eqb a b)) (begins-parts p q n)
-  where
-    step : (eqb a b ≡ true) ⊎ (eqb a b ≡ false) → begins (p ++ q) n ≡ begins p n && begins q (drop (length p) n) → begins ((a ∷ p) ++ q) (b ∷ n) ≡ begins (a ∷ p) (b ∷ n) && begins q (drop (length (a ∷ p)) (b ∷ n))
-    step (inl e) r = rw e r
-    step (inr e) r = rw e
+pub shared-le : (a b : List ℕ) → sharedLength a b ≤ length a
+shared-le [] b = omega arith
+shared-le (x ∷ a) [] = omega arith
+shared-le (x ∷ a) (y ∷ b) =
+    ⊎-elim (λ e. rw e (omega (arith, shared-le a b))) (λ e. rw e (omega arith)) (which (eqb x y))
 
--- and back
-pub begins-of : (p n : List ℕ) → length p ≤ length n → ((i : ℕ) → i < length p → getD p i 0 ≡ getD n i 0) → begins p n ≡ true
-begins-of [] n h e = refl
-begins-of (a ∷ p) [] h e = absurd (omega arith)
-begins-of (a ∷ p) (b ∷ n) h e = begins-same a b p n (e 0 (omega arith)) (begins-of p n (omega arith) (λ i l. e (suc i) (omega arith)))
+pub shared-le-other : (a b : List ℕ) → sharedLength a b ≤ length b
+shared-le-other a b = rw (sharedLength-sym a b) (shared-le b a)
+
+-- what two lists share is the same of both
+pub sharedLength-take : (m n : List ℕ) (l : ℕ) → l ≤ sharedLength m n → take l m ≡ take l n
+sharedLength-take m n zero h = refl
+sharedLength-take [] n (suc l) h = absurd (omega arith)
+sharedLength-take (a ∷ m) [] (suc l) h = absurd (omega arith)
+sharedLength-take (a ∷ m) (b ∷ n) (suc l) h =
+    ⊎-elim
+    (λ (q : eqb a b ≡ true). cc (eqb-true a b q, sharedLength-take m n l (omega (arith, rw q at h))))
+    (λ (q : eqb a b ≡ false). absurd (omega (arith, rw q at h)))
+    (which (eqb a b))
+
+-- so a beginning of n begins m as far as the two share it
+pub shared-begins : (m n : List ℕ) (l : ℕ) → l ≤ sharedLength m n → begins (take l n) m ≡ true
+shared-begins m n l h = rw (sharedLength-take m n l h) at (take-begins l m)
+
+-- and no further
+pub past-shared : (m n : List ℕ) (l : ℕ) → sharedLength m n < l → l ≤ length n → begins (take l n) m ≡ false
+past-shared m n zero h k = absurd (omega arith)
+past-shared m [] (suc l) h k = absurd (omega arith)
+past-shared [] (b ∷ n) (suc l) h k = refl
+past-shared (a ∷ m) (b ∷ n) (suc l) h k =
+    ⊎-elim
+    (λ (q : eqb a b ≡ true). rw (eq-eqb b a (sym (eqb-true a b q))) (past-shared m n l (omega (arith, rw q at h)) (omega arith)))
+    (λ (q : eqb a b ≡ false). rw (ne-eqb b a (λ e. eqb-false a b q (sym e))))
+    (which (eqb a b))

@@ -7,11 +7,10 @@ pub mod Begins
 pub mod Words
 pub mod Lowest
 pub mod Shuffles
-pub mod Sorts
-pub mod Machine
 pub mod Pairs
-pub mod Counts
+pub mod Sorts
+pub mod Settling
+pub mod Machine
 pub mod Rows
 pub mod Sums
-pub mod Settling
 pub mod Rooms

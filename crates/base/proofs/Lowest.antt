@@ -1,14 +1,13 @@
 -- The set bits of a word, taken lowest first: the lowest one, the word without it, and how many there are.
 -- Each law goes by the lowest digit and the word's half. Assumes nothing.
-use mathlib.Core.Path.{_≡_, refl, sym, ap, _∙_}
+use mathlib.Core.Path.{_≡_, refl, ap, _∙_}
 use mathlib.Core.Logic.{_⊎_, inl, inr}
-use mathlib.Core.List.{List, [], _∷_, _++_}
-use Prim.Native.Nat.{ℕ, zero, suc, _+_, _-_, _*_, _/_, _%_, _^_, _<_}
+use mathlib.Core.List.{List, [], _∷_}
+use Prim.Native.Nat.{ℕ, zero, suc, _-_, _*_, _/_, _%_, _^_, _<_}
 use native.Mathlib.Nat.{pow-suc, mul-comm, zero-div, div-one, div-div-eq-div-mul}
 use native.Mathlib.Omega.{arith}
 use lib.Bits.{bitAnd, and-step, and-self}
 use lib.Count.{ones, ones-step, trailingZeros}
-use lib.Dec.{eqb}
 use lib.ListN.{length}
 use Rattle.base.specs.Lists.{fromOn, upTo, keep, each}
 use Rattle.base.specs.Bits.{bitAt}

@@ -1,16 +1,15 @@
--- Members of a list, and what `keep`, `each` and `eachList` do to them.
+-- Members of a list and what stands at its places; what `keep`, `each` and `eachList` do to them.
 -- Assumes nothing.
 use mathlib.Core.Path.{_≡_, refl, sym, ap, _∙_}
-use mathlib.Core.Logic.{_⊎_, inl, inr}
-use mathlib.Core.Bool.{Bool, true, false, not, _&&_, true≢false, false≢true}
+use mathlib.Core.Logic.{_⊎_, inl, inr, ⊎-elim}
+use mathlib.Core.Bool.{Bool, true, false, not, _&&_, and-comm, true≢false, false≢true}
 use mathlib.Core.List.{List, [], _∷_, _++_, append-assoc}
 use Prim.Native.Nat.{ℕ, zero, suc, _≤_, _<_, _+_, _-_}
 use native.Mathlib.Omega.{arith}
-use lib.Dec.{ltb}
 use lib.ListN.{length, take, drop, getD, length-drop, set, replicate}
 use lib.Seq.{drop-cons, take-nil}
-use borrow.Author.Tests.{ltb-true, ltb-false, eq-eqb, ne-eqb}
-use Rattle.base.specs.Lists.{keep, each, eachList, largest, firstOf, isEmpty, positionIn, In}
+use borrow.Author.Tests.{eq-eqb, ne-eqb}
+use Rattle.base.specs.Lists.{keep, each, eachList, firstOf, isEmpty, positionIn, In}
 use Rattle.base.proofs.Tests.{which}
 
 pub in-left : {A : Type 0} (x : A) (s t : List A) → In x s → In x (s ++ t)
@@ -25,11 +24,15 @@ in-right x (y ∷ s) t h = inr (in-right x s t h)
 pub in-either : {A : Type 0} (x : A) (s t : List A) → In x (s ++ t) → In x s ⊎ In x t
 in-either x [] t h = inr h
 in-either x (y ∷ s) t (inl e) = inl (inl e)
-in-either x (y ∷ s) t (inr h) = step (in-either x s t h)
-  where
-    step : In x s ⊎ In x t → In x (y ∷ s) ⊎ In x t
-    step (inl k) = inl (inr k)
-    step (inr k) = inr k
+in-either x (y ∷ s) t (inr h) = ⊎-elim (λ k. inl (inr k)) (λ k. inr k) (in-either x s t h)
+
+pub in-take : {A : Type 0} (k : ℕ) (l : List A) (x : A) → In x (take k l) → In x l
+in-take zero l x h = absurd h
+in-take (suc k) [] x h = h
+in-take (suc k) (y ∷ l) x (inl e) = inl e
+in-take (suc k) (y ∷ l) x (inr h) = inr (in-take k l x h)
+
+-- ---- by place
 
 pub getD-in : {A : Type 0} (d : A) (l : List A) (i : ℕ) → i < length l → In (getD l i d) l
 getD-in d [] i h = absurd (omega arith)
@@ -41,12 +44,10 @@ in-at d x [] h = absurd h
 in-at d x (y ∷ l) (inl e) = (0, omega arith, sym e)
 in-at d x (y ∷ l) (inr h) = let t = in-at d x l h in (suc (t .0), omega arith, t .2)
 
--- a part of a beginning
-pub drop-take : {A : Type 0} (k n : ℕ) (l : List A) → drop k (take n l) ≡ take (n - k) (drop k l)
-drop-take zero n l = let e : n - 0 ≡ n = omega arith in rw e
-drop-take (suc k) zero l = let e : 0 - suc k ≡ 0 = omega arith in rw e
-drop-take (suc k) (suc n) [] = sym (take-nil (suc n - suc k))
-drop-take (suc k) (suc n) (x ∷ l) = let e : suc n - suc k ≡ n - k = omega arith in rw e (drop-take k n l)
+-- a number that is not among those before it stands at their count
+pub position-seam : (x : ℕ) (l z : List ℕ) → (In x l → ⊥) → positionIn x (l ++ (x ∷ z)) ≡ length l
+position-seam x [] z h = rw (eq-eqb x x refl)
+position-seam x (y ∷ l) z h = rw (ne-eqb x y (λ e. h (inl e)), position-seam x l z (λ k. h (inr k)))
 
 -- what stands at a place after a store is the value or what stood there
 pub set-either : {A : Type 0} (l : List A) (i r : ℕ) (v d : A) → (getD (set l i v) r d ≡ v) ⊎ (getD (set l i v) r d ≡ getD l r d)
@@ -62,15 +63,50 @@ replicate-at zero r d = refl
 replicate-at (suc n) zero d = refl
 replicate-at (suc n) (suc r) d = replicate-at n r d
 
+-- a part of a beginning
+pub drop-take : {A : Type 0} (k n : ℕ) (l : List A) → drop k (take n l) ≡ take (n - k) (drop k l)
+drop-take zero n l = let e : n - 0 ≡ n = omega arith in rw e
+drop-take (suc k) zero l = let e : 0 - suc k ≡ 0 = omega arith in rw e
+drop-take (suc k) (suc n) [] = sym (take-nil (suc n - suc k))
+drop-take (suc k) (suc n) (x ∷ l) = let e : suc n - suc k ≡ n - k = omega arith in rw e (drop-take k n l)
+
+-- what is left of a list from place j on begins with what stands there
+pub drop-head : {A : Type 0} (d x : A) (l m : List A) (j : ℕ) → drop j l ≡ x ∷ m → (j < length l) × (getD l j d ≡ x) × (drop (suc j) l ≡ m)
+drop-head d x l m j e =
+    let h : j < length l = omega (arith, length-drop j l, ap length e) in
+    let q = sym (drop-cons l j d h) ∙ e in
+    (h, cc, cc)
+
+-- ---- a list with a member is not empty, and one that is not empty has a member
+
+pub in-some : {A : Type 0} (l : List A) (x : A) → In x l → not (isEmpty l) ≡ true
+in-some [] x h = absurd h
+in-some (y ∷ l) x h = refl
+
+pub some-in : {A : Type 0} (l : List A) → not (isEmpty l) ≡ true → (x : A) × In x l
+some-in [] h = absurd (false≢true h)
+some-in (x ∷ l) h = (x, inl refl)
+
+pub some-length : {A : Type 0} (l : List A) → not (isEmpty l) ≡ true → 1 ≤ length l
+some-length [] h = absurd (false≢true h)
+some-length (x ∷ l) h = omega arith
+
+pub empty-of : {A : Type 0} (l : List A) → not (isEmpty l) ≡ false → l ≡ []
+empty-of [] h = refl
+empty-of (x ∷ l) h = absurd (true≢false h)
+
+-- a list that is not empty is its first member and the rest
+pub first-rest : (l : List ℕ) → isEmpty l ≡ false → (l ≡ firstOf l ∷ drop 1 l) × In (firstOf l) l
+first-rest [] h = absurd (true≢false h)
+first-rest (x ∷ l) h = (refl, inl refl)
+
+-- ---- keep
+
 module _ {A : Type 0} (f : A → Bool) where
   pub in-keep : (l : List A) (x : A) → In x l → f x ≡ true → In x (keep f l)
   in-keep [] x h t = h
   in-keep (y ∷ l) x (inl e) t = rw (rw e at t) (inl e)
-  in-keep (y ∷ l) x (inr h) t = step (which (f y)) (in-keep l x h t)
-    where
-      step : (f y ≡ true) ⊎ (f y ≡ false) → In x (keep f l) → In x (keep f (y ∷ l))
-      step (inl q) r = rw q (inr r)
-      step (inr q) r = rw q r
+  in-keep (y ∷ l) x (inr h) t = ⊎-elim (λ (q : f y ≡ true). rw q (inr (in-keep l x h t))) (λ (q : f y ≡ false). rw q (in-keep l x h t)) (which (f y))
 
   pub keep-in : (l : List A) (x : A) → In x (keep f l) → In x l × (f x ≡ true)
   keep-in [] x h = absurd h
@@ -94,62 +130,43 @@ module _ {A : Type 0} (f : A → Bool) where
 
   pub keep-append : (s t : List A) → keep f (s ++ t) ≡ keep f s ++ keep f t
   keep-append [] t = refl
-  keep-append (y ∷ s) t = step (which (f y)) (keep-append s t)
-    where
-      step : (f y ≡ true) ⊎ (f y ≡ false) → keep f (s ++ t) ≡ keep f s ++ keep f t → keep f ((y ∷ s) ++ t) ≡ keep f (y ∷ s) ++ keep f t
-      step (inl q) r = rw (q, r)
-      step (inr q) r = rw (q, r)
+  keep-append (y ∷ s) t = let r = keep-append s t in ⊎-elim (λ (q : f y ≡ true). rw (q, r)) (λ (q : f y ≡ false). rw (q, r)) (which (f y))
+
+  pub length-keep : (l : List A) → length (keep f l) ≤ length l
+  length-keep [] = omega arith
+  length-keep (y ∷ l) = let r = length-keep l in ⊎-elim (λ (q : f y ≡ true). rw q (omega arith)) (λ (q : f y ≡ false). rw q (omega arith)) (which (f y))
 
 -- tests that agree on the members keep the same
 pub keep-same : {A : Type 0} (f g : A → Bool) (l : List A) → ((x : A) → In x l → f x ≡ g x) → keep f l ≡ keep g l
 keep-same f g [] h = refl
-keep-same f g (x ∷ l) h = step (which (g x)) (keep-same f g l (λ y k. h y (inr k)))
-  where
-    step : (g x ≡ true) ⊎ (g x ≡ false) → keep f l ≡ keep g l → keep f (x ∷ l) ≡ keep g (x ∷ l)
-    step (inl q) r = let e : f x ≡ true = h x (inl refl) ∙ q in simp (e, q, r)
-    step (inr q) r = let e : f x ≡ false = h x (inl refl) ∙ q in simp (e, q, r)
+keep-same f g (x ∷ l) h = rw (h x (inl refl), keep-same f g l (λ y k. h y (inr k)))
 
-pub keep-short : {A : Type 0} (f : A → Bool) (l : List A) → length (keep f l) ≤ length l
-keep-short f [] = omega arith
-keep-short f (x ∷ l) = step (which (f x)) (keep-short f l)
-  where
-    step : (f x ≡ true) ⊎ (f x ≡ false) → length (keep f l) ≤ length l → length (keep f (x ∷ l)) ≤ length (x ∷ l)
-    step (inl q) r = rw q (omega arith)
-    step (inr q) r = rw q (omega arith)
+pub keep-both : {A : Type 0} (f g : A → Bool) (l : List A) → keep (λ x. f x && g x) l ≡ keep g (keep f l)
+keep-both f g [] = refl
+keep-both f g (x ∷ l) = let r = keep-both f g l in ⊎-elim (λ (q : f x ≡ true). simp (q, r)) (λ (q : f x ≡ false). simp (q, r)) (which (f x))
+
+pub keep-comm : {A : Type 0} (f g : A → Bool) (l : List A) → keep f (keep g l) ≡ keep g (keep f l)
+keep-comm f g l = sym (keep-both g f l) ∙ keep-same (λ x. g x && f x) (λ x. f x && g x) l (λ x h. and-comm (g x) (f x)) ∙ keep-both f g l
+
+-- two tests of which no member passes both
+pub keep-apart : {A : Type 0} (f g : A → Bool) (l : List A) → ((x : A) → f x ≡ true → g x ≡ false) → length (keep f l) + length (keep g l) ≤ length l
+keep-apart f g [] h = omega arith
+keep-apart f g (y ∷ l) h =
+    let r = keep-apart f g l h in
+    ⊎-elim
+    (λ (a : f y ≡ true). rw (a, h y a) (omega arith))
+    (λ (a : f y ≡ false). ⊎-elim (λ (b : g y ≡ true). rw (a, b) (omega arith)) (λ (b : g y ≡ false). rw (a, b) (omega arith)) (which (g y)))
+    (which (f y))
 
 pub keep-each : {A B : Type 0} (f : B → Bool) (g : A → B) (l : List A) → keep f (each g l) ≡ each g (keep (λ x. f (g x)) l)
 keep-each f g [] = refl
-keep-each f g (x ∷ l) = step (which (f (g x))) (keep-each f g l)
-  where
-    step : (f (g x) ≡ true) ⊎ (f (g x) ≡ false) → keep f (each g l) ≡ each g (keep (λ x. f (g x)) l) → keep f (each g (x ∷ l)) ≡ each g (keep (λ x. f (g x)) (x ∷ l))
-    step (inl q) r = rw (q, r)
-    step (inr q) r = rw (q, r)
+keep-each f g (x ∷ l) = let r = keep-each f g l in ⊎-elim (λ (q : f (g x) ≡ true). rw (q, r)) (λ (q : f (g x) ≡ false). rw (q, r)) (which (f (g x)))
+
+-- ---- each
 
 pub length-each : {A B : Type 0} (g : A → B) (l : List A) → length (each g l) ≡ length l
 length-each g [] = refl
 length-each g (x ∷ l) = ap suc (length-each g l)
-
-pub each-take : {A B : Type 0} (g : A → B) (k : ℕ) (l : List A) → each g (take k l) ≡ take k (each g l)
-each-take g zero l = refl
-each-take g (suc k) [] = refl
-each-take {A} {B} g (suc k) (x ∷ l) = ap {B = List B} (λ r. g x ∷ r) (each-take g k l)
-
--- maps that agree on the members of a list
-pub each-same : {A B : Type 0} (f g : A → B) (l : List A) → ((x : A) → In x l → f x ≡ g x) → each f l ≡ each g l
-each-same f g [] h = refl
-each-same f g (x ∷ l) h = rw (h x (inl refl), each-same f g l (λ y k. h y (inr k)))
-
-pub each-append : {A B : Type 0} (f : A → B) (s t : List A) → each f (s ++ t) ≡ each f s ++ each f t
-each-append f [] t = refl
-each-append f (x ∷ s) t = rw (each-append f s t)
-
-pub eachList-each : {A B C : Type 0} (f : B → List C) (g : A → B) (l : List A) → eachList f (each g l) ≡ eachList (λ x. f (g x)) l
-eachList-each f g [] = refl
-eachList-each f g (x ∷ l) = rw (eachList-each f g l)
-
-pub each-eachList : {A B C : Type 0} (f : B → C) (g : A → List B) (l : List A) → each f (eachList g l) ≡ eachList (λ x. each f (g x)) l
-each-eachList f g [] = refl
-each-eachList f g (x ∷ l) = rw (each-append f (g x) (eachList g l), each-eachList f g l)
 
 pub getD-each : {A B : Type 0} (f : A → B) (l : List A) (i : ℕ) (d : A) (z : B) → i < length l → getD (each f l) i z ≡ f (getD l i d)
 getD-each f [] i d z h = absurd (omega arith)
@@ -166,142 +183,54 @@ each-in g [] x h = h
 each-in g (y ∷ l) x (inl e) = inl (ap g e)
 each-in g (y ∷ l) x (inr h) = inr (each-in g l x h)
 
-pub position-seam : (x : ℕ) (l z : List ℕ) → (In x l → ⊥) → positionIn x (l ++ (x ∷ z)) ≡ length l
-position-seam x [] z h = rw (eq-eqb x x refl)
-position-seam x (y ∷ l) z h = rw (ne-eqb x y (λ e. h (inl e)), position-seam x l z (λ k. h (inr k)))
+pub each-take : {A B : Type 0} (g : A → B) (k : ℕ) (l : List A) → each g (take k l) ≡ take k (each g l)
+each-take g zero l = refl
+each-take g (suc k) [] = refl
+each-take {A} {B} g (suc k) (x ∷ l) = ap {B = List B} (λ r. g x ∷ r) (each-take g k l)
 
-pub in-eachList : {A B : Type 0} (f : A → List B) (l : List A) (y : B) → In y (eachList f l) → (x : A) × In x l × In y (f x)
-in-eachList f [] y h = absurd h
-in-eachList {A} {B} f (x ∷ l) y h = step (in-eachList f l y) (in-either y (f x) (eachList f l) h)
-  where
-    step : (In y (eachList f l) → (z : A) × In z l × In y (f z)) → In y (f x) ⊎ In y (eachList f l) → (z : A) × In z (x ∷ l) × In y (f z)
-    step below (inl k) = (x, inl refl, k)
-    step below (inr k) = let r = below k in (r .0, inr (r .1), r .2)
+-- maps that agree on the members of a list
+pub each-same : {A B : Type 0} (f g : A → B) (l : List A) → ((x : A) → In x l → f x ≡ g x) → each f l ≡ each g l
+each-same f g [] h = refl
+each-same f g (x ∷ l) h = rw (h x (inl refl), each-same f g l (λ y k. h y (inr k)))
 
-pub keep-both : {A : Type 0} (f g : A → Bool) (l : List A) → keep (λ x. f x && g x) l ≡ keep g (keep f l)
-keep-both f g [] = refl
-keep-both f g (x ∷ l) = step (which (f x)) (keep-both f g l)
-  where
-    step : (f x ≡ true) ⊎ (f x ≡ false) → keep (λ x. f x && g x) l ≡ keep g (keep f l) → keep (λ x. f x && g x) (x ∷ l) ≡ keep g (keep f (x ∷ l))
-    step (inl q) r = simp (q, r)
-    step (inr q) r = simp (q, r)
-
-pub keep-comm : {A : Type 0} (f g : A → Bool) (l : List A) → keep f (keep g l) ≡ keep g (keep f l)
-keep-comm f g [] = refl
-keep-comm f g (x ∷ l) = step (which (f x)) (which (g x)) (keep-comm f g l)
-  where
-    step : (f x ≡ true) ⊎ (f x ≡ false) → (g x ≡ true) ⊎ (g x ≡ false) → keep f (keep g l) ≡ keep g (keep f l) → keep f (keep g (x ∷ l)) ≡ keep g (keep f (x ∷ l))
-    step (inl a) (inl b) r = simp (a, b, r)
-    step (inl a) (inr b) r = simp (a, b, r)
-    step (inr a) (inl b) r = simp (a, b, r)
-    step (inr a) (inr b) r = simp (a, b, r)
-
-pub eachList-keep : {A B : Type 0} (f : A → List B) (g : A → Bool) (l : List A) → ((x : A) → g x ≡ false → f x ≡ []) → eachList f l ≡ eachList f (keep g l)
-eachList-keep f g [] h = refl
-eachList-keep f g (x ∷ l) h = step (which (g x)) (eachList-keep f g l h)
-  where
-    step : (g x ≡ true) ⊎ (g x ≡ false) → eachList f l ≡ eachList f (keep g l) → eachList f (x ∷ l) ≡ eachList f (keep g (x ∷ l))
-    step (inl q) r = simp (q, r)
-    step (inr q) r = simp (q, h x q, r)
-
-pub eachList-same : {A B : Type 0} (f g : A → List B) (l : List A) → ((x : A) → f x ≡ g x) → eachList f l ≡ eachList g l
-eachList-same f g [] h = refl
-eachList-same f g (x ∷ l) h = rw (h x, eachList-same f g l h)
-
-pub eachList-in : {A B : Type 0} (f g : A → List B) (l : List A) → ((x : A) → In x l → f x ≡ g x) → eachList f l ≡ eachList g l
-eachList-in f g [] h = refl
-eachList-in f g (x ∷ l) h = rw (h x (inl refl), eachList-in f g l (λ y k. h y (inr k)))
-
-pub keep-eachList : {A B : Type 0} (f : B → Bool) (g : A → List B) (l : List A) → keep f (eachList g l) ≡ eachList (λ x. keep f (g x)) l
-keep-eachList f g [] = refl
-keep-eachList f g (x ∷ l) = rw (keep-append f (g x) (eachList g l), keep-eachList f g l)
-
-pub eachList-append : {A B : Type 0} (f : A → List B) (s u : List A) → eachList f (s ++ u) ≡ eachList f s ++ eachList f u
-eachList-append f [] u = refl
-eachList-append f (x ∷ s) u = rw (eachList-append f s u) (sym (append-assoc (f x) (eachList f s) (eachList f u)))
-
-pub empty-of : {A : Type 0} (l : List A) → not (isEmpty l) ≡ false → l ≡ []
-empty-of [] h = refl
-empty-of (x ∷ l) h = absurd (true≢false h)
-
--- a list with a member is not empty, and one that is not empty has a member
-pub in-some : {A : Type 0} (l : List A) (x : A) → In x l → not (isEmpty l) ≡ true
-in-some [] x h = absurd h
-in-some (y ∷ l) x h = refl
-
-pub some-in : {A : Type 0} (l : List A) → not (isEmpty l) ≡ true → (x : A) × In x l
-some-in [] h = absurd (false≢true h)
-some-in (x ∷ l) h = (x, inl refl)
-
-pub some-length : {A : Type 0} (l : List A) → not (isEmpty l) ≡ true → 1 ≤ length l
-some-length [] h = absurd (false≢true h)
-some-length (x ∷ l) h = omega arith
-
--- such a list is its first member, which is one of them, and the rest
-pub first-rest : (l : List ℕ) → isEmpty l ≡ false → (l ≡ firstOf l ∷ drop 1 l) × In (firstOf l) l
-first-rest [] h = absurd (true≢false h)
-first-rest (x ∷ l) h = (refl, inl refl)
-
-pub in-take : {A : Type 0} (k : ℕ) (l : List A) (x : A) → In x (take k l) → In x l
-in-take zero l x h = absurd h
-in-take (suc k) [] x h = h
-in-take (suc k) (y ∷ l) x (inl e) = inl e
-in-take (suc k) (y ∷ l) x (inr h) = inr (in-take k l x h)
-
--- ---- the largest member
-
-pub in-largest : (l : List ℕ) (x : ℕ) → In x l → x ≤ largest l
-in-largest [] x h = absurd h
-in-largest (y ∷ l) x h = step (in-largest l x) h (which (ltb y (largest l)))
-  where
-    step : (In x l → x ≤ largest l) → In x (y ∷ l) → (ltb y (largest l) ≡ true) ⊎ (ltb y (largest l) ≡ false) → x ≤ largest (y ∷ l)
-    step below (inl e) (inl q) = rw q (omega (arith, ltb-true y (largest l) q))
-    step below (inl e) (inr q) = rw q (omega arith)
-    step below (inr k) (inl q) = rw q (below k)
-    step below (inr k) (inr q) = rw q (omega (arith, ltb-false y (largest l) q, below k))
-
-pub largest-in : (l : List ℕ) → not (isEmpty l) ≡ true → In (largest l) l
-largest-in [] h = absurd (false≢true h)
-largest-in (y ∷ l) h = step (largest-in l) (which (ltb y (largest l)))
-  where
-    some : (l : List ℕ) → y < largest l → not (isEmpty l) ≡ true
-    some [] k = absurd (omega arith)
-    some (z ∷ l) k = refl
-
-    step : (not (isEmpty l) ≡ true → In (largest l) l) → (ltb y (largest l) ≡ true) ⊎ (ltb y (largest l) ≡ false) → In (largest (y ∷ l)) (y ∷ l)
-    step below (inl q) = rw q (inr (below (some l (ltb-true y (largest l) q))))
-    step below (inr q) = rw q (inl refl)
-
-pub length-keep : {A : Type 0} (f : A → Bool) (l : List A) → length (keep f l) ≤ length l
-length-keep f [] = omega arith
-length-keep f (y ∷ l) = step (which (f y)) (length-keep f l)
-  where
-    step : (f y ≡ true) ⊎ (f y ≡ false) → length (keep f l) ≤ length l → length (keep f (y ∷ l)) ≤ length (y ∷ l)
-    step (inl q) r = rw q (omega arith)
-    step (inr q) r = rw q (omega arith)
-
--- two tests of which no member passes both
-pub keep-apart : {A : Type 0} (f g : A → Bool) (l : List A) → ((x : A) → f x ≡ true → g x ≡ false) → length (keep f l) + length (keep g l) ≤ length l
-keep-apart f g [] h = omega arith
-keep-apart f g (y ∷ l) h = step (which (f y)) (which (g y)) (keep-apart f g l h)
-  where
-    step : (f y ≡ true) ⊎ (f y ≡ false) → (g y ≡ true) ⊎ (g y ≡ false) → length (keep f l) + length (keep g l) ≤ length l → length (keep f (y ∷ l)) + length (keep g (y ∷ l)) ≤ length (y ∷ l)
-    step (inl a) b r = rw (a, h y a) (omega arith)
-    step (inr a) (inl b) r = rw (a, b) (omega arith)
-    step (inr a) (inr b) r = rw (a, b) (omega arith)
-
-pub eachList-agree : {A B : Type 0} (f g : A → List B) (l : List A) → ((x : A) → In x l → f x ≡ g x) → eachList f l ≡ eachList g l
-eachList-agree f g [] h = refl
-eachList-agree f g (x ∷ l) h = rw (h x (inl refl), eachList-agree f g l (λ y k. h y (inr k)))
+pub each-append : {A B : Type 0} (f : A → B) (s t : List A) → each f (s ++ t) ≡ each f s ++ each f t
+each-append f [] t = refl
+each-append f (x ∷ s) t = rw (each-append f s t)
 
 -- one map after the other
 pub each-each : {A B C : Type 0} (f : B → C) (g : A → B) (l : List A) → each f (each g l) ≡ each (λ x. f (g x)) l
 each-each f g [] = refl
 each-each f g (x ∷ l) = rw (each-each f g l)
 
--- what is left of a list from place j on begins with what stands there
-pub drop-head : {A : Type 0} (d x : A) (l m : List A) (j : ℕ) → drop j l ≡ x ∷ m → (j < length l) × (getD l j d ≡ x) × (drop (suc j) l ≡ m)
-drop-head d x l m j e =
-    let h : j < length l = omega (arith, length-drop j l, ap length e) in
-    let q = sym (drop-cons l j d h) ∙ e in
-    (h, cc, cc)
+-- ---- eachList
+
+pub in-eachList : {A B : Type 0} (f : A → List B) (l : List A) (y : B) → In y (eachList f l) → (x : A) × In x l × In y (f x)
+in-eachList f [] y h = absurd h
+in-eachList f (x ∷ l) y h = ⊎-elim (λ k. (x, inl refl, k)) (λ k. let r = in-eachList f l y k in (r .0, inr (r .1), r .2)) (in-either y (f x) (eachList f l) h)
+
+pub eachList-same : {A B : Type 0} (f g : A → List B) (l : List A) → ((x : A) → In x l → f x ≡ g x) → eachList f l ≡ eachList g l
+eachList-same f g [] h = refl
+eachList-same f g (x ∷ l) h = rw (h x (inl refl), eachList-same f g l (λ y k. h y (inr k)))
+
+pub eachList-append : {A B : Type 0} (f : A → List B) (s u : List A) → eachList f (s ++ u) ≡ eachList f s ++ eachList f u
+eachList-append f [] u = refl
+eachList-append f (x ∷ s) u = rw (eachList-append f s u) (sym (append-assoc (f x) (eachList f s) (eachList f u)))
+
+pub eachList-each : {A B C : Type 0} (f : B → List C) (g : A → B) (l : List A) → eachList f (each g l) ≡ eachList (λ x. f (g x)) l
+eachList-each f g [] = refl
+eachList-each f g (x ∷ l) = rw (eachList-each f g l)
+
+pub each-eachList : {A B C : Type 0} (f : B → C) (g : A → List B) (l : List A) → each f (eachList g l) ≡ eachList (λ x. each f (g x)) l
+each-eachList f g [] = refl
+each-eachList f g (x ∷ l) = rw (each-append f (g x) (eachList g l), each-eachList f g l)
+
+pub keep-eachList : {A B : Type 0} (f : B → Bool) (g : A → List B) (l : List A) → keep f (eachList g l) ≡ eachList (λ x. keep f (g x)) l
+keep-eachList f g [] = refl
+keep-eachList f g (x ∷ l) = rw (keep-append f (g x) (eachList g l), keep-eachList f g l)
+
+-- members that give nothing may be left out
+pub eachList-keep : {A B : Type 0} (f : A → List B) (g : A → Bool) (l : List A) → ((x : A) → g x ≡ false → f x ≡ []) → eachList f l ≡ eachList f (keep g l)
+eachList-keep f g [] h = refl
+eachList-keep f g (x ∷ l) h =
+    let r = eachList-keep f g l h in
+    ⊎-elim (λ (q : g x ≡ true). simp (q, r)) (λ (q : g x ≡ false). simp (q, h x q, r)) (which (g x))

@@ -1,21 +1,20 @@
 -- Lists in which each member stands in one relation to all that follow it: how that is kept, and what it says of places.
--- A sort by a first number and then a second, and a list put part by part, are such lists. Assumes nothing.
+-- Rising numbers, and a list put part by part, are such lists. Assumes nothing.
 use mathlib.Core.Path.{_≡_, refl, sym, _∙_}
-use mathlib.Core.Logic.{_⊎_, inl, inr}
+use mathlib.Core.Logic.{_⊎_, inl, inr, ⊎-elim}
 use mathlib.Core.Bool.{Bool, true, false}
 use mathlib.Core.List.{List, [], _∷_, _++_}
 use Prim.Native.Nat.{ℕ, zero, suc, _+_, _≤_, _<_}
 use native.Mathlib.Omega.{arith}
-use lib.Dec.{eqb, ltb}
+use lib.Dec.{eqb}
 use lib.ListN.{length, take, getD}
-use borrow.Author.Tests.{eqb-true, ltb-true, ltb-false}
-use Rattle.base.specs.Lists.{fromOn, keep, each, eachList, firstOf, leads, sortBy, In, Pairwise}
-use Rattle.base.proofs.Tests.{which}
+use borrow.Author.Tests.{eqb-true}
+use Rattle.base.specs.Lists.{fromOn, keep, each, eachList, firstOf, sortBy, In, Pairwise}
+use Rattle.base.proofs.Tests.{which, le-or-lt}
 use Rattle.base.proofs.Members.{in-right, in-either, getD-in, keep-in, in-take, in-each, in-eachList}
 use Rattle.base.proofs.Runs.{in-from}
 use Rattle.base.proofs.Shuffles.{Shuffle, shuffle-sym, shuffle-in, sort-shuffle, part}
 use Rattle.base.proofs.Shuffles as shuffles
-use Rattle.base.proofs.Sorts.{NoneBefore, InTurn, Wins, Loses, loses, leads-ordering, sort-in-turn}
 
 module _ {A : Type 0} (R : A → A → Type 0) where
   pub pairs-append : (s t : List A) → Pairwise R s → Pairwise R t → ((x y : A) → In x s → In y t → R x y) → Pairwise R (s ++ t)
@@ -23,11 +22,7 @@ module _ {A : Type 0} (R : A → A → Type 0) where
   pairs-append (x ∷ s) t hs ht h = (first, pairs-append s t (hs .1) ht (λ u v k. h u v (inr k)))
     where
       first : (y : A) → In y (s ++ t) → R x y
-      first y k = step (in-either y s t k)
-        where
-          step : In y s ⊎ In y t → R x y
-          step (inl u) = hs .0 y u
-          step (inr u) = h x y (inl refl) u
+      first y k = ⊎-elim (λ u. hs .0 y u) (λ u. h x y (inl refl) u) (in-either y s t k)
 
   -- what stands before a seam, to what stands behind it
   pub pairs-seam : (s t : List A) → Pairwise R (s ++ t) → (x y : A) → In x s → In y t → R x y
@@ -37,11 +32,9 @@ module _ {A : Type 0} (R : A → A → Type 0) where
 
   pub pairs-keep : (f : A → Bool) (l : List A) → Pairwise R l → Pairwise R (keep f l)
   pairs-keep f [] h = tt
-  pairs-keep f (x ∷ l) h = step (which (f x)) (pairs-keep f l (h .1))
-    where
-      step : (f x ≡ true) ⊎ (f x ≡ false) → Pairwise R (keep f l) → Pairwise R (keep f (x ∷ l))
-      step (inl q) r = rw q ((λ y k. h .0 y (keep-in f l y k .0)), r)
-      step (inr q) r = rw q r
+  pairs-keep f (x ∷ l) h =
+      let r = pairs-keep f l (h .1) in
+      ⊎-elim (λ (q : f x ≡ true). rw q ((λ y k. h .0 y (keep-in f l y k .0)), r)) (λ (q : f x ≡ false). rw q r) (which (f x))
 
   pub pairs-take : (k : ℕ) (l : List A) → Pairwise R l → Pairwise R (take k l)
   pairs-take zero l h = tt
@@ -49,7 +42,7 @@ module _ {A : Type 0} (R : A → A → Type 0) where
   pairs-take (suc k) (x ∷ l) h = ((λ y u. h .0 y (in-take k l y u)), pairs-take k l (h .1))
 
   -- a relation that goes both ways holds in any order
-  pub pairs-shuffle : ((x y : A) → R x y → R y x) → {l m : List A} → Shuffle l m → Pairwise R l → Pairwise R m
+  pairs-shuffle : ((x y : A) → R x y → R y x) → {l m : List A} → Shuffle l m → Pairwise R l → Pairwise R m
   pairs-shuffle both (shuffles.same l) h = h
   pairs-shuffle both (shuffles.below x p) h = ((λ y k. h .0 y (shuffle-in (shuffle-sym p) y k)), pairs-shuffle both p (h .1))
   pairs-shuffle both (shuffles.swap x y l) h = (first, ((λ z k. h .0 z (inr k)), h .1 .1))
@@ -91,12 +84,12 @@ Distinct key l = Pairwise (λ x y. key x ≡ key y → ⊥) l
 -- two places with one key are one place
 pub distinct-once : {A B : Type 0} (key : A → B) (d : A) (l : List A) → Distinct key l
     → (i k : ℕ) → i < length l → k < length l → key (getD l i d) ≡ key (getD l k d) → i ≡ k
-distinct-once key d l h i k u v e = step (which (ltb i k)) (which (ltb k i))
+distinct-once key d l h i k u v e = step (le-or-lt k i) (le-or-lt i k)
   where
-    step : (ltb i k ≡ true) ⊎ (ltb i k ≡ false) → (ltb k i ≡ true) ⊎ (ltb k i ≡ false) → i ≡ k
-    step (inl a) b = absurd (pairs-at (λ x y. key x ≡ key y → ⊥) d l h i k (ltb-true i k a) v e)
-    step (inr a) (inl b) = absurd (pairs-at (λ x y. key x ≡ key y → ⊥) d l h k i (ltb-true k i b) u (sym e))
-    step (inr a) (inr b) = omega (arith, ltb-false i k a, ltb-false k i b)
+    step : (k ≤ i) ⊎ (i < k) → (i ≤ k) ⊎ (k < i) → i ≡ k
+    step (inr a) b = absurd (pairs-at (λ x y. key x ≡ key y → ⊥) d l h i k a v e)
+    step (inl a) (inr b) = absurd (pairs-at (λ x y. key x ≡ key y → ⊥) d l h k i b u (sym e))
+    step (inl a) (inl b) = omega arith
 
 pub distinct-sort : {A B : Type 0} (key : A → B) (before : A → A → Bool) (l : List A) → Distinct key l → Distinct key (sortBy before l)
 distinct-sort key before l h = pairs-shuffle (λ x y. key x ≡ key y → ⊥) (λ x y n e. n (sym e)) (shuffle-sym (sort-shuffle before l)) h
@@ -144,26 +137,3 @@ module _ (ρ : ℕ → ℕ) where
       across x y u v =
           let s = in-eachList (λ r. part ρ r l) (fromOn (suc a) n) y v in
           inl (omega (arith, of a x u, of (s .0) y (s .2), in-from (suc a) n (s .0) (s .1)))
-
--- ---- sorts
-
-module _ {A : Type 0} (before : A → A → Bool) where
-  none-pairs : (x : A) (l : List A) → NoneBefore before x l → (y : A) → In y l → before y x ≡ false
-  none-pairs x [] h y k = absurd k
-  none-pairs x (z ∷ l) h y (inl e) = rw e (h .0)
-  none-pairs x (z ∷ l) h y (inr k) = none-pairs x l (h .1) y k
-
-  turn-pairs : (l : List A) → InTurn before l → Pairwise (λ x y. before y x ≡ false) l
-  turn-pairs [] h = tt
-  turn-pairs (x ∷ l) h = (none-pairs x l (h .0), turn-pairs l (h .1))
-
--- sorted by a first number falling, then a second rising, where no two have one second number: each goes before all that follow
-pub sort-wins : {A : Type 0} (f g : A → ℕ) (l : List A) → Distinct g l → Pairwise (Wins f g) (sortBy (leads f g) l)
-sort-wins {A} f g l h =
-    pairs-join (λ x y. leads f g y x ≡ false) (λ x y. g x ≡ g y → ⊥) (Wins f g) (sortBy (leads f g) l) (λ x y u v e n. strict x y n (loses f g y x e))
-    (turn-pairs (leads f g) (sortBy (leads f g) l) (sort-in-turn (leads f g) (leads-ordering f g) l))
-    (distinct-sort g (leads f g) l h)
-  where
-    strict : (x y : A) → (g x ≡ g y → ⊥) → Loses f g y x → Wins f g x y
-    strict x y n (inl k) = inl k
-    strict x y n (inr k) = inr (sym (k .0), omega arith)

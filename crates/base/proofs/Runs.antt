@@ -1,19 +1,19 @@
 -- Runs of numbers: their places and members, how they split, and the run that a convex test keeps of one.
 -- Assumes nothing.
 use mathlib.Core.Path.{_≡_, refl, sym, ap, _∙_}
-use mathlib.Core.Logic.{_⊎_, inl, inr}
+use mathlib.Core.Logic.{_⊎_, inl, inr, ⊎-elim}
 use mathlib.Core.Bool.{Bool, true, false}
 use mathlib.Core.List.{List, [], _∷_, _++_}
 use Prim.Native.Nat.{ℕ, zero, suc, _+_, _-_, _≤_, _<_}
 use native.Mathlib.Omega.{arith}
-use native.Mathlib.Nat.{add-suc, add-zero, zero-add, suc-add}
+use native.Mathlib.Nat.{add-suc, add-zero, zero-add, suc-add, eq-or-lt-of-le}
 use lib.Dec.{eqb}
 use lib.ListN.{length, getD, set, replicate, length-set, length-append, List·getD-append}
 use lib.Seq.{getD-set-same, getD-set-other, ext-getD, getD-append-seam}
 use borrow.Author.Tests.{eqb-true, eqb-false}
 use Rattle.base.specs.Lists.{fromOn, upTo, keep, each, firstOf, In}
-use Rattle.base.proofs.Tests.{which, never, le-or-lt}
-use Rattle.base.proofs.Members.{keep-none, length-each, keep-append, keep-each}
+use Rattle.base.proofs.Tests.{which, never, refuted, le-or-lt}
+use Rattle.base.proofs.Members.{keep-none, keep-append, keep-each, length-each, getD-each, each-each}
 
 pub length-from : (a n : ℕ) → length (fromOn a n) ≡ n
 length-from a zero = refl
@@ -31,15 +31,7 @@ in-from a (suc n) x (inr h) = let t = in-from (suc a) n x h in (omega arith, ome
 
 pub from-in : (a n x : ℕ) → a ≤ x → x < a + n → In x (fromOn a n)
 from-in a zero x h k = absurd (omega arith)
-from-in a (suc n) x h k = step (from-in (suc a) n x) (which (eqb x a))
-  where
-    step : (suc a ≤ x → x < suc a + n → In x (fromOn (suc a) n)) → (eqb x a ≡ true) ⊎ (eqb x a ≡ false) → In x (fromOn a (suc n))
-    step below (inl q) = inl (eqb-true x a q)
-    step below (inr q) = let n = eqb-false x a q in inr (below (omega arith) (omega arith))
-
-pub each-shift : {B : Type 0} (g : ℕ → B) (a n : ℕ) → each g (fromOn (suc a) n) ≡ each (λ i. g (suc i)) (fromOn a n)
-each-shift g a zero = refl
-each-shift {B} g a (suc n) = ap (λ (l : List B). g (suc a) ∷ l) (each-shift g (suc a) n)
+from-in a (suc n) x h k = ⊎-elim (λ (e : a ≡ x). inl (sym e)) (λ (l : a < x). inr (from-in (suc a) n x l (omega arith))) (eq-or-lt-of-le h)
 
 pub from-shift : (a n : ℕ) → fromOn (suc a) n ≡ each suc (fromOn a n)
 from-shift a zero = refl
@@ -48,13 +40,16 @@ from-shift a (suc n) = ap (λ (l : List ℕ). suc a ∷ l) (from-shift (suc a) n
 -- the list by its places
 pub each-getD : {A : Type 0} (d : A) (l : List A) → l ≡ each (λ i. getD l i d) (upTo (length l))
 each-getD d [] = refl
-each-getD {A} d (x ∷ l) = ap (λ (r : List A). x ∷ r) (each-getD d l ∙ sym (each-shift (λ i. getD (x ∷ l) i d) 0 (length l)))
+each-getD {A} d (x ∷ l) = ap (λ (r : List A). x ∷ r) (each-getD d l ∙ sym shifted)
+  where
+    shifted : each (λ i. getD (x ∷ l) i d) (fromOn 1 (length l)) ≡ each (λ i. getD l i d) (upTo (length l))
+    shifted = ap (each (λ i. getD (x ∷ l) i d)) (from-shift 0 (length l)) ∙ each-each (λ i. getD (x ∷ l) i d) suc (upTo (length l))
 
 pub from-split : (a n m : ℕ) → fromOn a (n + m) ≡ fromOn a n ++ fromOn (a + n) m
 from-split a zero m = rw (zero-add, add-zero)
 from-split a (suc n) m = rw (suc-add, add-suc) (ap (λ (l : List ℕ). a ∷ l) (rw suc-add at (from-split (suc a) n m)))
 
-pub from-each : (a b n : ℕ) → fromOn (a + b) n ≡ each (λ k. a + k) (fromOn b n)
+from-each : (a b n : ℕ) → fromOn (a + b) n ≡ each (λ k. a + k) (fromOn b n)
 from-each a b zero = refl
 from-each a b (suc n) = rw (← add-suc a b) (ap (λ (l : List ℕ). (a + b) ∷ l) (from-each a (suc b) n))
 
@@ -78,9 +73,7 @@ pub upTo-suc : (i : ℕ) → upTo (suc i) ≡ upTo i ++ (i ∷ [])
 upTo-suc i = let z : suc i - suc i ≡ 0 = omega arith in upTo-split i (suc i) (omega arith) ∙ ap (λ (k : ℕ). upTo i ++ (i ∷ fromOn (suc i) k)) z
 
 pub getD-each-from : {B : Type 0} (g : ℕ → B) (a n k : ℕ) (d : B) → k < n → getD (each g (fromOn a n)) k d ≡ g (a + k)
-getD-each-from g a zero k d h = absurd (omega arith)
-getD-each-from g a (suc n) zero d h = ap g (omega arith)
-getD-each-from g a (suc n) (suc k) d h = let e : suc a + k ≡ a + suc k = omega arith in getD-each-from g (suc a) n k d (omega arith) ∙ ap g e
+getD-each-from g a n k d h = getD-each g (fromOn a n) k 0 d (omega (arith, length-from a n)) ∙ ap g (getD-from a n k 0 h)
 
 -- what lists the same everywhere
 pub each-constant : {B : Type 0} (g : ℕ → B) (v : B) → ((i : ℕ) → g i ≡ v) → (a n : ℕ) → each g (fromOn a n) ≡ replicate n v
@@ -106,37 +99,37 @@ set-each {B} f g n k v here other = ext-getD v (set (each f (upTo n)) k v) (each
         ap (λ (m : ℕ). getD (set (each f (upTo n)) k v) m v) e ∙ getD-set-same (each f (upTo n)) k v v (omega (arith, counted f)) ∙ here ∙ ap g (sym e) ∙ sym (listed g i l)
     place i l (inr q) = getD-set-other (each f (upTo n)) k i v v (eqb-false i k q) ∙ listed f i l ∙ other i (eqb-false i k q) ∙ sym (listed g i l)
 
-each-from : {B : Type 0} (f g : ℕ → B) (a n : ℕ) → ((x : ℕ) → a ≤ x → x < a + n → f x ≡ g x) → each f (fromOn a n) ≡ each g (fromOn a n)
-each-from f g a zero h = refl
-each-from f g a (suc n) h = rw (h a (omega arith) (omega arith), each-from f g (suc a) n (λ x u v. h x (omega arith) (omega arith)))
+-- a run: its members are its first one, one more, ..
+abbrev pub Run : List ℕ → Type 0
+Run l = l ≡ fromOn (firstOf l) (length l)
 
 module _ (f : ℕ → Bool) (e : ℕ) where
+  -- where all that pass come first
   keep-down : (a n : ℕ) → a + n ≡ e → ((i k : ℕ) → a ≤ i → i ≤ k → k < e → f k ≡ true → f i ≡ true) → keep f (fromOn a n) ≡ fromOn a (length (keep f (fromOn a n)))
   keep-down a zero q down = refl
-  keep-down a (suc n) q down = step (which (f a)) (keep-down (suc a) n (omega arith) (λ i k u. down i k (omega arith)))
+  keep-down a (suc n) q down =
+      ⊎-elim
+      (λ (r : f a ≡ true). rw r (ap (λ (l : List ℕ). a ∷ l) (keep-down (suc a) n (omega arith) (λ i k u. down i k (omega arith)))))
+      (λ (r : f a ≡ false). rw (r, keep-none f (fromOn (suc a) n) (off r)))
+      (which (f a))
     where
       off : f a ≡ false → (x : ℕ) → In x (fromOn (suc a) n) → f x ≡ false
-      off r x h = test (which (f x)) (in-from (suc a) n x h)
-        where
-          test : (f x ≡ true) ⊎ (f x ≡ false) → (suc a ≤ x) × (x < suc a + n) → f x ≡ false
-          test (inl s) t = never _ (down a x (omega arith) (omega arith) (omega arith) s) r
-          test (inr s) t = s
+      off r x h = let t = in-from (suc a) n x h in refuted _ (λ s. never _ (down a x (omega arith) (omega arith) (omega arith) s) r)
 
-      step : (f a ≡ true) ⊎ (f a ≡ false) → keep f (fromOn (suc a) n) ≡ fromOn (suc a) (length (keep f (fromOn (suc a) n))) → keep f (fromOn a (suc n)) ≡ fromOn a (length (keep f (fromOn a (suc n))))
-      step (inl r) t = rw r (ap (λ (l : List ℕ). a ∷ l) t)
-      step (inr r) t = rw (r, keep-none f (fromOn (suc a) n) (off r))
-
-  -- the run that a convex test keeps
-  pub keep-run : (a n : ℕ) → a + n ≡ e → ((i j k : ℕ) → i ≤ j → j ≤ k → k < e → f i ≡ true → f k ≡ true → f j ≡ true) → keep f (fromOn a n) ≡ fromOn (firstOf (keep f (fromOn a n))) (length (keep f (fromOn a n)))
+  -- what a convex test keeps of a run is a run
+  pub keep-run : (a n : ℕ) → a + n ≡ e → ((i j k : ℕ) → i ≤ j → j ≤ k → k < e → f i ≡ true → f k ≡ true → f j ≡ true) → Run (keep f (fromOn a n))
   keep-run a zero q convex = refl
-  keep-run a (suc n) q convex = step (which (f a)) (keep-run (suc a) n (omega arith) convex)
-    where
-      step : (f a ≡ true) ⊎ (f a ≡ false) → keep f (fromOn (suc a) n) ≡ fromOn (firstOf (keep f (fromOn (suc a) n))) (length (keep f (fromOn (suc a) n))) → keep f (fromOn a (suc n)) ≡ fromOn (firstOf (keep f (fromOn a (suc n)))) (length (keep f (fromOn a (suc n))))
-      step (inl r) t = rw r (ap (λ (l : List ℕ). a ∷ l) (keep-down (suc a) n (omega arith) (λ i k u v w s. convex a i k (omega arith) v w r s)))
-      step (inr r) t = rw r t
+  keep-run a (suc n) q convex =
+      ⊎-elim
+      (λ (r : f a ≡ true). rw r (ap (λ (l : List ℕ). a ∷ l) (keep-down (suc a) n (omega arith) (λ i k u v w s. convex a i k (omega arith) v w r s))))
+      (λ (r : f a ≡ false). rw r (keep-run (suc a) n (omega arith) convex))
+      (which (f a))
 
--- what a test keeps of the numbers below n, by its place: as many smaller ones pass
-pub keep-at : (f : ℕ → Bool) (n k : ℕ) → k < length (keep f (upTo n)) → (x : ℕ) × (getD (keep f (upTo n)) k 0 ≡ x) × (x < n) × (f x ≡ true) × (length (keep f (upTo x)) ≡ k)
+-- what stands at place k of the numbers below n that pass: it passes, as k smaller ones do
+abbrev pub KeptAt : (ℕ → Bool) → ℕ → ℕ → Type 0
+KeptAt f n k = (x : ℕ) × (getD (keep f (upTo n)) k 0 ≡ x) × (x < n) × (f x ≡ true) × (length (keep f (upTo x)) ≡ k)
+
+pub keep-at : (f : ℕ → Bool) (n k : ℕ) → k < length (keep f (upTo n)) → KeptAt f n k
 keep-at f zero k h = absurd (omega arith)
 keep-at f (suc n) k h = step (keep-at f n k) (which (f n)) (le-or-lt (length (keep f (upTo n))) k)
   where
@@ -146,9 +139,7 @@ keep-at f (suc n) k h = step (keep-at f n k) (which (f n)) (le-or-lt (length (ke
     size : length (keep f (upTo (suc n))) ≡ length (keep f (upTo n)) + length (keep f (n ∷ []))
     size = ap length whole ∙ length-append (keep f (upTo n)) (keep f (n ∷ []))
 
-    step : (k < length (keep f (upTo n)) → (x : ℕ) × (getD (keep f (upTo n)) k 0 ≡ x) × (x < n) × (f x ≡ true) × (length (keep f (upTo x)) ≡ k)) → (f n ≡ true) ⊎ (f n ≡ false)
-        → (length (keep f (upTo n)) ≤ k) ⊎ (k < length (keep f (upTo n)))
-        → (x : ℕ) × (getD (keep f (upTo (suc n))) k 0 ≡ x) × (x < suc n) × (f x ≡ true) × (length (keep f (upTo x)) ≡ k)
+    step : (k < length (keep f (upTo n)) → KeptAt f n k) → (f n ≡ true) ⊎ (f n ≡ false) → (length (keep f (upTo n)) ≤ k) ⊎ (k < length (keep f (upTo n))) → KeptAt f (suc n) k
     step below q (inr l) =
         let r = below l in
         (r .0, ap (λ (m : List ℕ). getD m k 0) whole ∙ List·getD-append (keep f (upTo n)) (keep f (n ∷ [])) 0 k l ∙ r .1, omega (arith, r .2), r .3, r .4)

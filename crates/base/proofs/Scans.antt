@@ -6,22 +6,21 @@ use mathlib.Core.Bool.{Bool, true, false, _&&_}
 use mathlib.Core.List.{List, [], _∷_, _++_}
 use mathlib.Core.Logic.{⊎-elim}
 use native.Mathlib.Numerals.{add-one}
+use native.Mathlib.Nat.{eq-or-lt-of-le}
 use native.Mathlib.Omega.{arith}
-use borrow.Author.Tests.{ltb-true, ltb-false}
-use lib.Dec.{ltb}
 use lib.ListN.{length, getD, drop, drop-of-length-le}
 use lib.Seq.{drop-cons}
 use Rattle.base.specs.Lists.{all, fromOn, upTo}
-use Rattle.base.proofs.Tests.{which, and-left, and-right, and-parts}
+use Rattle.base.proofs.Tests.{and-left, and-right, and-parts}
 
 module _ (p : ℕ → Bool) where
   all-from : (a n k : ℕ) → all p (fromOn a n) ≡ true → a ≤ k → k < a + n → p k ≡ true
   all-from a zero k e l h = absurd (omega arith)
   all-from a (suc n) k e l h =
       ⊎-elim
-      (λ q. all-from (suc a) n k (and-right (p a) (all p (fromOn (suc a) n)) e) (omega (arith, ltb-true a k q)) (omega arith))
-      (λ q. let same : a ≡ k = omega (arith, ltb-false a k q) in rw same at (and-left (p a) (all p (fromOn (suc a) n)) e))
-      (which (ltb a k))
+      (λ (same : a ≡ k). rw same at (and-left (p a) (all p (fromOn (suc a) n)) e))
+      (λ (more : a < k). all-from (suc a) n k (and-right (p a) (all p (fromOn (suc a) n)) e) more (omega arith))
+      (eq-or-lt-of-le l)
 
   -- what holds of every number below n holds of each
   pub all-at : (n k : ℕ) → all p (upTo n) ≡ true → k < n → p k ≡ true

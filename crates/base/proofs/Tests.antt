@@ -18,6 +18,10 @@ which false = inr refl
 pub never : {A : Type 0} (b : Bool) → b ≡ true → b ≡ false → A
 never b p q = absurd (true≢false (sym p ∙ q))
 
+pub refuted : (b : Bool) → (b ≡ true → ⊥) → b ≡ false
+refuted true h = absurd (h refl)
+refuted false h = refl
+
 pub le-or-lt : (a b : ℕ) → (a ≤ b) ⊎ (b < a)
 le-or-lt a b = ⊎-elim (λ e. inl (leb-true a b e)) (λ e. inr (leb-false a b e)) (which (leb a b))
 

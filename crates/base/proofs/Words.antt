@@ -1,26 +1,25 @@
 -- A word of bits: its size, what one more bit adds, what each bit says, the words of tests put together, of parts and of an interval.
 -- Assumes nothing.
-use mathlib.Core.Path.{_≡_, refl, sym, ap, _∙_}
+use mathlib.Core.Path.{_≡_, refl, ap, _∙_}
 use mathlib.Core.Bool.{Bool, true, false, _&&_, _||_}
 use mathlib.Core.Logic.{_⊎_, inl, inr, ⊎-elim}
-use mathlib.Core.List.{List, [], _∷_, _++_}
+use mathlib.Core.List.{[], _∷_, _++_}
 use Prim.Native.Nat.{ℕ, zero, suc, _+_, _-_, _*_, _/_, _%_, _^_, _<_, _≤_}
 use native.Mathlib.Nat.{pow-suc, mod-eq-of-lt, one-mul, add-comm, add-assoc, add-mul, mul-assoc, add-mul-div-right, zero-add, add-zero, add-suc}
-use native.Mathlib.Numerals.{add-one}
 use native.Mathlib.Omega.{arith}
 use lib.Dec.{eqb, leb, ltb}
 use lib.Bits.{bitAnd, bitOr, and-block, or-block}
-use lib.Pow.{pow-lt, pow-mono, pow-pos, pow-add, high, mod-pow-add}
-use borrow.Author.Tests.{eq-eqb, ne-eqb, lt-ltb, le-ltb, le-leb, lt-leb}
-use Rattle.base.specs.Bits.{bit, wordOf, bitAt}
-use Rattle.base.proofs.Tests.{le-or-lt, and-true, and-false, which}
 use lib.Count.{ones, ones-cat}
 use lib.ListN.{length, length-append}
+use lib.Pow.{pow-lt, pow-mono, pow-pos, pow-add, high, mod-pow-add}
+use borrow.Author.Tests.{eq-eqb, ne-eqb, lt-ltb, le-ltb, le-leb, lt-leb}
 use Rattle.base.specs.Lists.{fromOn, keep}
+use Rattle.base.specs.Bits.{bit, wordOf, bitAt}
+use Rattle.base.proofs.Tests.{le-or-lt, and-true, and-false, which}
 use Rattle.base.proofs.Members.{keep-append}
 use Rattle.base.proofs.Runs.{from-split}
 
-pub bit-most : (b : Bool) (n : ℕ) → bit b * n ≤ n
+bit-most : (b : Bool) (n : ℕ) → bit b * n ≤ n
 bit-most true n = omega arith
 bit-most false n = omega arith
 
@@ -29,23 +28,9 @@ unfolding wordOf
 word-less test base zero = omega arith
 word-less test base (suc n) = rw (pow-suc 2 n) (omega (arith, word-less test base n, bit-most (test (base + n)) (2 ^ n)))
 
-pub word-more : (test : ℕ → Bool) (base n : ℕ) → wordOf test base (n + 1) ≡ wordOf test base n + bit (test (base + n)) * 2 ^ n
-unfolding wordOf
-word-more test base n = rw (add-one n)
-
--- 1 << i at 32 bits
-pub shifted : (i : ℕ) → i < 32 → 1 * 2 ^ i % 4294967296 ≡ 2 ^ i
-shifted i h = let s : 2 ^ i < 4294967296 = pow-lt {i = i} {j = 32} h in rw (one-mul (2 ^ i)) (mod-eq-of-lt s)
-
-pub grown : (test : ℕ → Bool) (base i : ℕ) → i < 32 → wordOf test base i + 2 ^ i < 4294967296
-grown test base i h = let s : 2 ^ (suc i) ≤ 4294967296 = pow-mono {i = suc i} {j = 32} h in omega (arith, word-less test base i, rw (pow-suc 2 i) at s)
-
-module _ (test : ℕ → Bool) (base i word : ℕ) (so-far : word ≡ wordOf test base i) where
-  pub bit-set : test (base + i) ≡ true → word + 2 ^ i ≡ wordOf test base (i + 1)
-  bit-set t = rw (word-more test base i, t, so-far) (omega arith)
-
-  pub bit-clear : test (base + i) ≡ false → word ≡ wordOf test base (i + 1)
-  bit-clear t = rw (word-more test base i, t, so-far) (omega arith)
+-- 1 << i
+pub one-shifted : (w i : ℕ) → i < w → 1 * 2 ^ i % 2 ^ w ≡ 2 ^ i
+one-shifted w i h = rw (one-mul (2 ^ i)) (mod-eq-of-lt (pow-lt {i = i} {j = w} h))
 
 -- bit i of the word is what the test says of base + i
 bit-alone : (b : Bool) → bit b % 2 ≡ bit b
@@ -65,7 +50,7 @@ bit-under b w n i h =
     rw (e, pow-add 2 (suc j) i, ← mul-assoc b (2 ^ suc j) (2 ^ i), add-mul-div-right w (b * 2 ^ suc j) (pow-pos i), pow-suc 2 j, ← mul-assoc b (2 ^ j) 2)
     (drop-even (w / 2 ^ i) (b * 2 ^ j))
 
-pub bit-says : (test : ℕ → Bool) (base n i : ℕ) → i < n → wordOf test base n / 2 ^ i % 2 ≡ bit (test (base + i))
+bit-says : (test : ℕ → Bool) (base n i : ℕ) → i < n → wordOf test base n / 2 ^ i % 2 ≡ bit (test (base + i))
 unfolding wordOf
 bit-says test base zero i h = absurd (omega arith)
 bit-says test base (suc n) i h =
@@ -74,44 +59,38 @@ bit-says test base (suc n) i h =
     (λ (k : i < n). bit-under (bit (test (base + n))) _ n i k ∙ bit-says test base n i k)
     (le-or-lt n i)
 
--- the word of both tests is the bitwise and of their words
-bits-and : (a b : Bool) → bitAnd (bit a) (bit b) ≡ bit (a && b)
-bits-and true true = refl
-bits-and true false = refl
-bits-and false b = refl
+-- a bitwise operation that goes block by block, on the words of two tests, gives the word of the tests put together
+words-by : (op : ℕ → ℕ → ℕ) (join : Bool → Bool → Bool) → op 0 0 ≡ 0 → ((a b : Bool) → op (bit a) (bit b) ≡ bit (join a b))
+    → ((n h k l m : ℕ) → l < 2 ^ n → m < 2 ^ n → op (h * 2 ^ n + l) (k * 2 ^ n + m) ≡ op h k * 2 ^ n + op l m)
+    → (f g : ℕ → Bool) (base n : ℕ) → op (wordOf f base n) (wordOf g base n) ≡ wordOf (λ k. join (f k) (g k)) base n
+unfolding wordOf
+words-by op join none bits block f g base zero = none
+words-by op join none bits block f g base (suc n) =
+    rw (
+      add-comm (wordOf f base n) (bit (f (base + n)) * 2 ^ n),
+      add-comm (wordOf g base n) (bit (g (base + n)) * 2 ^ n),
+      block n (bit (f (base + n))) (bit (g (base + n))) _ _ (word-less f base n) (word-less g base n),
+      words-by op join none bits block f g base n,
+      bits (f (base + n)) (g (base + n)),
+    )
+    (add-comm _ _)
 
 pub words-and : (f g : ℕ → Bool) (base n : ℕ) → bitAnd (wordOf f base n) (wordOf g base n) ≡ wordOf (λ k. f k && g k) base n
-unfolding wordOf
-words-and f g base zero = refl
-words-and f g base (suc n) =
-    rw (
-      add-comm (wordOf f base n) (bit (f (base + n)) * 2 ^ n),
-      add-comm (wordOf g base n) (bit (g (base + n)) * 2 ^ n),
-      and-block n (bit (f (base + n))) (bit (g (base + n))) _ _ (word-less f base n) (word-less g base n),
-      words-and f g base n,
-      bits-and (f (base + n)) (g (base + n)),
-    )
-    (add-comm _ _)
-
--- the word of either test is the bitwise or of their words
-bits-or : (a b : Bool) → bitOr (bit a) (bit b) ≡ bit (a || b)
-bits-or true true = refl
-bits-or true false = refl
-bits-or false true = refl
-bits-or false false = refl
+words-and = words-by bitAnd _&&_ refl bits and-block
+  where
+    bits : (a b : Bool) → bitAnd (bit a) (bit b) ≡ bit (a && b)
+    bits true true = refl
+    bits true false = refl
+    bits false b = refl
 
 pub words-or : (f g : ℕ → Bool) (base n : ℕ) → bitOr (wordOf f base n) (wordOf g base n) ≡ wordOf (λ k. f k || g k) base n
-unfolding wordOf
-words-or f g base zero = refl
-words-or f g base (suc n) =
-    rw (
-      add-comm (wordOf f base n) (bit (f (base + n)) * 2 ^ n),
-      add-comm (wordOf g base n) (bit (g (base + n)) * 2 ^ n),
-      or-block n (bit (f (base + n))) (bit (g (base + n))) _ _ (word-less f base n) (word-less g base n),
-      words-or f g base n,
-      bits-or (f (base + n)) (g (base + n)),
-    )
-    (add-comm _ _)
+words-or = words-by bitOr _||_ refl bits or-block
+  where
+    bits : (a b : Bool) → bitOr (bit a) (bit b) ≡ bit (a || b)
+    bits true true = refl
+    bits true false = refl
+    bits false true = refl
+    bits false false = refl
 
 -- tests that agree have one word
 pub word-same : (f g : ℕ → Bool) (a b n : ℕ) → ((k : ℕ) → k < n → f (a + k) ≡ g (b + k)) → wordOf f a n ≡ wordOf g b n
@@ -181,10 +160,6 @@ word-between first past (suc n) h =
     let same = word-same (λ k. leb first k && ltb k (suc n)) (λ k. leb first k && ltb k n) 0 0 n (λ k l. rw (zero-add k, lt-ltb k n l, lt-ltb k (suc n) (omega arith))) in
     rw (e, same, word-between first n n (omega arith), zero-add n, lt-ltb n (suc n) (omega arith), and-true (leb first n)) (interval-bit first n))
     (le-or-lt past n)
-
--- 1 << i at any width
-pub one-shifted : (w i : ℕ) → i < w → 1 * 2 ^ i % 2 ^ w ≡ 2 ^ i
-one-shifted w i h = rw (one-mul (2 ^ i)) (mod-eq-of-lt (pow-lt {i = i} {j = w} h))
 
 -- a number is the word of its own bits
 half-bit : (x : ℕ) → bit (eqb (x % 2) 1) ≡ x % 2

@@ -9,7 +9,7 @@ use native.Mathlib.Omega.{arith}
 use lib.ListN.{length, getD, List·getD-append}
 use borrow.Author.Tests.{le-ltb, leb-true, ne-eqb}
 use Rattle.base.specs.Lists.{In, upTo, each, eachList, written}
-use Rattle.base.proofs.Members.{getD-in, length-each, getD-each, eachList-each, eachList-in}
+use Rattle.base.proofs.Members.{getD-in, length-each, getD-each, eachList-each, eachList-same}
 use Rattle.base.proofs.Runs.{each-getD, in-from}
 use Rattle.base.proofs.Tests.{which, le-or-lt, every-at}
 use Rattle.rules.specs.declared.Grid.{Grid}
@@ -142,6 +142,6 @@ module _ (t : Table) (g : Grid) (x : Index) (p : List ℕ) (q : Ranking) (room v
 
       each-hit : eachList (λ i. hitLines (t .text) (t .starts) (getD room′ i 0) (getD values′ i 0)) (upTo (length hits)) ≡ eachList (printedHit t) hits
       each-hit =
-          eachList-in _ (λ i. printedHit t (getD hits i noHit)) (upTo (length hits)) one
+          eachList-same _ (λ i. printedHit t (getD hits i noHit)) (upTo (length hits)) one
           ∙ sym (eachList-each (printedHit t) (λ i. getD hits i noHit) (upTo (length hits)))
           ∙ ap (eachList (printedHit t)) (sym (each-getD noHit hits))

@@ -14,7 +14,7 @@ use borrow.Author.Tests.{lt-ltb, le-ltb, eqb-false, eq-eqb, ne-eqb}
 use Rattle.base.specs.Lists.{upTo, keep, each, isEmpty, In}
 use Rattle.base.specs.Bits.{bitAt}
 use Rattle.base.proofs.Tests.{le-or-lt}
-use Rattle.base.proofs.Members.{keep-in, keep-same, keep-short, keep-both, length-each}
+use Rattle.base.proofs.Members.{keep-in, keep-same, length-keep, keep-both, length-each}
 use Rattle.base.proofs.Runs.{length-from, in-from, keep-halves}
 use Rattle.base.proofs.Lowest.{setBits, bits-none, bits-lowest, bits-count}
 use Rattle.rules.specs.Places.{regions}
@@ -121,4 +121,4 @@ both-listed f h =
 
 -- there are at most 64
 pub listed-few : (c : Cells) → length (regionsIn c) ≤ 64
-listed-few c = omega (arith, keep-short (hasCell c) (upTo regions), length-from 0 regions, regions-is, half-is)
+listed-few c = omega (arith, length-keep (hasCell c) (upTo regions), length-from 0 regions, regions-is, half-is)

@@ -48,7 +48,7 @@ module _ (g : Grid) (t : Table) where
 
   pub order-words : orderOf region ≡ orderWords t g
   unfolding orderOf
-  order-words = eachList-same (regionOrder region) (λ r. keep (inRegion g t r) (upTo (stands t))) (upTo regions) order-region
+  order-words = eachList-same (regionOrder region) (λ r. keep (inRegion g t r) (upTo (stands t))) (upTo regions) (λ r h. order-region r)
 
   -- ---- the node whose text is p and whose stands are i to e - 1
 
@@ -75,7 +75,7 @@ module _ (g : Grid) (t : Table) where
         omega (
           arith,
           firsts-below region r,
-          ap length (eachList-same (regionOrder region) (λ r. keep (inRegion g t r) (upTo (stands t))) (upTo r) order-region),
+          ap length (eachList-same (regionOrder region) (λ r. keep (inRegion g t r) (upTo (stands t))) (upTo r) (λ r h. order-region r)),
           ap length (before-stand r i (omega arith)),
           region-place (regionOfStand g t) (stands t) regions i (e - i) r size lt x s (ap (keep (inRegion g t r)) (sym run) ∙ q),
           length-append those (keep (inRegion g t r) (upTo i)),

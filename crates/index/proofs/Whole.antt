@@ -8,9 +8,9 @@ use native.Mathlib.Omega.{arith}
 use lib.ListN.{length, take, drop, getD}
 use Rattle.base.specs.Lists.{fromOn, upTo, each, eachList, total, In}
 use Rattle.base.proofs.Tests.{le-or-lt, ap2}
-use Rattle.base.proofs.Members.{length-each, in-each, in-eachList, getD-each, getD-in, each-same, each-each, each-eachList, eachList-each, eachList-agree, drop-head}
+use Rattle.base.proofs.Members.{length-each, in-each, in-eachList, getD-each, getD-in, each-same, each-each, each-eachList, eachList-each, eachList-same, drop-head}
 use Rattle.base.proofs.Runs.{in-from}
-use Rattle.base.proofs.Counts.{total-suc}
+use Rattle.base.proofs.Sums.{total-suc}
 use Rattle.rules.specs.declared.Grid.{Grid}
 use Rattle.rules.specs.Tables.{Table, stands, nameOf, LawfulTable}
 use Rattle.rules.specs.Indexes.{newAt, beginnings, nodeCount, numberIn, regionsUnder, entriesOf, entryRow, nodeRow, nodeWords, entryWords, entryCount}
@@ -83,7 +83,7 @@ module _ (t : Table) (g : Grid) (l : LawfulTable t g) where
       ap (each textAt) visits-are
       ∙ ap (λ (r : List (List ℕ)). [] ∷ r)
       (each-eachList textAt (newVisits (lengthsOf t) (sharedOf t)) (upTo (stands t))
-      ∙ eachList-agree (λ i. each textAt (newVisits (lengthsOf t) (sharedOf t) i)) (newAt t) (upTo (stands t)) (λ i u. new-texts i (omega (arith, in-from 0 (stands t) i u))))
+      ∙ eachList-same (λ i. each textAt (newVisits (lengthsOf t) (sharedOf t) i)) (newAt t) (upTo (stands t)) (λ i u. new-texts i (omega (arith, in-from 0 (stands t) i u))))
 
   pub node-count : nodeCountOf C ≡ nodeCount t
   node-count = sym (length-each textAt (visitsOf C)) ∙ ap length texts
@@ -121,7 +121,7 @@ module _ (t : Table) (g : Grid) (l : LawfulTable t g) where
 
   pub entry-words : entryWordsOf C ≡ entryWords t g
   entry-words =
-      eachList-agree (λ v. eachList entryRow (entriesAt C v)) (λ v. eachList entryRow (entriesOf t g (textAt v))) (visitsOf C) (λ v u. ap (eachList entryRow) (entries-at v u))
+      eachList-same (λ v. eachList entryRow (entriesAt C v)) (λ v. eachList entryRow (entriesOf t g (textAt v))) (visitsOf C) (λ v u. ap (eachList entryRow) (entries-at v u))
       ∙ sym (eachList-each (λ p. eachList entryRow (entriesOf t g p)) textAt (visitsOf C))
       ∙ ap (eachList (λ p. eachList entryRow (entriesOf t g p))) texts
 

@@ -109,7 +109,7 @@ module _ (lengths shared : List ℕ) where
   grown-small g i e h =
       omega (
         arith,
-        total-most (growth lengths shared) 24 (span i e) (λ k. omega (arith, length-short lengths shared g k)),
+        total-most (growth lengths shared) 24 (span i e) (λ k h. omega (arith, length-short lengths shared g k)),
         length-from i (e - i),
         g .few,
       )

@@ -13,7 +13,7 @@ use borrow.Author.Tests.{lt-ltb, le-ltb, ltb-true, ltb-false, eqb-true, le-leb}
 use Rattle.base.specs.Lists.{upTo, keep, each, eachList, written, begins, In}
 use Rattle.base.proofs.Tests.{which, never, every-of}
 use Rattle.base.proofs.Begins.{begins-at, begins-part, begins-length}
-use Rattle.base.proofs.Members.{in-at, in-keep, keep-in, keep-none, in-each, each-in, in-eachList, eachList-in, eachList-keep, keep-eachList, drop-take}
+use Rattle.base.proofs.Members.{in-at, in-keep, keep-in, keep-none, in-each, each-in, in-eachList, eachList-same, eachList-keep, keep-eachList, drop-take}
 use Rattle.base.proofs.Runs.{in-from, from-in}
 use Rattle.base.proofs.Shuffles.{shuffle-sym, shuffle-in, sort-shuffle}
 use Rattle.rules.specs.declared.Grid.{Grid}
@@ -167,7 +167,7 @@ module _ (t : Table) (g : Grid) (x : Index) (s : SetParts t g x) (j : ℕ) (lt :
     seen = eachList standsOf looked
 
     seen-are : touched (x .order) firsts pasts looked ≡ seen
-    seen-are = eachList-in (runOf (x .order) firsts pasts) standsOf looked (λ r h. run-is r (keep-in (hasCell (cellsOf g rect)) (regionsUnder t g p) r h .0))
+    seen-are = eachList-same (runOf (x .order) firsts pasts) standsOf looked (λ r h. run-is r (keep-in (hasCell (cellsOf g rect)) (regionsUnder t g p) r h .0))
 
     -- each is of the table
     seen-known : (i : ℕ) → In i seen → i < length (t .east)

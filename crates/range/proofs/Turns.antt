@@ -11,7 +11,7 @@ use lib.Seq.{slice, slice-cons}
 use Rattle.base.specs.Lists.{isEmpty, firstOf, keep, eachList, In}
 use borrow.Author.Tests.{leb-true}
 use Rattle.base.proofs.Tests.{every-at}
-use Rattle.base.proofs.Members.{first-rest, empty-of, keep-short}
+use Rattle.base.proofs.Members.{first-rest, empty-of, length-keep}
 use Rattle.rules.specs.declared.Rect.{Rect}
 use Rattle.range.specs.declared.gather.Tally.the-variants.{Count, Broken}
 use Rattle.range.specs.Fetches.{notesOf, entryWord, readable, noteFrom, inside, Gathered, tallied, gathered, runOf, touched, agree, Ready}
@@ -151,7 +151,7 @@ module _ (east north : List ℤ) (order firsts pasts : List ℕ) (rect : Rect) (
       sweep-on m found′ left′ e d =
           let run = runOf order firsts pasts r in
           let count = walk-counts east north rect run found n m (ap (λ (g : Gathered). g .tally) (sym e)) .0 in
-          let short = keep-short (inside east north rect) run in
+          let short = length-keep (inside east north rect) run in
           let most = slice-short (getD firsts r 0) (getD pasts r 0) order in
           let within = w .ready .ends r in
           let stands = stands-few east north order (w .ready .agreed) in

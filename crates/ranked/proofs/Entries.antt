@@ -4,12 +4,12 @@ use mathlib.Core.Path.{_≡_, refl, sym, ap, _∙_, subst}
 use mathlib.Core.Logic.{inl}
 use mathlib.Core.Bool.{true}
 use mathlib.Core.List.{List, _∷_}
-use Prim.Native.Nat.{ℕ, suc, _+_, _-_, _≤_, _<_}
+use Prim.Native.Nat.{ℕ, suc, _-_, _≤_, _<_}
 use native.Mathlib.Omega.{arith}
 use lib.ListN.{length, take, drop, getD}
-use lib.Seq.{slice, slice-cons, take-add, drop-at, length-take-le}
+use lib.Seq.{slice, slice-cons}
 use Rattle.base.specs.Lists.{In, firstOf, begins}
-use Rattle.base.proofs.Members.{in-at}
+use Rattle.base.proofs.Members.{in-at, drop-take}
 use Rattle.base.proofs.Begins.{begins-part, begins-length}
 use Rattle.base.proofs.Pairs.{Less, less-first, pairs-keep}
 use Rattle.rules.specs.declared.Grid.{Grid}
@@ -37,14 +37,6 @@ asRead e = record { region = e .region; score = e .score; first = record { 0 = e
 
 abbrev pub columnsOf : Table → Columns
 columnsOf t = columns (t .east) (t .north) (t .score)
-
--- a part of a list from a place on, both ways
-part-from : (f p : ℕ) (l : List ℕ) → f ≤ p → p ≤ length l → slice f p l ≡ take (p - f) (drop f l)
-part-from f p l h k =
-    let e : p ≡ f + (p - f) = omega arith in
-    ap (λ (n : ℕ). drop f (take n l)) e
-    ∙ ap (drop f) (take-add f (p - f) l)
-    ∙ drop-at (take f l) (take (p - f) (drop f l)) f (length-take-le f l (omega arith))
 
 below-64 : (r : ℕ) → r < regions → r < 64
 unfolding regions
@@ -78,7 +70,7 @@ module _ (t : Table) (g : Grid) (l : LawfulTable t g) where
     listed : slice (e .first) (e .past) order ≡ standsIn t g p (e .region)
     listed =
         ap (drop (e .first)) (begins-part words order (e .past) written (omega arith))
-        ∙ part-from (e .first) (e .past) words (omega arith) (omega arith)
+        ∙ drop-take (e .first) (e .past) words
         ∙ places
 
     -- the first of them stands at the entry's first place, and is the least

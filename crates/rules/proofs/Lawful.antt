@@ -5,12 +5,12 @@ use mathlib.Core.Path.{_≡_, refl, sym, ap, _∙_}
 use mathlib.Core.Bool.{Bool, true, false, cond, not}
 use mathlib.Core.List.{List}
 use native.Mathlib.Omega.{arith}
-use lib.Dec.{ltb, leb, lit<}
+use lib.Dec.{leb, lit<}
 use lib.IntN.{ℤ}
 use lib.ListN.{length, getD, take, drop}
-use borrow.Author.Tests.{ltb-true, ltb-false, leb-true, eqb-true, lt-ltb, lt-leb, le-leb, eq-eqb}
+use borrow.Author.Tests.{leb-true, eqb-true, lt-ltb, lt-leb, le-leb, eq-eqb}
 use Rattle.base.specs.Lists.{begins}
-use Rattle.base.proofs.Tests.{which, and-left, and-right, and-false, every-at, every-of}
+use Rattle.base.proofs.Tests.{and-left, and-right, and-false, every-at, every-of}
 use Rattle.base.proofs.Scans.{all-at, all-of}
 use Rattle.rules.specs.declared.Grid.{Grid}
 use Rattle.rules.specs.declared.Verdict.{Verdict}

@@ -2,25 +2,29 @@
 -- Assumes nothing.
 use mathlib.Core.Path.{_≡_, refl, sym, ap, _∙_}
 use mathlib.Core.Logic.{_⊎_, inl, inr, ⊎-elim}
-use mathlib.Core.Bool.{Bool, true, false, _&&_, _||_, true≢false, false≢true}
+use mathlib.Core.Bool.{true, false, _&&_, true≢false, false≢true}
 use mathlib.Core.List.{List, [], _∷_, _++_}
 use Prim.Native.Nat.{ℕ, zero, suc, _+_, _-_, _≤_, _<_}
 use native.Mathlib.Omega.{arith}
-use native.Mathlib.Nat.{add-zero}
+use native.Mathlib.Nat.{add-zero, eq-or-lt-of-le}
 use lib.Dec.{eqb, ltb}
 use lib.ListN.{length, getD}
-use borrow.Author.Tests.{ltb-true, ltb-false, eqb-true, lt-ltb, le-ltb, eq-eqb}
+use borrow.Author.Tests.{ltb-true, eqb-true, lt-ltb, le-ltb, eq-eqb}
 use Rattle.base.specs.Lists.{begins, sharedLength}
-use Rattle.base.proofs.Tests.{which, never, and-parts, or-cases}
+use Rattle.base.proofs.Tests.{which, never, refuted, le-or-lt, and-parts, or-cases}
 use Rattle.base.proofs.Begins.{begins-cases, begins-same}
 use Rattle.rules.specs.Names.{inOrder}
 
-pub order-cases : (a b : ℕ) (m n : List ℕ) → inOrder (a ∷ m) (b ∷ n) ≡ true → (a < b) ⊎ ((a ≡ b) × (inOrder m n ≡ true))
-order-cases a b m n e = first (or-cases (ltb a b) (_&&_ (eqb a b) (inOrder m n)) e)
-  where
-    first : (ltb a b ≡ true) ⊎ (_&&_ (eqb a b) (inOrder m n) ≡ true) → (a < b) ⊎ ((a ≡ b) × (inOrder m n ≡ true))
-    first (inl h) = inl (ltb-true a b h)
-    first (inr h) = let t = and-parts (eqb a b) (inOrder m n) h in inr (eqb-true a b (t .0), t .1)
+-- two names in order, by their first bytes
+abbrev ByFirst : ℕ → ℕ → List ℕ → List ℕ → Type 0
+ByFirst a b m n = (a < b) ⊎ ((a ≡ b) × (inOrder m n ≡ true))
+
+order-cases : (a b : ℕ) (m n : List ℕ) → inOrder (a ∷ m) (b ∷ n) ≡ true → ByFirst a b m n
+order-cases a b m n e =
+    ⊎-elim
+    (λ h. inl (ltb-true a b h))
+    (λ h. let t = and-parts (eqb a b) (inOrder m n) h in inr (eqb-true a b (t .0), t .1))
+    (or-cases (ltb a b) (eqb a b && inOrder m n) e)
 
 pub order-less : (a b : ℕ) (m n : List ℕ) → a < b → inOrder (a ∷ m) (b ∷ n) ≡ true
 order-less a b m n h = rw (lt-ltb a b h)
@@ -38,7 +42,7 @@ order-trans (a ∷ x) [] z p q = absurd (false≢true p)
 order-trans (a ∷ x) (b ∷ y) [] p q = absurd (false≢true q)
 order-trans (a ∷ x) (b ∷ y) (c ∷ z) p q = step (order-trans x y z) (order-cases a b x y p) (order-cases b c y z q)
   where
-    step : (inOrder x y ≡ true → inOrder y z ≡ true → inOrder x z ≡ true) → (a < b) ⊎ ((a ≡ b) × (inOrder x y ≡ true)) → (b < c) ⊎ ((b ≡ c) × (inOrder y z ≡ true)) → inOrder (a ∷ x) (c ∷ z) ≡ true
+    step : (inOrder x y ≡ true → inOrder y z ≡ true → inOrder x z ≡ true) → ByFirst a b x y → ByFirst b c y z → inOrder (a ∷ x) (c ∷ z) ≡ true
     step below (inl h) (inl k) = order-less a c x z (omega arith)
     step below (inl h) (inr k) = order-less a c x z (omega arith)
     step below (inr h) (inl k) = order-less a c x z (omega arith)
@@ -50,7 +54,7 @@ order-antisym [] (b ∷ y) p q = absurd (false≢true q)
 order-antisym (a ∷ x) [] p q = absurd (false≢true p)
 order-antisym (a ∷ x) (b ∷ y) p q = step (order-antisym x y) (order-cases a b x y p) (order-cases b a y x q)
   where
-    step : (inOrder x y ≡ true → inOrder y x ≡ true → x ≡ y) → (a < b) ⊎ ((a ≡ b) × (inOrder x y ≡ true)) → (b < a) ⊎ ((b ≡ a) × (inOrder y x ≡ true)) → a ∷ x ≡ b ∷ y
+    step : (inOrder x y ≡ true → inOrder y x ≡ true → x ≡ y) → ByFirst a b x y → ByFirst b a y x → a ∷ x ≡ b ∷ y
     step below (inl h) (inl k) = absurd (omega arith)
     step below (inl h) (inr k) = absurd (omega arith)
     step below (inr h) (inl k) = absurd (omega arith)
@@ -60,15 +64,12 @@ order-antisym (a ∷ x) (b ∷ y) p q = step (order-antisym x y) (order-cases a 
 pub order-total : (x y : List ℕ) → inOrder y x ≡ false → inOrder x y ≡ true
 order-total [] y p = refl
 order-total (a ∷ x) [] p = absurd (true≢false p)
-order-total (a ∷ x) (b ∷ y) p = step (order-total x y) (which (ltb a b)) (which (ltb b a))
+order-total (a ∷ x) (b ∷ y) p = step (order-total x y) (le-or-lt b a) (le-or-lt a b)
   where
-    step : (inOrder y x ≡ false → inOrder x y ≡ true) → (ltb a b ≡ true) ⊎ (ltb a b ≡ false) → (ltb b a ≡ true) ⊎ (ltb b a ≡ false) → inOrder (a ∷ x) (b ∷ y) ≡ true
-    step below (inl h) k = order-less a b x y (ltb-true a b h)
-    step below (inr h) (inl k) = never _ (order-less b a y x (ltb-true b a k)) p
-    step below (inr h) (inr k) = same (omega (arith, ltb-false a b h, ltb-false b a k))
-      where
-        same : a ≡ b → inOrder (a ∷ x) (b ∷ y) ≡ true
-        same e = order-same a b x y e (below (rw (k, eq-eqb b a (sym e)) at p))
+    step : (inOrder y x ≡ false → inOrder x y ≡ true) → (b ≤ a) ⊎ (a < b) → (a ≤ b) ⊎ (b < a) → inOrder (a ∷ x) (b ∷ y) ≡ true
+    step below (inr h) k = order-less a b x y h
+    step below (inl h) (inr k) = never _ (order-less b a y x k) p
+    step below (inl h) (inl k) = let e : a ≡ b = omega arith in order-same a b x y e (below (rw (le-ltb b a k, eq-eqb b a (sym e)) at p))
 
 pub begins-order : (p n : List ℕ) → begins p n ≡ true → inOrder p n ≡ true
 begins-order [] n h = refl
@@ -82,7 +83,8 @@ begins-between (a ∷ p) [] n h k l = h
 begins-between (a ∷ p) (b ∷ x) [] h k l = absurd (false≢true k)
 begins-between (a ∷ p) (b ∷ x) (c ∷ n) h k l = step (begins-between p x n) (begins-cases a c p n l) (order-cases a b p x h) (order-cases b c x n k)
   where
-    step : (inOrder p x ≡ true → inOrder x n ≡ true → begins p n ≡ true → begins p x ≡ true) → (a ≡ c) × (begins p n ≡ true) → (a < b) ⊎ ((a ≡ b) × (inOrder p x ≡ true)) → (b < c) ⊎ ((b ≡ c) × (inOrder x n ≡ true)) → begins (a ∷ p) (b ∷ x) ≡ true
+    step : (inOrder p x ≡ true → inOrder x n ≡ true → begins p n ≡ true → begins p x ≡ true) → (a ≡ c) × (begins p n ≡ true)
+        → ByFirst a b p x → ByFirst b c x n → begins (a ∷ p) (b ∷ x) ≡ true
     step below s (inl u) (inl v) = absurd (omega arith)
     step below s (inl u) (inr v) = absurd (omega arith)
     step below s (inr u) (inl v) = absurd (omega arith)
@@ -93,11 +95,7 @@ begins-interval p m x n h u v k = begins-between p x n (order-trans p m x (begin
 
 -- a beginning of n that does not begin the name before comes strictly after that name
 pub begins-above : (m n p : List ℕ) → inOrder m n ≡ true → begins p n ≡ true → begins p m ≡ false → inOrder p m ≡ false
-begins-above m n p o h k = step (which (inOrder p m))
-  where
-    step : (inOrder p m ≡ true) ⊎ (inOrder p m ≡ false) → inOrder p m ≡ false
-    step (inl s) = never _ (begins-between p m n s o h) k
-    step (inr s) = s
+begins-above m n p o h k = refuted _ (λ s. never _ (begins-between p m n s o h) k)
 
 -- a longer one that p begins comes strictly after p
 pub begins-strict : (p q : List ℕ) → begins p q ≡ true → length p < length q → inOrder q p ≡ false
@@ -109,11 +107,7 @@ begins-strict (a ∷ p) (b ∷ q) h l =
 
 -- x not after m, m strictly before y: x strictly before y
 pub strict-after : (x m y : List ℕ) → inOrder x m ≡ true → inOrder y m ≡ false → inOrder y x ≡ false
-strict-after x m y h k = step (which (inOrder y x))
-  where
-    step : (inOrder y x ≡ true) ⊎ (inOrder y x ≡ false) → inOrder y x ≡ false
-    step (inl u) = never _ (order-trans y x m u h) k
-    step (inr u) = u
+strict-after x m y h k = refuted _ (λ u. never _ (order-trans y x m u h) k)
 
 pub order-append : (p u v : List ℕ) → inOrder (p ++ u) (p ++ v) ≡ inOrder u v
 order-append [] u v = refl
@@ -164,21 +158,14 @@ StrictlyRising g n = (i k : ℕ) → i < k → k < n → inOrder (g k) (g i) ≡
 
 -- neighbours in order: all in order
 pub rising : (g : ℕ → List ℕ) (n : ℕ) → ((i : ℕ) → i + 1 < n → inOrder (g i) (g (i + 1)) ≡ true) → Rising g n
-rising g n h i k le lt = rw (eq k i le) at (far (k - i) (omega arith))
+rising g n h i k le lt = let e : i + (k - i) ≡ k = omega arith in rw e at (far (k - i) (omega arith))
   where
-    eq : (k i : ℕ) → i ≤ k → i + (k - i) ≡ k
-    eq k i l = omega arith
-
     far : (d : ℕ) → i + d < n → inOrder (g i) (g (i + d)) ≡ true
     far zero u = rw add-zero (order-refl (g i))
-    far (suc d) u = order-trans (g i) (g (i + d)) (g (i + suc d)) (far d (omega arith)) (rw (more d) at (h (i + d) (omega arith)))
-      where
-        more : (d : ℕ) → i + d + 1 ≡ i + suc d
-        more d = omega arith
+    far (suc d) u =
+        let e : i + d + 1 ≡ i + suc d = omega arith in
+        order-trans (g i) (g (i + d)) (g (i + suc d)) (far d (omega arith)) (rw e at (h (i + d) (omega arith)))
 
 pub strict-rising : (g : ℕ → List ℕ) (n : ℕ) → StrictlyRising g n → Rising g n
-strict-rising g n up i k le lt = step (which (ltb i k))
-  where
-    step : (ltb i k ≡ true) ⊎ (ltb i k ≡ false) → inOrder (g i) (g k) ≡ true
-    step (inl h) = order-total (g i) (g k) (up i k (ltb-true i k h) lt)
-    step (inr h) = let e : i ≡ k = omega (arith, ltb-false i k h) in rw e (order-refl (g k))
+strict-rising g n up i k le lt =
+    ⊎-elim (λ (e : i ≡ k). rw e (order-refl (g k))) (λ (h : i < k). order-total (g i) (g k) (up i k h lt)) (eq-or-lt-of-le le)

@@ -112,10 +112,6 @@ pub record Index : Type 0 where
 abbrev pub indexOf : List ℕ → List ℕ → List ℕ → Index
 indexOf order nodes entries = record { order = order; nodes = nodes; entries = entries }
 
--- what building writes
-abbrev pub indexWords : Table → Grid → Index
-indexWords t g = record { order = orderWords t g; nodes = nodeWords t g; entries = entryWords t g }
-
 -- 6: a buffer is too small
 unfoldable pub tooSmall : Table → Grid → Index → Bool
 tooSmall t g x = ltb (length (x .order)) (stands t) || ltb (length (x .nodes)) (8 * nodeCount t) || ltb (length (x .entries)) (4 * entryCount t g)

@@ -1,7 +1,7 @@
 -- For a pass over the names in turn: which nodes a name adds, their numbers, their stands, and where their subtrees end.
 -- Assumes nothing.
 use mathlib.Core.Path.{_≡_, refl, sym, ap, _∙_, subst, subst₂}
-use mathlib.Core.Logic.{_⊎_, inl, inr}
+use mathlib.Core.Logic.{_⊎_, inl, inr, ⊎-elim}
 use mathlib.Core.Bool.{true}
 use mathlib.Core.List.{List, [], _∷_, _++_, append-nil}
 use Prim.Native.Nat.{ℕ, zero, suc, _+_, _-_, _≤_, _<_}
@@ -13,7 +13,7 @@ use Rattle.base.specs.Lists.{fromOn, upTo, each, eachList, firstOf, begins}
 use Rattle.base.proofs.Tests.{never, le-or-lt}
 use Rattle.base.proofs.Members.{length-each, eachList-append}
 use Rattle.base.proofs.Runs.{length-from, upTo-split, upTo-suc, getD-each-from}
-use Rattle.base.proofs.Begins.{begins-trans, take-begins, begins-take, begins-take-not, sharedLength-sym}
+use Rattle.base.proofs.Begins.{begins-trans, take-begins, shared-begins, past-shared, sharedLength-sym}
 use Rattle.rules.specs.Tables.{Table, stands, nameOf, Ordered}
 use Rattle.rules.specs.Questions.{under}
 use Rattle.rules.specs.Indexes.{newAt, beginnings, nodeCount, numberIn, lastByte, butLast, pastOf}
@@ -70,7 +70,7 @@ module _ (t : Table) where
       )
 
   -- the k-th of them
-  pub node-text : (i k : ℕ) → i < stands t → k < length (nameOf t i) - sharedAt t i → textOf t (nodesBefore t i + k) ≡ take (suc (sharedAt t i) + k) (nameOf t i)
+  node-text : (i k : ℕ) → i < stands t → k < length (nameOf t i) - sharedAt t i → textOf t (nodesBefore t i + k) ≡ take (suc (sharedAt t i) + k) (nameOf t i)
   node-text i k h l =
       let r = eachList (newAt t) (fromOn (suc i) (stands t - suc i)) in
       ap (λ (B : List (List ℕ)). getD B (nodesBefore t i + k) []) (new-split i h)
@@ -116,28 +116,28 @@ module _ (t : Table) (o : Ordered t) where
           f = firstOf (under t (take l (nameOf t (suc i))))
 
           step : (f ≤ i) ⊎ (i < f) → f ≡ suc i
-          step (inl q) = never _ (under-only t o (take l (nameOf t (suc i))) i q (omega arith) .1) (begins-take-not (nameOf t i) (nameOf t (suc i)) l u v)
+          step (inl q) = never _ (under-only t o (take l (nameOf t (suc i))) i q (omega arith) .1) (past-shared (nameOf t i) (nameOf t (suc i)) l u v)
           step (inr q) = omega arith
 
   -- the last is i, where the next name does not go through the node
   pub past-stand : (i l : ℕ) → i < stands t → l ≤ length (nameOf t i) → (suc i < stands t → sharedAt t (suc i) < l)
       → firstOf (under t (take l (nameOf t i))) + length (under t (take l (nameOf t i))) ≡ suc i
-  past-stand i l h v c = step (le-or-lt e (suc i))
+  past-stand i l h v c = step (le-or-lt past (suc i))
     where
       p : List ℕ
       p = take l (nameOf t i)
 
-      e : ℕ
-      e = firstOf (under t p) + length (under t p)
+      past : ℕ
+      past = firstOf (under t p) + length (under t p)
 
-      r : (firstOf (under t p) ≤ i) × (i < e)
+      r : (firstOf (under t p) ≤ i) × (i < past)
       r = under-from t o p i h (take-begins l (nameOf t i))
 
-      step : (e ≤ suc i) ⊎ (suc i < e) → e ≡ suc i
+      step : (past ≤ suc i) ⊎ (suc i < past) → past ≡ suc i
       step (inl q) = omega (arith, r)
       step (inr q) =
           let s = under-only t o p (suc i) (omega (arith, r)) q in
-          let apart = begins-take-not (nameOf t (suc i)) (nameOf t i) l (omega (arith, c (s .0), sharedLength-sym (nameOf t i) (nameOf t (suc i)))) v in
+          let apart = past-shared (nameOf t (suc i)) (nameOf t i) l (omega (arith, c (s .0), sharedLength-sym (nameOf t i) (nameOf t (suc i)))) v in
           never _ (s .1) apart
 
   -- ---- where the nodes' subtrees end
@@ -146,7 +146,7 @@ module _ (t : Table) (o : Ordered t) where
     -- a name that adds nothing is the name before
     adds-none : (i : ℕ) → suc i < stands t → length (nameOf t (suc i)) ≤ sharedAt t (suc i) → nameOf t (suc i) ≡ nameOf t i
     adds-none i h u =
-        let b = begins-take (nameOf t i) (nameOf t (suc i)) (length (nameOf t (suc i))) u in
+        let b = shared-begins (nameOf t i) (nameOf t (suc i)) (length (nameOf t (suc i))) u in
         let w : begins (nameOf t (suc i)) (nameOf t i) ≡ true = subst (λ (p : List ℕ). begins p (nameOf t i) ≡ true) (take-length (nameOf t (suc i))) b in
         order-antisym (nameOf t (suc i)) (nameOf t i) (begins-order (nameOf t (suc i)) (nameOf t i) w) (rw add-one at (o i (omega arith)))
 
@@ -163,19 +163,18 @@ module _ (t : Table) (o : Ordered t) where
     -- the last of the nodes of the names up to i is name i
     last-node : (i : ℕ) → i < stands t → textOf t (nodesBefore t (suc i) - 1) ≡ nameOf t i
     last-node zero h = last-added 0 h (long 0 h)
-    last-node (suc i) h = step (last-node i (omega arith)) (le-or-lt (length (nameOf t (suc i))) (sharedAt t (suc i)))
-      where
-        step : textOf t (nodesBefore t (suc i) - 1) ≡ nameOf t i → (length (nameOf t (suc i)) ≤ sharedAt t (suc i)) ⊎ (sharedAt t (suc i) < length (nameOf t (suc i)))
-            → textOf t (nodesBefore t (suc (suc i)) - 1) ≡ nameOf t (suc i)
-        step r (inl u) =
-            let x : nodesBefore t (suc (suc i)) - 1 ≡ nodesBefore t (suc i) - 1 = omega (arith, nodes-step t (suc i)) in
-            ap (λ (m : ℕ). textOf t m) x ∙ r ∙ sym (adds-none i h u)
-        step r (inr u) = last-added (suc i) h u
+    last-node (suc i) h =
+        ⊎-elim
+        (λ (u : length (nameOf t (suc i)) ≤ sharedAt t (suc i)).
+        let x : nodesBefore t (suc (suc i)) - 1 ≡ nodesBefore t (suc i) - 1 = omega (arith, nodes-step t (suc i)) in
+        ap (λ (m : ℕ). textOf t m) x ∙ last-node i (omega arith) ∙ sym (adds-none i h u))
+        (λ (u : sharedAt t (suc i) < length (nameOf t (suc i))). last-added (suc i) h u)
+        (le-or-lt (length (nameOf t (suc i))) (sharedAt t (suc i)))
 
     -- a node of name i's path that is not on the path of the next name ends with the nodes of the names up to i
     pub past-node : (i l : ℕ) → i < stands t → l ≤ length (nameOf t i) → (suc i < stands t → sharedAt t (suc i) < l)
         → pastOf (beginnings t) (numberIn (take l (nameOf t i)) (beginnings t)) ≡ nodesBefore t (suc i)
-    past-node i l h v c = step (le-or-lt e N)
+    past-node i l h v c = step (le-or-lt past made)
       where
         B : List (List ℕ)
         B = beginnings t
@@ -189,37 +188,38 @@ module _ (t : Table) (o : Ordered t) where
         at : (numberIn p B < length B) × (getD B (numberIn p B) [] ≡ p)
         at = number-in p B (beginnings-of t i p h (take-begins l (nameOf t i)))
 
-        N : ℕ
-        N = nodesBefore t (suc i)
+        -- the nodes of the names up to i
+        made : ℕ
+        made = nodesBefore t (suc i)
 
-        e : ℕ
-        e = pastOf B (numberIn p B)
+        past : ℕ
+        past = pastOf B (numberIn p B)
 
-        last : (numberIn p B ≤ N - 1) × (N - 1 < e)
+        last : (numberIn p B ≤ made - 1) × (made - 1 < past)
         last =
-            subtree-in B (tree .sorted) (numberIn p B) (at .0) (N - 1) (omega (arith, nodes-fit t i h))
+            subtree-in B (tree .sorted) (numberIn p B) (at .0) (made - 1) (omega (arith, nodes-fit t i h))
             (subst₂ (λ (x y : List ℕ). begins x y ≡ true) (sym (at .1)) (sym (last-node i h)) (take-begins l (nameOf t i)))
 
         -- the next node is of the next name, whose path p is not on
-        next : N < e → (suc i < stands t) → sharedAt t (suc i) < length (nameOf t (suc i)) → ⊥
+        next : made < past → (suc i < stands t) → sharedAt t (suc i) < length (nameOf t (suc i)) → ⊥
         next q k f =
             let m = suc (sharedAt t (suc i)) + 0 in
-            let z : N + 0 ≡ N = omega arith in
-            let b = subtree-only B (tree .sorted) (numberIn p B) (at .0) N (omega (arith, last)) q .1 in
-            let x : getD B N [] ≡ take m (nameOf t (suc i)) = ap (λ (m : ℕ). getD B m []) (sym z) ∙ node-text t (suc i) 0 k (omega arith) in
+            let z : made + 0 ≡ made = omega arith in
+            let b = subtree-only B (tree .sorted) (numberIn p B) (at .0) made (omega (arith, last)) q .1 in
+            let x : getD B made [] ≡ take m (nameOf t (suc i)) = ap (λ (m : ℕ). getD B m []) (sym z) ∙ node-text t (suc i) 0 k (omega arith) in
             let y : begins p (take m (nameOf t (suc i))) ≡ true = subst₂ (λ (x y : List ℕ). begins x y ≡ true) (at .1) x b in
             let through = begins-trans p (take m (nameOf t (suc i))) (nameOf t (suc i)) y (take-begins m (nameOf t (suc i))) in
-            let apart = begins-take-not (nameOf t (suc i)) (nameOf t i) l (omega (arith, c k, sharedLength-sym (nameOf t i) (nameOf t (suc i)))) v in
+            let apart = past-shared (nameOf t (suc i)) (nameOf t i) l (omega (arith, c k, sharedLength-sym (nameOf t i) (nameOf t (suc i)))) v in
             never _ through apart
 
-        more : N < e → (stands t ≤ suc i) ⊎ (suc i < stands t) → (length (nameOf t (suc i)) ≤ sharedAt t (suc i)) ⊎ (sharedAt t (suc i) < length (nameOf t (suc i))) → ⊥
+        more : made < past → (stands t ≤ suc i) ⊎ (suc i < stands t) → (length (nameOf t (suc i)) ≤ sharedAt t (suc i)) ⊎ (sharedAt t (suc i) < length (nameOf t (suc i))) → ⊥
         more q (inl k) f =
             let s : stands t ≡ suc i = omega arith in
-            let r : length B ≡ N = sym (nodes-all t) ∙ ap (nodesBefore t) s in
+            let r : length B ≡ made = sym (nodes-all t) ∙ ap (nodesBefore t) s in
             omega (arith, past-bounds B (tree .sorted) (numberIn p B) (at .0))
         more q (inr k) (inl f) = omega (arith, ap length (adds-none i k f), c k)
         more q (inr k) (inr f) = next q k f
 
-        step : (e ≤ N) ⊎ (N < e) → e ≡ N
+        step : (past ≤ made) ⊎ (made < past) → past ≡ made
         step (inl q) = omega (arith, last)
         step (inr q) = absurd (more q (le-or-lt (stands t) (suc i)) (le-or-lt (length (nameOf t (suc i))) (sharedAt t (suc i))))

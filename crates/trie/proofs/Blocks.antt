@@ -1,18 +1,17 @@
 -- Of names in order, the numbers of those that begin with a text are a run; of names strictly in order, the run of
 -- the j-th name's own text starts at j. Assumes nothing.
 use mathlib.Core.Path.{_≡_}
-use mathlib.Core.Logic.{_⊎_, inl, inr}
-use mathlib.Core.Bool.{true, false}
+use mathlib.Core.Logic.{⊎-elim}
+use mathlib.Core.Bool.{true}
 use mathlib.Core.List.{List}
 use Prim.Native.Nat.{ℕ, _+_, _-_, _≤_, _<_}
 use native.Mathlib.Omega.{arith}
-use lib.Dec.{ltb}
+use native.Mathlib.Nat.{eq-or-lt-of-le}
 use lib.ListN.{length}
-use borrow.Author.Tests.{ltb-true, ltb-false}
-use Rattle.base.specs.Lists.{fromOn, upTo, keep, firstOf, begins}
-use Rattle.base.proofs.Tests.{which, never}
+use Rattle.base.specs.Lists.{upTo, keep, firstOf, begins}
+use Rattle.base.proofs.Tests.{never}
 use Rattle.base.proofs.Members.{in-keep, keep-in}
-use Rattle.base.proofs.Runs.{in-from, from-in, keep-run}
+use Rattle.base.proofs.Runs.{in-from, from-in, Run, keep-run}
 use Rattle.base.proofs.Begins.{begins-refl}
 use Rattle.rules.proofs.Orders.{begins-order, begins-interval, Rising, StrictlyRising, strict-rising}
 
@@ -21,7 +20,7 @@ abbrev pub blockOf : (ℕ → List ℕ) → ℕ → List ℕ → List ℕ
 blockOf g n p = keep (λ i. begins p (g i)) (upTo n)
 
 module _ (g : ℕ → List ℕ) (n : ℕ) (up : Rising g n) (p : List ℕ) where
-  pub block-run : blockOf g n p ≡ fromOn (firstOf (blockOf g n p)) (length (blockOf g n p))
+  pub block-run : Run (blockOf g n p)
   block-run = keep-run (λ i. begins p (g i)) n 0 n (omega arith) (λ i j k u v w a b. begins-interval p (g i) (g j) (g k) a (up i j u (omega arith)) (up j k v w) b)
 
   pub block-in : (i : ℕ) → i < n → begins p (g i) ≡ true → (firstOf (blockOf g n p) ≤ i) × (i < firstOf (blockOf g n p) + length (blockOf g n p))
@@ -35,17 +34,20 @@ module _ (g : ℕ → List ℕ) (n : ℕ) (up : Rising g n) (p : List ℕ) where
 
 -- the block of the j-th name of names that rise strictly
 module _ (g : ℕ → List ℕ) (n : ℕ) (up : StrictlyRising g n) (j : ℕ) (lt : j < n) where
-  pub block-first : firstOf (blockOf g n (g j)) ≡ j
-  block-first = step (which (ltb (firstOf (blockOf g n (g j))) j))
+  block-first : firstOf (blockOf g n (g j)) ≡ j
+  block-first = ⊎-elim (λ e. e) (λ h. absurd (smaller h)) (eq-or-lt-of-le (here .0))
     where
+      first : ℕ
+      first = firstOf (blockOf g n (g j))
+
       here : (firstOf (blockOf g n (g j)) ≤ j) × (j < firstOf (blockOf g n (g j)) + length (blockOf g n (g j)))
       here = block-in g n (strict-rising g n up) (g j) j lt (begins-refl (g j))
 
-      step : (ltb (firstOf (blockOf g n (g j))) j ≡ true) ⊎ (ltb (firstOf (blockOf g n (g j))) j ≡ false) → firstOf (blockOf g n (g j)) ≡ j
-      step (inl h) =
-          let t = block-out g n (strict-rising g n up) (g j) (firstOf (blockOf g n (g j))) (omega arith) (omega (arith, here)) in
-          never _ (begins-order (g j) (g (firstOf (blockOf g n (g j)))) (t .1)) (up (firstOf (blockOf g n (g j))) j (ltb-true _ _ h) lt)
-      step (inr h) = omega (arith, ltb-false, here)
+      -- a smaller one would begin with g j and still come strictly before it
+      smaller : first < j → ⊥
+      smaller h =
+          let t = block-out g n (strict-rising g n up) (g j) first (omega arith) (omega (arith, here)) in
+          never _ (begins-order (g j) (g first) (t .1)) (up first j h lt)
 
   pub block-from : (i : ℕ) → i < n → begins (g j) (g i) ≡ true → (j ≤ i) × (i < j + length (blockOf g n (g j)))
   block-from i h b = let t = block-in g n (strict-rising g n up) (g j) i h b in (omega (arith, block-first), omega (arith, block-first))

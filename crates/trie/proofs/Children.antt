@@ -1,17 +1,16 @@
 -- In a tree of texts a node's subtree is one run that starts with the node; what follows the node in it, and what
 -- follows each child's subtree, is a child again. Children have rising last bytes. Assumes nothing.
 use mathlib.Core.Path.{_≡_, refl, sym, ap, ap₂, _∙_}
-use mathlib.Core.Logic.{_⊎_, inl, inr}
+use mathlib.Core.Logic.{_⊎_, inl, inr, ⊎-elim}
 use mathlib.Core.Bool.{true, false, true≢false}
 use mathlib.Core.List.{List, [], _∷_, _++_}
 use Prim.Native.Nat.{ℕ, zero, suc, _+_, _-_, _≤_, _<_}
 use native.Mathlib.Omega.{arith}
-use lib.Dec.{ltb}
+use native.Mathlib.Nat.{eq-or-lt-of-le}
 use lib.ListN.{length, take, getD, length-append}
 use lib.Seq.{length-take-le}
-use borrow.Author.Tests.{ltb-true, ltb-false}
 use Rattle.base.specs.Lists.{upTo, keep, begins, In}
-use Rattle.base.proofs.Tests.{which, never}
+use Rattle.base.proofs.Tests.{never, le-or-lt}
 use Rattle.base.proofs.Members.{getD-in, in-at, keep-each, length-each}
 use Rattle.base.proofs.Runs.{each-getD}
 use Rattle.base.proofs.Begins.{begins-cases, begins-trans, begins-both, begins-whole, begins-append, take-begins, begins-is-take}
@@ -51,17 +50,9 @@ module _ (B : List (List ℕ)) (t : Tree B) (j : ℕ) (lt : j < length B) where
   child-one c k x y b = sorted-once B (t .sorted) c k (x .inside) (y .inside) (begins-whole (getD B c []) (getD B k []) b (omega arith))
 
   pub child-after : (c : ℕ) → Child B j c → (j < c) × (c < pastOf B j)
-  child-after c x = (step (which (ltb j c)), r .1)
-    where
-      r : (j ≤ c) × (c < pastOf B j)
-      r = subtree-in B (t .sorted) j lt c (x .inside) (x .under)
-
-      step : (ltb j c ≡ true) ⊎ (ltb j c ≡ false) → j < c
-      step (inl q) = ltb-true j c q
-      step (inr q) =
-          let e : j ≡ c = omega (arith, ltb-false j c q, r) in
-          let l : length (getD B j []) ≡ length (getD B c []) = ap (λ k. length (getD B k [])) e in
-          absurd (omega (arith, x .longer))
+  child-after c x =
+      let r = subtree-in B (t .sorted) j lt c (x .inside) (x .under) in
+      (⊎-elim (λ (e : j ≡ c). absurd (omega (arith, ap (λ k. length (getD B k [])) e, x .longer))) (λ (h : j < c). h) (eq-or-lt-of-le (r .0)), r .1)
 
   pub child-past : (c : ℕ) → Child B j c → (c < pastOf B c) × (pastOf B c ≤ pastOf B j)
   child-past c x =
@@ -88,13 +79,11 @@ module _ (B : List (List ℕ)) (t : Tree B) (j : ℕ) (lt : j < length B) where
       r = subtree-only B (t .sorted) j lt i (omega arith) v
 
       longer : length p < length x
-      longer = step (which (ltb (length p) (length x)))
-        where
-          step : (ltb (length p) (length x) ≡ true) ⊎ (ltb (length p) (length x) ≡ false) → length p < length x
-          step (inl q) = ltb-true (length p) (length x) q
-          step (inr q) =
-              let e : j ≡ i = sorted-once B (t .sorted) j i lt (r .0) (begins-whole p x (r .1) (ltb-false (length p) (length x) q)) in
-              absurd (omega arith)
+      longer =
+          ⊎-elim
+          (λ (q : length x ≤ length p). let e : j ≡ i = sorted-once B (t .sorted) j i lt (r .0) (begins-whole p x (r .1) q) in absurd (omega arith))
+          (λ (q : length p < length x). q)
+          (le-or-lt (length x) (length p))
 
       size : length y ≡ suc (length p)
       size = length-take-le (suc (length p)) x longer
@@ -117,29 +106,26 @@ module _ (B : List (List ℕ)) (t : Tree B) (j : ℕ) (lt : j < length B) where
   child-next c x h = step (child-over (pastOf B c) (omega (arith, child-after c x, child-past c x)) h)
     where
       step : (k : ℕ) × Child B j k × (k ≤ pastOf B c) × (pastOf B c < pastOf B k) → Child B j (pastOf B c)
-      step (k, y, u, v) = go (which (ltb k (pastOf B c))) (which (ltb k c))
+      step (k, y, u, v) = go (eq-or-lt-of-le u) (le-or-lt c k)
         where
-          go : (ltb k (pastOf B c) ≡ true) ⊎ (ltb k (pastOf B c) ≡ false) → (ltb k c ≡ true) ⊎ (ltb k c ≡ false) → Child B j (pastOf B c)
-          go (inl a) (inl b) =
-              let inner = subtree-only B (t .sorted) k (y .inside) c (omega (arith, ltb-true)) (omega (arith, child-past c x)) .1 in
-              let e : k ≡ c = child-one k c y x inner in
-              absurd (omega (arith, ltb-true))
-          go (inl a) (inr b) =
-              let inner = subtree-only B (t .sorted) c (x .inside) k (ltb-false k c b) (ltb-true k (pastOf B c) a) .1 in
-              let e : c ≡ k = child-one c k x y inner in
-              let f : pastOf B c ≡ pastOf B k = ap (pastOf B) e in
+          go : (k ≡ pastOf B c) ⊎ (k < pastOf B c) → (c ≤ k) ⊎ (k < c) → Child B j (pastOf B c)
+          go (inl e) b = rw e at y
+          go (inr a) (inl b) =
+              let inner = subtree-only B (t .sorted) c (x .inside) k b a .1 in
+              let f : pastOf B c ≡ pastOf B k = ap (pastOf B) (child-one c k x y inner) in
               absurd (omega arith)
-          go (inr a) b = let e : k ≡ pastOf B c = omega (arith, ltb-false) in rw e at y
+          go (inr a) (inr b) =
+              let inner = subtree-only B (t .sorted) k (y .inside) c (omega arith) (omega (arith, child-past c x)) .1 in
+              let e : k ≡ c = child-one k c y x inner in
+              absurd (omega arith)
 
   -- no child lies within another's subtree
   pub child-gap : (c k : ℕ) → Child B j c → Child B j k → c < k → pastOf B c ≤ k
-  child-gap c k x y h = step (which (ltb k (pastOf B c)))
-    where
-      step : (ltb k (pastOf B c) ≡ true) ⊎ (ltb k (pastOf B c) ≡ false) → pastOf B c ≤ k
-      step (inl q) =
-          let e : c ≡ k = child-one c k x y (subtree-only B (t .sorted) c (x .inside) k (omega arith) (ltb-true k (pastOf B c) q) .1) in
-          absurd (omega arith)
-      step (inr q) = ltb-false k (pastOf B c) q
+  child-gap c k x y h =
+      ⊎-elim
+      (λ (q : pastOf B c ≤ k). q)
+      (λ (q : k < pastOf B c). let e : c ≡ k = child-one c k x y (subtree-only B (t .sorted) c (x .inside) k (omega arith) q .1) in absurd (omega arith))
+      (le-or-lt (pastOf B c) k)
 
 -- ---- the way along the children meets each child, and nothing else
 
@@ -150,14 +136,14 @@ module _ (B : List (List ℕ)) (t : Tree B) (j : ℕ) (lt : j < length B) where
 
   way-to : (k : ℕ) → Child B j k → (fuel c : ℕ) → OnWay B j c → c ≤ k → k ≤ c + fuel → OnWay B j k
   way-to k x zero c w u v = let e : c ≡ k = omega arith in rw e at w
-  way-to k x (suc fuel) c w u v = step (way-to k x fuel (pastOf B c)) (which (ltb c k))
+  way-to k x (suc fuel) c w u v = step (way-to k x fuel (pastOf B c)) (eq-or-lt-of-le u)
     where
-      step : (OnWay B j (pastOf B c) → pastOf B c ≤ k → k ≤ pastOf B c + fuel → OnWay B j k) → (ltb c k ≡ true) ⊎ (ltb c k ≡ false) → OnWay B j k
-      step below (inl q) =
-          let g = child-gap B t j lt c k (way-child c w) x (ltb-true c k q) in
+      step : (OnWay B j (pastOf B c) → pastOf B c ≤ k → k ≤ pastOf B c + fuel → OnWay B j k) → (c ≡ k) ⊎ (c < k) → OnWay B j k
+      step below (inl e) = rw e at w
+      step below (inr q) =
+          let g = child-gap B t j lt c k (way-child c w) x q in
           let more = trees.next w (omega (arith, child-after B t j lt k x)) in
           below more g (omega (arith, child-past B t j lt c (way-child c w)))
-      step below (inr q) = let e : c ≡ k = omega (arith, ltb-false) in rw e at w
 
   pub child-way : (k : ℕ) → Child B j k → OnWay B j k
   child-way k x = let a = child-after B t j lt k x in way-to k x k (suc j) (trees.first (omega arith)) (omega arith) (omega arith)
@@ -177,7 +163,7 @@ last-snoc [] b = refl
 last-snoc (a ∷ []) b = refl
 last-snoc (a ∷ c ∷ p) b = last-snoc (c ∷ p) b
 
-pub length-snoc : (p : List ℕ) (b : ℕ) → length (p ++ (b ∷ [])) ≡ suc (length p)
+length-snoc : (p : List ℕ) (b : ℕ) → length (p ++ (b ∷ [])) ≡ suc (length p)
 length-snoc p b = rw (length-append p (b ∷ [])) (omega arith)
 
 module _ (B : List (List ℕ)) (t : Tree B) (j : ℕ) (lt : j < length B) where
@@ -206,12 +192,11 @@ module _ (B : List (List ℕ)) (t : Tree B) (j : ℕ) (lt : j < length B) where
           ∙ sorted-at B (t .sorted) c k h (y .inside)
 
       less : (a b : ℕ) → inOrder (b ∷ []) (a ∷ []) ≡ false → a < b
-      less a b q = step (which (ltb a b)) (which (ltb b a))
-        where
-          step : (ltb a b ≡ true) ⊎ (ltb a b ≡ false) → (ltb b a ≡ true) ⊎ (ltb b a ≡ false) → a < b
-          step (inl u) v = ltb-true a b u
-          step (inr u) (inl v) = never _ (order-less b a [] [] (ltb-true b a v)) q
-          step (inr u) (inr v) = never _ (order-same b a [] [] (omega (arith, ltb-false a b u, ltb-false b a v)) refl) q
+      less a b q =
+          ⊎-elim
+          (λ (u : b ≤ a). ⊎-elim (λ (e : b ≡ a). never _ (order-same b a [] [] e refl) q) (λ (v : b < a). never _ (order-less b a [] [] v) q) (eq-or-lt-of-le u))
+          (λ (u : a < b). u)
+          (le-or-lt b a)
 
 -- ---- parents
 

@@ -7,11 +7,12 @@ use Prim.Native.Nat.{ℕ, _+_, _-_, _≤_, _<_, min}
 use native.Mathlib.Omega.{arith}
 use lib.ListN.{length, take, drop, length-take, length-drop}
 use Rattle.base.specs.Lists.{upTo, keep, each, largest}
-use Rattle.base.proofs.Members.{getD-in, in-at, in-keep, keep-in, in-each, each-in, in-some, some-in, some-length, in-largest, largest-in}
+use Rattle.base.proofs.Members.{getD-in, in-at, in-keep, keep-in, in-each, each-in, in-some, some-in, some-length}
 use Rattle.base.proofs.Runs.{in-from, from-in}
+use Rattle.base.proofs.Sums.{in-largest, largest-in}
 use Rattle.base.proofs.Shuffles.{shuffle-sym, shuffle-in, sort-shuffle}
-use Rattle.base.proofs.Sorts.{Wins}
-use Rattle.base.proofs.Pairs.{pairs-keep, pairs-at, pairs-each, pairs-weaken, Distinct, distinct-once, distinct-sort, Less, less-from, sort-wins}
+use Rattle.base.proofs.Sorts.{Wins, sort-wins}
+use Rattle.base.proofs.Pairs.{pairs-keep, pairs-at, pairs-each, pairs-weaken, Distinct, distinct-once, distinct-sort, Less, less-from}
 use Rattle.rules.specs.declared.Grid.{Grid}
 use Rattle.rules.specs.Places.{regions}
 use Rattle.rules.specs.Tables.{Table, stands, scoreOf, LawfulTable}

@@ -10,7 +10,7 @@ use borrow.Author.Tests.{not-true}
 use Rattle.base.specs.Lists.{fromOn, keep, each, begins, sharedLength, In}
 use Rattle.base.proofs.Members.{in-keep, keep-in, keep-none, keep-every, keep-append, keep-each, in-each, each-in}
 use Rattle.base.proofs.Runs.{in-from, from-in, from-split}
-use Rattle.base.proofs.Begins.{begins-length, take-begins, begins-is-take, shared-le-other, begins-take, begins-take-not}
+use Rattle.base.proofs.Begins.{begins-length, take-begins, begins-is-take, shared-le-other, shared-begins, past-shared}
 use Rattle.rules.specs.Indexes.{beginningsOf}
 use Rattle.trie.specs.Trees.{fresh}
 
@@ -20,40 +20,40 @@ fresh-takes m n = keep-each (λ p. not (begins p m)) (λ l. take l n) (fromOn 1 
     new : ℕ → Bool
     new l = not (begins (take l n) m)
 
-    c : ℕ
-    c = sharedLength m n
+    shared : ℕ
+    shared = sharedLength m n
 
     -- the lengths up to what is shared, and the longer ones
-    split : fromOn 1 (length n) ≡ fromOn 1 c ++ fromOn (suc c) (length n - c)
+    split : fromOn 1 (length n) ≡ fromOn 1 shared ++ fromOn (suc shared) (length n - shared)
     split =
-        let e : length n ≡ c + (length n - c) = omega (arith, shared-le-other m n) in
-        let o : 1 + c ≡ suc c = omega arith in
-        ap (fromOn 1) e ∙ from-split 1 c (length n - c) ∙ ap (λ k. fromOn 1 c ++ fromOn k (length n - c)) o
+        let e : length n ≡ shared + (length n - shared) = omega (arith, shared-le-other m n) in
+        let o : 1 + shared ≡ suc shared = omega arith in
+        ap (fromOn 1) e ∙ from-split 1 shared (length n - shared) ∙ ap (λ k. fromOn 1 shared ++ fromOn k (length n - shared)) o
 
-    old : (x : ℕ) → In x (fromOn 1 c) → new x ≡ false
-    old x h = rw (begins-take m n x (omega (arith, in-from 1 c x h)))
+    old : (x : ℕ) → In x (fromOn 1 shared) → new x ≡ false
+    old x h = rw (shared-begins m n x (omega (arith, in-from 1 shared x h)))
 
-    longer : (x : ℕ) → In x (fromOn (suc c) (length n - c)) → new x ≡ true
+    longer : (x : ℕ) → In x (fromOn (suc shared) (length n - shared)) → new x ≡ true
     longer x h =
-        let r = in-from (suc c) (length n - c) x h in
-        rw (begins-take-not m n x (omega arith) (omega (arith, shared-le-other m n)))
+        let r = in-from (suc shared) (length n - shared) x h in
+        rw (past-shared m n x (omega arith) (omega (arith, shared-le-other m n)))
 
     lengths : keep (λ l. not (begins (take l n) m)) (fromOn 1 (length n)) ≡ fromOn (suc (sharedLength m n)) (length n - sharedLength m n)
     lengths =
         rw (
           split,
-          keep-append new (fromOn 1 c) (fromOn (suc c) (length n - c)),
-          keep-none new (fromOn 1 c) old,
-          keep-every new (fromOn (suc c) (length n - c)) longer,
+          keep-append new (fromOn 1 shared) (fromOn (suc shared) (length n - shared)),
+          keep-none new (fromOn 1 shared) old,
+          keep-every new (fromOn (suc shared) (length n - shared)) longer,
         )
 
-pub in-beginnings : (n p : List ℕ) → In p (beginningsOf n) → (begins p n ≡ true) × (1 ≤ length p)
+in-beginnings : (n p : List ℕ) → In p (beginningsOf n) → (begins p n ≡ true) × (1 ≤ length p)
 in-beginnings n p h =
     let t = in-each (λ l. take l n) (fromOn 1 (length n)) p h in
     let r = in-from 1 (length n) (t .0) (t .1) in
     (rw (t .2) (take-begins (t .0) n), rw (t .2) (simp length-take (omega arith)))
 
-pub beginnings-in : (n p : List ℕ) → begins p n ≡ true → 1 ≤ length p → In p (beginningsOf n)
+beginnings-in : (n p : List ℕ) → begins p n ≡ true → 1 ≤ length p → In p (beginningsOf n)
 beginnings-in n p h k =
     let w = begins-length p n h in
     let e : take (length p) n ≡ p = sym (begins-is-take p n h) in

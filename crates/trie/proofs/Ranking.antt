@@ -9,8 +9,8 @@ use lib.ListN.{take, drop, length-take, take-append-drop}
 use Rattle.base.specs.Lists.{each, sortBy, In, Pairwise}
 use Rattle.base.proofs.Members.{in-either, length-each, in-each, each-in, in-take}
 use Rattle.base.proofs.Shuffles.{shuffle-sym, shuffle-in, sort-shuffle}
-use Rattle.base.proofs.Sorts.{length-sort}
-use Rattle.base.proofs.Pairs.{pairs-seam, pairs-take, pairs-at, pairs-each, pairs-weaken, Distinct, distinct-once, distinct-sort, Less, sort-wins}
+use Rattle.base.proofs.Sorts.{length-sort, sort-wins}
+use Rattle.base.proofs.Pairs.{pairs-seam, pairs-take, pairs-at, pairs-each, pairs-weaken, Distinct, distinct-once, distinct-sort, Less}
 use Rattle.rules.specs.declared.Grid.{Grid}
 use Rattle.rules.specs.declared.Ranking.{Ranking}
 use Rattle.rules.specs.declared.Hit.{Hit}

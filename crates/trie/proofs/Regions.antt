@@ -2,16 +2,16 @@
 -- Assumes nothing.
 use mathlib.Core.Path.{_≡_, refl, sym, ap, _∙_, subst}
 use mathlib.Core.Logic.{_⊎_, inl, inr}
-use mathlib.Core.Bool.{Bool, true, not, false≢true}
-use mathlib.Core.List.{List, [], _∷_, _++_, append-assoc}
+use mathlib.Core.Bool.{Bool, true}
+use mathlib.Core.List.{List, _∷_, _++_, append-assoc}
 use Prim.Native.Nat.{ℕ, suc, _+_, _-_, _≤_, _<_}
 use native.Mathlib.Omega.{arith}
 use lib.Dec.{eqb}
 use lib.ListN.{length, take, drop}
 use lib.Seq.{take-append-seam, drop-append-seam}
-use borrow.Author.Tests.{eqb-true}
+use borrow.Author.Tests.{eqb-true, not-true}
 use Rattle.base.specs.Lists.{fromOn, upTo, keep, eachList, firstOf, isEmpty, positionIn, In}
-use Rattle.base.proofs.Members.{in-either, keep-in, keep-append, position-seam, in-eachList, keep-comm, eachList-keep, eachList-same, eachList-append, empty-of}
+use Rattle.base.proofs.Members.{in-either, keep-in, keep-append, position-seam, in-eachList, keep-comm, eachList-keep, eachList-same, eachList-append, empty-of, first-rest}
 use Rattle.base.proofs.Runs.{in-from, from-split, upTo-split}
 use Rattle.base.proofs.Shuffles.{Shuffle, part, parts-shuffle}
 use Rattle.rules.specs.declared.Grid.{Grid}
@@ -92,39 +92,33 @@ module _ (t : Table) (g : Grid) (o : Ordered t) (p : List ℕ) where
   -- the stands that an entry names, read from the order
   pub entry-slice : (r : ℕ) → r < regions → occupied t g p r ≡ true
       → take (entryOf t g p r .past - entryOf t g p r .first) (drop (entryOf t g p r .first) (orderWords t g)) ≡ keep (inRegion g t r) (under t p)
-  entry-slice r h q = go (keep (inRegion g t r) (under t p)) refl
+  entry-slice r h q =
+      ap (λ (n : ℕ). take n (drop at order)) size
+      ∙ subst (λ (l : List ℕ). take (length l) (drop at order) ≡ l) (sym run)
+      (region-slice (regionOfStand g t) (stands t) regions (firstOf (under t p)) (length (under t p)) r (under-fits t o p) h (firstOf here) (drop 1 here) (sym run ∙ parts))
     where
-      S : List ℕ
-      S = keep (inRegion g t r) (under t p)
+      order : List ℕ
+      order = orderWords t g
 
-      O : List ℕ
-      O = orderWords t g
+      here : List ℕ
+      here = keep (inRegion g t r) (under t p)
 
-      A : ℕ
-      A = positionIn (firstOf S) O
+      at : ℕ
+      at = positionIn (firstOf here) order
 
-      F : ℕ
-      F = firstOf (under t p)
+      size : at + length here - at ≡ length here
+      size = omega arith
 
-      C : ℕ
-      C = length (under t p)
+      parts : here ≡ firstOf here ∷ drop 1 here
+      parts = first-rest here (not-true (isEmpty here) q) .0
 
-      k : S ≡ keep (inRegion g t r) (fromOn F C)
-      k = ap (keep (inRegion g t r)) (under-run t o p)
-
-      go : (l : List ℕ) → S ≡ l → take (A + length S - A) (drop A O) ≡ S
-      go [] e = absurd (false≢true (ap (λ (l : List ℕ). not (isEmpty l)) (sym e) ∙ q))
-      go (x ∷ s) e =
-          let a : A + length S - A ≡ length S = omega arith in
-          ap (λ (n : ℕ). take n (drop A O)) a
-          ∙ ap (λ (n : ℕ). take (length S) (drop (positionIn n O) O)) (ap firstOf e)
-          ∙ subst (λ (l : List ℕ). take (length l) (drop (positionIn x O) O) ≡ l) (sym k)
-          (region-slice (regionOfStand g t) (stands t) regions F C r (under-fits t o p) h x s (sym k ∙ e))
+      run : here ≡ keep (inRegion g t r) (fromOn (firstOf (under t p)) (length (under t p)))
+      run = ap (keep (inRegion g t r)) (under-run t o p)
 
   pub range-regions : (b : Rect) → rangeList t g p b ≡ eachList (λ r. keep (λ i. inRect b (placeOf t i)) (keep (inRegion g t r) (under t p))) (regionsUnder t g p)
   range-regions b =
       eachList-same (λ r. keep (inRegion g t r) (keep inside (under t p))) (λ r. keep inside (keep (inRegion g t r) (under t p))) (upTo regions)
-      (λ r. keep-comm (inRegion g t r) inside (under t p))
+      (λ r h. keep-comm (inRegion g t r) inside (under t p))
       ∙ eachList-keep (λ r. keep inside (keep (inRegion g t r) (under t p))) (occupied t g p) (upTo regions)
       (λ r q. ap (keep inside) (empty-of (keep (inRegion g t r) (under t p)) q))
     where

@@ -1,7 +1,7 @@
 -- How large the index of a lawful table gets: at most 24 nodes and 25 entries for each stand, and the root.
 -- Entries are counted against the pairs of a node and a stand under it, and those by stands. Assumes nothing.
 use mathlib.Core.Path.{_≡_, sym}
-use mathlib.Core.Logic.{_⊎_, inl, inr}
+use mathlib.Core.Logic.{⊎-elim}
 use mathlib.Core.Bool.{true, false}
 use mathlib.Core.List.{List}
 use Prim.Native.Nat.{ℕ, zero, suc, _+_, _*_, _≤_, _<_}
@@ -12,7 +12,7 @@ use Rattle.base.proofs.Tests.{never, le-or-lt}
 use Rattle.base.proofs.Members.{keep-in, length-each, in-each, some-length}
 use Rattle.base.proofs.Runs.{in-from, length-from}
 use Rattle.base.proofs.Begins.{begins-length, begins-both}
-use Rattle.base.proofs.Counts.{total-less, total-most, count-less, count-both}
+use Rattle.base.proofs.Sums.{total-less, total-most, count-less, count-both}
 use Rattle.base.proofs.Rows.{length-parts}
 use Rattle.base.proofs.Shuffles.{shuffle-length}
 use Rattle.base.proofs.Pairs.{pairs-keep, pairs-each, pairs-weaken, Less, less-few}
@@ -33,29 +33,25 @@ use Rattle.trie.proofs.Regions.{by-region-shuffle}
 
 -- texts strictly in order that begin one name: each is longer than those before, so they are at most one for each length
 beginnings-few : (n : List ℕ) (B : List (List ℕ)) → Sorted B → length (keep (λ p. begins p n) B) ≤ suc (length n)
-beginnings-few n B s = rw (sym (length-each length K)) (less-few (each length K) 0 (suc (length n)) longer bounded)
+beginnings-few n B s = rw (sym (length-each length chosen)) (less-few (each length chosen) 0 (suc (length n)) longer bounded)
   where
-    K : List (List ℕ)
-    K = keep (λ p. begins p n) B
+    chosen : List (List ℕ)
+    chosen = keep (λ p. begins p n) B
 
-    begun : (p : List ℕ) → In p K → begins p n ≡ true
+    begun : (p : List ℕ) → In p chosen → begins p n ≡ true
     begun p h = keep-in (λ p. begins p n) B p h .1
 
-    less : (p q : List ℕ) → In p K → In q K → inOrder q p ≡ false → length p < length q
-    less p q u v h = step (le-or-lt (length q) (length p))
-      where
-        step : (length q ≤ length p) ⊎ (length p < length q) → length p < length q
-        step (inl k) = never _ (begins-order q p (begins-both q p n (begun q v) (begun p u) k)) h
-        step (inr k) = k
+    less : (p q : List ℕ) → In p chosen → In q chosen → inOrder q p ≡ false → length p < length q
+    less p q u v h = ⊎-elim (λ k. never _ (begins-order q p (begins-both q p n (begun q v) (begun p u) k)) h) (λ k. k) (le-or-lt (length q) (length p))
 
-    longer : Pairwise Less (each length K)
+    longer : Pairwise Less (each length chosen)
     longer =
-        pairs-each Less length K
-        (pairs-weaken (λ p q. inOrder q p ≡ false) (λ p q. length p < length q) K less (pairs-keep (λ p q. inOrder q p ≡ false) (λ p. begins p n) B s))
+        pairs-each Less length chosen
+        (pairs-weaken (λ p q. inOrder q p ≡ false) (λ p q. length p < length q) chosen less (pairs-keep (λ p q. inOrder q p ≡ false) (λ p. begins p n) B s))
 
-    bounded : (x : ℕ) → In x (each length K) → (0 ≤ x) × (x < 0 + suc (length n))
+    bounded : (x : ℕ) → In x (each length chosen) → (0 ≤ x) × (x < 0 + suc (length n))
     bounded x h =
-        let r = in-each length K x h in
+        let r = in-each length chosen x h in
         let b = begins-length (r .0) n (begun (r .0) (r .1)) in
         (omega arith, omega (arith, r .2))
 

@@ -1,7 +1,7 @@
 -- The laws at a table whose names are in order: its beginnings are a tree, and the stands under a text are a run.
 -- Assumes nothing.
 use mathlib.Core.Path.{_≡_, refl, ap, ap₂}
-use mathlib.Core.Logic.{_⊎_, inl, inr}
+use mathlib.Core.Logic.{_⊎_, inl, inr, ⊎-elim}
 use mathlib.Core.Bool.{true}
 use mathlib.Core.List.{List, [], _∷_, _++_}
 use Prim.Native.Nat.{ℕ, zero, suc, _+_, _-_, _≤_, _<_}
@@ -11,7 +11,7 @@ use lib.ListN.{length}
 use Rattle.base.specs.Lists.{fromOn, upTo, each, eachList, firstOf, begins, In}
 use Rattle.base.proofs.Tests.{le-or-lt}
 use Rattle.base.proofs.Members.{in-each, each-in, keep-in, in-keep, keep-every}
-use Rattle.base.proofs.Runs.{in-from, from-in}
+use Rattle.base.proofs.Runs.{in-from, from-in, Run}
 use Rattle.rules.specs.Tables.{Table, stands, nameOf, Ordered}
 use Rattle.rules.specs.Questions.{under}
 use Rattle.rules.specs.Indexes.{newAt, beginnings, nodeCount, pastOf}
@@ -58,14 +58,14 @@ module _ (t : Table) where
 
   -- and nothing else but the empty one
   pub beginnings-from : (p : List ℕ) → In p (beginnings t) → (p ≡ []) ⊎ ((i : ℕ) × (i < stands t) × (begins p (nameOf t i) ≡ true))
-  beginnings-from p h = step (tree-member (namesOf t) p (rw beginnings-trie at h))
-    where
-      step : (p ≡ []) ⊎ Beginning p (namesOf t) → (p ≡ []) ⊎ ((i : ℕ) × (i < stands t) × (begins p (nameOf t i) ≡ true))
-      step (inl e) = inl e
-      step (inr (n, u, v)) =
-          let s = in-each (nameOf t) (upTo (stands t)) n u in
-          let r = in-from 0 (stands t) (s .0) (s .1) in
-          inr (s .0, omega arith, rw (s .2) at v)
+  beginnings-from p h =
+      ⊎-elim
+      (λ (e : p ≡ []). inl e)
+      (λ (b : Beginning p (namesOf t)).
+      let s = in-each (nameOf t) (upTo (stands t)) (b .0) (b .1) in
+      let r = in-from 0 (stands t) (s .0) (s .1) in
+      inr (s .0, omega arith, rw (s .2) at (b .2)))
+      (tree-member (namesOf t) p (rw beginnings-trie at h))
 
   -- the root is there
   pub root-first : (0 < nodeCount t) × (textOf t 0 ≡ [])
@@ -95,7 +95,7 @@ module _ (t : Table) where
   under-all = keep-every (λ i. begins [] (nameOf t i)) (upTo (stands t)) (λ x h. refl)
 
   module _ (o : Ordered t) (p : List ℕ) where
-    pub under-run : under t p ≡ fromOn (firstOf (under t p)) (length (under t p))
+    pub under-run : Run (under t p)
     unfolding under
     under-run = block-run (nameOf t) (stands t) (rising (nameOf t) (stands t) o) p
 

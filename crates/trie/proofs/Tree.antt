@@ -1,7 +1,7 @@
 -- The texts that names in order make are a tree: strictly in order, and closed under beginnings.
 -- And the number of a text in a list that is strictly in order. Assumes nothing.
 use mathlib.Core.Path.{_≡_, refl, sym}
-use mathlib.Core.Logic.{_⊎_, inl, inr}
+use mathlib.Core.Logic.{_⊎_, inl, inr, ⊎-elim}
 use mathlib.Core.Bool.{true, false, not, false≢true}
 use mathlib.Core.List.{List, [], _∷_}
 use Prim.Native.Nat.{ℕ, zero, suc, _+_, _≤_, _<_}
@@ -53,11 +53,11 @@ sorted-fresh m n = pairs-keep Before (λ p. not (begins p m)) (beginningsOf n) (
 
 trie-above : (m : List ℕ) (ns : List (List ℕ)) → Chain m ns → (x : List ℕ) → In x (trieFrom m ns) → inOrder x m ≡ false
 trie-above m [] c x h = absurd h
-trie-above m (n ∷ ns) c x h = step (in-either x (fresh m n) (trieFrom n ns) h) (trie-above n ns (c .1) x)
-  where
-    step : In x (fresh m n) ⊎ In x (trieFrom n ns) → (In x (trieFrom n ns) → inOrder x n ≡ false) → inOrder x m ≡ false
-    step (inl u) below = let t = in-fresh m n x u in begins-above m n x (c .0) (t .0) (t .1)
-    step (inr u) below = strict-after m n x (c .0) (below u)
+trie-above m (n ∷ ns) c x h =
+    ⊎-elim
+    (λ u. let t = in-fresh m n x u in begins-above m n x (c .0) (t .0) (t .1))
+    (λ u. strict-after m n x (c .0) (trie-above n ns (c .1) x u))
+    (in-either x (fresh m n) (trieFrom n ns) h)
 
 trie-sorted : (m : List ℕ) (ns : List (List ℕ)) → Chain m ns → Sorted (trieFrom m ns)
 trie-sorted m [] c = tt
@@ -71,11 +71,11 @@ Beginning p ns = (n : List ℕ) × In n ns × (begins p n ≡ true)
 
 trie-member : (m : List ℕ) (ns : List (List ℕ)) (p : List ℕ) → In p (trieFrom m ns) → Beginning p ns
 trie-member m [] p h = absurd h
-trie-member m (n ∷ ns) p h = step (in-either p (fresh m n) (trieFrom n ns) h) (trie-member n ns p)
-  where
-    step : In p (fresh m n) ⊎ In p (trieFrom n ns) → (In p (trieFrom n ns) → Beginning p ns) → Beginning p (n ∷ ns)
-    step (inl u) below = (n, inl refl, in-fresh m n p u .0)
-    step (inr u) below = let t = below u in (t .0, inr (t .1), t .2)
+trie-member m (n ∷ ns) p h =
+    ⊎-elim
+    (λ u. (n, inl refl, in-fresh m n p u .0))
+    (λ u. let t = trie-member n ns p u in (t .0, inr (t .1), t .2))
+    (in-either p (fresh m n) (trieFrom n ns) h)
 
 -- a beginning of one of the names begins m or is a member
 trie-every : (m : List ℕ) (ns : List (List ℕ)) (n p : List ℕ) → In n ns → begins p n ≡ true → 1 ≤ length p → (begins p m ≡ true) ⊎ In p (trieFrom m ns)
@@ -103,19 +103,15 @@ module _ (ns : List (List ℕ)) where
 
   pub tree-every : (n p : List ℕ) → In n ns → begins p n ≡ true → In p (trieOf ns)
   tree-every n [] h b = inl refl
-  tree-every n (a ∷ p) h b = step (trie-every [] ns n (a ∷ p) h b (omega arith))
-    where
-      step : (begins (a ∷ p) [] ≡ true) ⊎ In (a ∷ p) (trieFrom [] ns) → In (a ∷ p) (trieOf ns)
-      step (inl u) = absurd (false≢true u)
-      step (inr u) = inr u
+  tree-every n (a ∷ p) h b = ⊎-elim (λ u. absurd (false≢true u)) (λ u. inr u) (trie-every [] ns n (a ∷ p) h b (omega arith))
 
   tree-closed : (p q : List ℕ) → In q (trieOf ns) → begins p q ≡ true → In p (trieOf ns)
   tree-closed [] q h b = inl refl
-  tree-closed (a ∷ p) q h b = step (tree-member q h)
-    where
-      step : (q ≡ []) ⊎ Beginning q ns → In (a ∷ p) (trieOf ns)
-      step (inl e) = absurd (false≢true (rw e at b))
-      step (inr t) = tree-every (t .0) (a ∷ p) (t .1) (begins-trans (a ∷ p) q (t .0) b (t .2))
+  tree-closed (a ∷ p) q h b =
+      ⊎-elim
+      (λ (e : q ≡ []). absurd (false≢true (rw e at b)))
+      (λ (t : Beginning q ns). tree-every (t .0) (a ∷ p) (t .1) (begins-trans (a ∷ p) q (t .0) b (t .2)))
+      (tree-member q h)
 
   pub tree-of : Chain [] ns → Tree (trieOf ns)
   tree-of c = record { sorted = (trie-above [] ns c, trie-sorted [] ns c); closed = tree-closed }
@@ -134,11 +130,11 @@ number-in p (x ∷ B) h = first (number-in p B) h (which (sameList p x))
 
 pub number-out : (p : List ℕ) (B : List (List ℕ)) → (In p B → ⊥) → numberIn p B ≡ length B
 number-out p [] h = refl
-number-out p (x ∷ B) h = step (which (sameList p x)) (number-out p B (λ k. h (inr k)))
-  where
-    step : (sameList p x ≡ true) ⊎ (sameList p x ≡ false) → numberIn p B ≡ length B → numberIn p (x ∷ B) ≡ length (x ∷ B)
-    step (inl q) r = absurd (h (inl (same-true p x q)))
-    step (inr q) r = rw (q, r)
+number-out p (x ∷ B) h =
+    ⊎-elim
+    (λ (q : sameList p x ≡ true). absurd (h (inl (same-true p x q))))
+    (λ (q : sameList p x ≡ false). rw (q, number-out p B (λ k. h (inr k))))
+    (which (sameList p x))
 
 pub number-at : (B : List (List ℕ)) → Sorted B → (j : ℕ) → j < length B → numberIn (getD B j []) B ≡ j
 number-at B s j h = let t = number-in (getD B j []) B (getD-in [] B j h) in sorted-once B s (numberIn (getD B j []) B) j (t .0) h (t .1)

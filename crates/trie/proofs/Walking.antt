@@ -18,7 +18,7 @@ use Rattle.rules.specs.Indexes.{beginnings, numberIn, lastByte, pastOf}
 use Rattle.rules.specs.Sessions.{nodeOr0}
 use Rattle.trie.specs.Trees.{Tree, Child, Looking}
 use Rattle.trie.proofs.Tree.{number-in, number-out, number-at}
-use Rattle.trie.proofs.Children.{past-bounds, child-after, child-past, child-first, child-next, child-gap, child-text, member-child, child-bytes}
+use Rattle.trie.proofs.Children.{past-bounds, child-after, child-past, child-first, child-next, child-gap, child-text, member-child}
 
 module _ (B : List (List ℕ)) (t : Tree B) (j : ℕ) (lt : j < length B) (b : ℕ) where
   pub look-start : Looking B j b (suc j)
@@ -46,19 +46,6 @@ module _ (B : List (List ℕ)) (t : Tree B) (j : ℕ) (lt : j < length B) (b : �
 
   pub look-none : Looking B j b (pastOf B j) → In (getD B j [] ++ (b ∷ [])) B → ⊥
   look-none l h = let f = member-child B t j lt b h in omega (arith, child-after B t j lt (f .0) (f .1), l .rest (f .0) (f .1) (f .2))
-
-  -- the bytes rise, so a larger byte ends the search too
-  pub look-over : (c : ℕ) → Looking B j b c → c < pastOf B j → b < lastByte (getD B c []) → In (getD B j [] ++ (b ∷ [])) B → ⊥
-  look-over c l h o m = step (le-or-lt (f .0) c)
-    where
-      f : (k : ℕ) × Child B j k × (lastByte (getD B k []) ≡ b)
-      f = member-child B t j lt b m
-
-      step : (f .0 ≤ c) ⊎ (c < f .0) → ⊥
-      step (inl q) =
-          let s : f .0 ≡ c = omega (arith, l .rest (f .0) (f .1) (f .2)) in
-          omega (arith, ap (λ (m : ℕ). lastByte (getD B m [])) s, f .2)
-      step (inr q) = omega (arith, child-bytes B t j lt c (f .0) (l .child h) (f .1) q, f .2)
 
 -- ---- the node of a text, for a session's path
 

@@ -6,16 +6,16 @@ use Prim.Native.Nat.{ℕ, suc, _+_, _*_, _≤_, _<_}
 use native.Mathlib.Omega.{arith}
 use lib.ListN.{length, take, getD}
 use Rattle.base.specs.Lists.{upTo, each, eachList, total}
-use Rattle.base.proofs.Members.{length-each}
+use Rattle.base.proofs.Members.{length-each, each-same}
 use Rattle.base.proofs.Runs.{length-from, getD-from}
-use Rattle.base.proofs.Counts.{total-suc, total-take}
+use Rattle.base.proofs.Sums.{total-suc, total-take}
 use Rattle.base.proofs.Rows.{length-parts, getD-parts, length-rows, getD-rows}
 use Rattle.base.proofs.Sorts.{length-sort}
 use Rattle.rules.specs.declared.Grid.{Grid}
 use Rattle.rules.specs.Tables.{Table}
 use Rattle.rules.specs.Indexes.{beginnings, nodeCount, nodeRow, nodeWords, regionsUnder, Entry, entryOf, ahead, entriesOf, entryRow, entryWords, entryCount}
 
-pub length-entries : (l : List Entry) → length (eachList entryRow l) ≡ length l * 4
+length-entries : (l : List Entry) → length (eachList entryRow l) ≡ length l * 4
 length-entries = length-rows entryRow 4 (λ e. refl)
 
 module _ (t : Table) (g : Grid) where
@@ -37,10 +37,9 @@ module _ (t : Table) (g : Grid) where
 
   -- as entryCount counts them, and as the last word of a node's row does
   pub entries-counted : (l : List (List ℕ)) → total (each (λ q. length (entriesOf t g q)) l) ≡ total (each (λ q. length (regionsUnder t g q)) l)
-  entries-counted [] = refl
-  entries-counted (q ∷ l) = omega (arith, entries-counted l, entries-length q)
+  entries-counted l = ap total (each-same (λ q. length (entriesOf t g q)) (λ q. length (regionsUnder t g q)) l (λ q h. entries-length q))
 
-  pub entries-total : (l : List (List ℕ)) → total (each (λ q. length (eachList entryRow (entriesOf t g q))) l) ≡ total (each (λ q. length (regionsUnder t g q)) l) * 4
+  entries-total : (l : List (List ℕ)) → total (each (λ q. length (eachList entryRow (entriesOf t g q))) l) ≡ total (each (λ q. length (regionsUnder t g q)) l) * 4
   entries-total [] = refl
   entries-total (q ∷ l) = omega (arith, entries-total l, length-entries (entriesOf t g q), entries-length q)
 

@@ -2,12 +2,12 @@
 -- By the search along siblings in the letter tree. Assumes nothing.
 use mathlib.Core.Path.{_≡_, refl, sym, ap, _∙_, subst}
 use mathlib.Core.Logic.{_⊎_, inl, inr}
-use mathlib.Core.Bool.{Bool, true, false, cond}
+use mathlib.Core.Bool.{true, false}
 use mathlib.Core.List.{List, [], _∷_, _++_, append-nil, append-assoc}
 use Prim.Native.Nat.{ℕ, zero, suc, _+_, _*_, _/_, _≤_, _<_}
 use native.Mathlib.Omega.{arith}
 use native.Mathlib.Numerals.{add-one}
-use lib.Dec.{eqb, ltb}
+use lib.Dec.{eqb}
 use lib.ListN.{length, getD}
 use borrow.Author.Tests.{lt-ltb, le-ltb, eqb-true, eqb-false}
 use Rattle.base.specs.Lists.{begins, In}
@@ -15,9 +15,9 @@ use Rattle.base.proofs.Tests.{which, le-or-lt}
 use Rattle.base.proofs.Members.{getD-in}
 use Rattle.base.proofs.Begins.{begins-at, begins-length, begins-append, in-or-out}
 use Rattle.rules.specs.declared.Grid.{Grid}
+use Rattle.rules.specs.declared.Node.{Node}
 use Rattle.rules.specs.Tables.{Table, Ordered}
 use Rattle.rules.specs.Indexes.{beginnings, numberIn, lastByte, pastOf, nodeRow, nodeWords, nodeCount}
-use Rattle.rules.specs.Sessions.{nodeOr0}
 use Rattle.trie.specs.Trees.{Tree, Looking, textOf}
 use Rattle.trie.proofs.Tree.{number-in, number-out}
 use Rattle.trie.proofs.Tables.{beginnings-tree}
@@ -27,7 +27,7 @@ use Rattle.trie.proofs.Walking.{look-start, look-next, look-found, look-none}
 use Rattle.walk.specs.declared.Child.{Child}
 use Rattle.walk.specs.declared.Child.the-variants.{At, Nowhere, Broken}
 use Rattle.walk.specs.Walks.{node, nodeWord, siblings, childIn, onFrom, nodeFrom, nodeIn}
-use Rattle.walk.specs.Nodes.{nodeOf, numberOr0}
+use Rattle.walk.specs.Nodes.{nodeOf}
 use Rattle.walk.proofs.Steps.{siblings-past, siblings-here, siblings-next, child-siblings}
 
 -- ---- the node of a text
@@ -46,7 +46,7 @@ module _ (t : Table) (p : List ℕ) where
   at-means n e = step (in-or-out p (beginnings t))
     where
       step : In p (beginnings t) ⊎ (In p (beginnings t) → ⊥) → In p (beginnings t) × (n ≡ numberIn p (beginnings t))
-      step (inl h) = (h, ap numberOr0 (sym e ∙ node-of-in h))
+      step (inl h) = let same : node n ≡ node (numberIn p (beginnings t)) = cc (e, node-of-in h) in (h, ap (λ (x : Node). x .0) same)
       step (inr h) = let z : _≡_ {A = ℕ} 0 1 = cc (e, node-of-out h) in absurd (omega arith)
 
   pub nowhere-means : nodeOf t p ≡ Nowhere → In p (beginnings t) → ⊥
@@ -58,14 +58,6 @@ module _ (t : Table) (p : List ℕ) where
       step : In p (beginnings t) ⊎ (In p (beginnings t) → ⊥) → ⊥
       step (inl h) = let z : _≡_ {A = ℕ} 0 1 = cc (e, node-of-in h) in omega arith
       step (inr h) = let z : _≡_ {A = ℕ} 0 1 = cc (e, node-of-out h) in omega arith
-
-  -- its number is the one that a session's path has
-  pub number-is : numberOr0 (nodeOf t p) ≡ nodeOr0 t p
-  number-is = step (ltb (numberIn p (beginnings t)) (length (beginnings t)))
-    where
-      step : (b : Bool) → numberOr0 (cond b (At (node (numberIn p (beginnings t)))) Nowhere) ≡ cond b (numberIn p (beginnings t)) 0
-      step true = refl
-      step false = refl
 
 -- a search among node j's children for the byte b, from sibling c on, finds what is there
 abbrev Finds : Table → List ℕ → ℕ → ℕ → ℕ → ℕ → Type 0
@@ -161,10 +153,3 @@ module _ (t : Table) (g : Grid) (words : List ℕ) (written : begins (nodeWords 
     pub node-found : (text : List ℕ) → nodeIn words text ≡ nodeOf t text
     unfolding beginnings
     node-found text = walk-found [] text (inl refl)
-
-    -- the number found, or 0, is the one of a session's path
-    pub child-number : (p : List ℕ) (b : ℕ) → In p (beginnings t) → numberOr0 (childIn words (numberIn p (beginnings t)) b) ≡ nodeOr0 t (p ++ (b ∷ []))
-    child-number p b h = ap numberOr0 (child-found p b h) ∙ number-is t (p ++ (b ∷ []))
-
-    pub number-found : (text : List ℕ) → numberOr0 (nodeIn words text) ≡ nodeOr0 t text
-    number-found text = ap numberOr0 (node-found text) ∙ number-is t text

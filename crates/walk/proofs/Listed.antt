@@ -1,6 +1,6 @@
 -- A node's list of entries: the two ways that it is read, and what it is on the words that building writes.
 -- Assumes nothing.
-use mathlib.Core.Path.{_≡_, ap₂, _∙_}
+use mathlib.Core.Path.{_≡_}
 use mathlib.Core.Bool.{true}
 use mathlib.Core.List.{List}
 use Prim.Native.Nat.{ℕ, _/_, _≤_, _<_}
@@ -11,7 +11,6 @@ use Rattle.base.specs.Lists.{begins}
 use Rattle.rules.specs.declared.Grid.{Grid}
 use Rattle.rules.specs.Tables.{Table}
 use Rattle.rules.specs.Indexes.{nodeRow, nodeWords, nodeCount, occupied}
-use Rattle.grid.specs.declared.cells.Cells.{Cells}
 use Rattle.grid.specs.Cells.{cellsBy}
 use Rattle.trie.specs.Trees.{textOf}
 use Rattle.walk.specs.declared.listing.Listing.the-variants.{Entries, Broken}

@@ -7,14 +7,8 @@ use lib.ListN.{length}
 use Rattle.rules.specs.Tables.{Table}
 use Rattle.rules.specs.Indexes.{beginnings, numberIn}
 use Rattle.walk.specs.declared.Child.{Child}
-use Rattle.walk.specs.declared.Child.the-variants.{At, Nowhere, Broken}
+use Rattle.walk.specs.declared.Child.the-variants.{At, Nowhere}
 use Rattle.walk.specs.Walks.{node}
 
 abbrev pub nodeOf : Table → List ℕ → Child
 nodeOf t p = cond (ltb (numberIn p (beginnings t)) (length (beginnings t))) (At (node (numberIn p (beginnings t)))) Nowhere
-
--- the number of the node that a walk came to, or 0
-abbrev pub numberOr0 : Child → ℕ
-numberOr0 (At n) = n .0
-numberOr0 Nowhere = 0
-numberOr0 Broken = 0

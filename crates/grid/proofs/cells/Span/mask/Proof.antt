@@ -4,7 +4,7 @@ use mathlib.Core.Path.{sym, _∙_}
 use native.Mathlib.Omega.{arith}
 use lib.Pow.{pow-mono}
 use borrow.Author.Needs.{needs}
-use Rattle.base.proofs.Words.{word-between, shifted}
+use Rattle.base.proofs.Words.{word-between, one-shifted}
 use Rattle.grid.specs.Cells.{inSpan}
 use Rattle.grid.proofs.cells.Span.mask.Statement.{statement}
 use Rattle.grid.proofs.cells.Span.mask.Tie as tie
@@ -24,13 +24,13 @@ shl-result-2 c = search needs
 sub-result : tie.Need-sub-result
 sub-result c =
     let span = c .before .args .self in
-    rw (shifted (span .past) (omega arith), shifted (span .first) (omega arith)) (pow-mono {i = span .first} {j = span .past} (omega arith))
+    rw (one-shifted 32 (span .past) (omega arith), one-shifted 32 (span .first) (omega arith)) (pow-mono {i = span .first} {j = span .past} (omega arith))
 
 returns-2 : tie.Need-returns-2
 unfolding inSpan
 returns-2 c =
     let span = c .before .args .self in
-    rw (shifted (span .past) (omega arith), shifted (span .first) (omega arith)) (sym (word-between (span .first) (span .past) 8 (c .before .pre)))
+    rw (one-shifted 32 (span .past) (omega arith), one-shifted 32 (span .first) (omega arith)) (sym (word-between (span .first) (span .past) 8 (c .before .pre)))
 
 pub mask-spec : {M : Type 1} → statement M
 mask-spec = tie.close (tie.spec returns shl-result shl-result-2 sub-result returns-2)
