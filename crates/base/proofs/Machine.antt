@@ -10,5 +10,5 @@ use mir.Facts.{toZ-ofZ}
 pub arrives : {A : Type 0} (f : ℤ → A) (x : ℤ) → SFits w32 x → f (toZ w32 (ofZ w32 x)) ≡ f x
 arrives f x s = ap f (toZ-ofZ s)
 
-pub arrive : {A : Type 0} (f : ℤ → ℤ → A) (x y : ℤ) → SFits w32 x → SFits w32 y → f (toZ w32 (ofZ w32 x)) (toZ w32 (ofZ w32 y)) ≡ f x y
-arrive f x y s t = rw (toZ-ofZ s, toZ-ofZ t)
+pub both-arrive : {A : Type 0} (f : ℤ → ℤ → A) (x y : ℤ) → SFits w32 x → SFits w32 y → f (toZ w32 (ofZ w32 x)) (toZ w32 (ofZ w32 y)) ≡ f x y
+both-arrive f x y s t = rw (toZ-ofZ s, toZ-ofZ t)

@@ -1,7 +1,7 @@
 -- A word of bits: its size, what one more bit adds, what each bit says, the words of tests put together, of parts and of an interval.
 -- Assumes nothing.
 use mathlib.Core.Path.{_≡_, refl, ap, _∙_}
-use mathlib.Core.Bool.{Bool, true, false, _&&_, _||_}
+use mathlib.Core.Bool.{Bool, true, false, _&&_, _||_, and-true, and-false}
 use mathlib.Core.Logic.{_⊎_, inl, inr, ⊎-elim}
 use mathlib.Core.List.{[], _∷_, _++_}
 use Prim.Native.Nat.{ℕ, zero, suc, _+_, _-_, _*_, _/_, _%_, _^_, _<_, _≤_}
@@ -15,7 +15,7 @@ use lib.Pow.{pow-lt, pow-mono, pow-pos, pow-add, high, mod-pow-add}
 use borrow.Author.Tests.{eq-eqb, ne-eqb, lt-ltb, le-ltb, le-leb, lt-leb}
 use Rattle.base.specs.Lists.{fromOn, keep}
 use Rattle.base.specs.Bits.{bit, wordOf, bitAt}
-use Rattle.base.proofs.Tests.{le-or-lt, and-true, and-false, which}
+use Rattle.base.proofs.Tests.{le-or-lt, which}
 use Rattle.base.proofs.Members.{keep-append}
 use Rattle.base.proofs.Runs.{from-split}
 

@@ -26,7 +26,7 @@ use Rattle.rules.proofs.Lawful.{lawful, taken, set-parts}
 use Rattle.rules.proofs.Outcomes.{refusal-some}
 use Rattle.trie.specs.Meaning.{noHit}
 use Rattle.trie.proofs.Meaning.{table-means}
-use Rattle.index.proofs.Outcomes.{first-none}
+use Rattle.rules.proofs.Refusals.{first-none}
 use Rattle.ranked.specs.Promises.{Exact, tooShort}
 use Rattle.ranked.proofs.Told.{told-refused, told-list}
 use Rattle.desk_line.specs.Writing.{ascii, decimalOf, line}

@@ -23,7 +23,7 @@ use Rattle.rules.proofs.Outcomes.{refusal-some}
 use Rattle.trie.proofs.Sizes.{sizes-bounded}
 use Rattle.index.specs.Promises.{BuildPromise}
 use Rattle.index.proofs.Outcomes.{build-then-check}
-use Rattle.ranked.proofs.Told.{first-given}
+use Rattle.rules.proofs.Refusals.{first-given}
 use Rattle.desk_form.specs.Printed.{printedRefusal, replyTo}
 
 -- the program's rooms have at least so many words
@@ -35,7 +35,7 @@ pub record Rooms (x : Index) : Type 0 where
 module _ (t : Table) (g : Grid) where
   reply-first : (p : List ℕ) (q : Ranking) → 0 < tableRefusal t g → printedRefusal (tableRefusal t g) ≡ replyTo t g p q
   unfolding replyTo
-  reply-first p q h = rw (first-given (tableRefusal t g) (rankedRefusal g p q) h, ne-eqb (tableRefusal t g) 0 (λ e. omega arith))
+  reply-first p q h = rw (first-given (tableRefusal t g) (rankedRefusal g p q) (λ e. omega arith), ne-eqb (tableRefusal t g) 0 (λ e. omega arith))
 
   -- a lawful set is not told to be none
   pub never-unlawful : {A : Type 0} (x : Index) → setLawful t g x ≡ true → checkedNumbers checked.Unlawful ≡ checkTold t g x → A
@@ -77,6 +77,6 @@ module _ (t : Table) (g : Grid) where
               let z : refusalNumber why ≡ 0 = ap (λ (a : BuildTold). a .refusal) (rw (eq-eqb (buildRefusal t g x) 0 none) at (b .told)) in
               absurd (refusal-some why z)
           step (inr h) =
-              let first : buildRefusal t g x ≡ tableRefusal t g = first-given (tableRefusal t g) (cond (tooSmall t g x) 6 0) h in
+              let first : buildRefusal t g x ≡ tableRefusal t g = first-given (tableRefusal t g) (cond (tooSmall t g x) 6 0) (λ e. omega arith) in
               let z : refusalNumber why ≡ buildRefusal t g x = ap (λ (a : BuildTold). a .refusal) (rw (ne-eqb (buildRefusal t g x) 0 (λ e. omega arith)) at (b .told)) in
               rw (z, first) (reply-first p q h)

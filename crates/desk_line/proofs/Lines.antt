@@ -1,6 +1,6 @@
 -- Lines are read back: each reader of Reads accepts exactly the lines that Writing writes, and leaves what is behind them.
 -- Assumes nothing.
-use mathlib.Core.Path.{_≡_, refl, sym, ap, _∙_}
+use mathlib.Core.Path.{_≡_, refl, sym, ap, _∙_, ap₂}
 use mathlib.Core.Logic.{_⊎_, inl, inr, ⊎-elim}
 use mathlib.Core.Bool.{true, false}
 use mathlib.Core.List.{List, [], _∷_, _++_, append-assoc}
@@ -13,7 +13,7 @@ use lib.ListN.{length, take, drop, length-append, take-append-drop}
 use lib.Seq.{take-append-seam, drop-append-seam, drop-append-add}
 use borrow.Author.Tests.{lt-ltb, ltb-true, eqb-true, eqb-false}
 use Rattle.base.specs.Lists.{In, begins, positionIn}
-use Rattle.base.proofs.Tests.{which, ap2}
+use Rattle.base.proofs.Tests.{which}
 use Rattle.base.proofs.Begins.{begins-append, begins-is-take}
 use Rattle.base.proofs.Members.{position-seam}
 use Rattle.desk_line.specs.Writing.{ascii, decimalOf, signedOf, line, Signed32, OneLine}
@@ -91,7 +91,7 @@ bytes-law key = record { back = back; sound = sound }
         step : (begins (ascii key) l ≡ true) ⊎ (begins (ascii key) l ≡ false) → OneLine v × (l ≡ line key v ++ rest)
         step (inl q) =
             let t = feed-sound (drop (length (ascii key)) l) v rest (rw q at e) in
-            (t .0, sym (take-append-drop (length (ascii key)) l) ∙ ap2 _++_ (sym (begins-is-take (ascii key) l q)) (t .1) ∙ sym (parts key v rest))
+            (t .0, sym (take-append-drop (length (ascii key)) l) ∙ ap₂ _++_ (sym (begins-is-take (ascii key) l q)) (t .1) ∙ sym (parts key v rest))
         step (inr q) = lost (rw q at e)
 
 module _ {A : Type 0} (key : String) (write : A → List ℕ) (InOrder : A → Type 0) (read : List ℕ → Option A) (back : (a : A) → InOrder a → read (write a) ≡ some a) (sound : (a : A) (v : List ℕ) → read v ≡ some a → InOrder a × (v ≡ write a)) (one : (a : A) → OneLine (write a)) where

@@ -2,14 +2,14 @@
 -- Assumes nothing.
 use mathlib.Core.Path.{_≡_, refl, _∙_}
 use mathlib.Core.Logic.{⊎-elim}
-use mathlib.Core.Bool.{Bool, true, false, cond, _&&_}
+use mathlib.Core.Bool.{Bool, true, false, cond, _&&_, and-true, and-false}
 use Prim.Native.Nat.{ℕ, zero, suc, _+_, _*_, _/_, _%_, _^_, _<_, _≤_}
 use native.Mathlib.Nat.{mul-le-mul-right, zero-add}
 use native.Mathlib.Numerals.{add-one}
 use native.Mathlib.Omega.{arith}
 use lib.Pow.{pow-add, pow-mono, shl-exact}
 use Rattle.base.specs.Bits.{wordOf}
-use Rattle.base.proofs.Tests.{which, and-true, and-false}
+use Rattle.base.proofs.Tests.{which}
 use Rattle.base.proofs.Words.{word-same, word-none, word-split}
 use Rattle.grid.specs.declared.cells.Span.{Span}
 use Rattle.grid.specs.Cells.{inSpan, touched, laid}

@@ -7,7 +7,7 @@ ghost use lib.ListN.{length, drop};
 ghost use Rattle.base.specs.Lists.{isEmpty, firstOf};
 ghost use Rattle.base.specs.Bits.{wordOf, bitAt};
 ghost use Rattle.rules.specs.Places.{gridLawful};
-ghost use Rattle.grid.specs.Cells.{clip, spanOf, edgesSpan, inSpan, laid, cellsOf, cellsBy, hasCell, bothCells, regionsIn};
+ghost use Rattle.grid.specs.Cells.{clip, spanOf, edgesSpan, inSpan, laid, cellsOf, hasCell, bothCells, regionsIn};
 use super::metres::edge_strip;
 use rules::Grid;
 use rules::Rect;

@@ -1,17 +1,17 @@
 -- The ways out of building and checking: each answer, with the buffers that it leaves, is that of the rules.
 -- Assumes nothing.
-use mathlib.Core.Path.{_≡_, refl, sym, _∙_}
+use mathlib.Core.Path.{_≡_, sym, _∙_}
 use mathlib.Core.Logic.{_⊎_, inl, inr}
-use mathlib.Core.Bool.{Bool, true, false, cond, _&&_, _||_}
+use mathlib.Core.Bool.{Bool, true, false, cond, _&&_, _||_, and-true}
 use mathlib.Core.List.{List, [], _∷_}
-use Prim.Native.Nat.{ℕ, zero, suc, _*_, _≤_}
+use Prim.Native.Nat.{ℕ, zero, _*_, _≤_}
 use native.Mathlib.Omega.{arith}
 use native.Mathlib.Nat.{zero-add}
 use lib.Dec.{eqb, ltb}
 use lib.ListN.{length}
 use borrow.Author.Tests.{ltb-false, ne-eqb}
 use Rattle.base.specs.Lists.{every, begins, written}
-use Rattle.base.proofs.Tests.{which, never, and-true, or-neither, every-not}
+use Rattle.base.proofs.Tests.{which, or-neither, every-not}
 use Rattle.rules.specs.declared.Grid.{Grid}
 use Rattle.rules.specs.declared.Refusal.{Refusal}
 use Rattle.rules.specs.declared.Refusal.the-variants.{BufferTooSmall}
@@ -20,11 +20,12 @@ use Rattle.rules.specs.declared.Built.{Built}
 use Rattle.rules.specs.declared.Built.the-variants as built
 use Rattle.rules.specs.declared.Checked.{Checked}
 use Rattle.rules.specs.declared.Checked.the-variants as checked
-use Rattle.rules.specs.Numbers.{refusalNumber, firstGiven, checkedNumbers}
+use Rattle.rules.specs.Numbers.{refusalNumber, checkedNumbers}
 use Rattle.rules.specs.Tables.{Table, LawfulTable, tableRefusal}
 use Rattle.rules.specs.Indexes.{Index, indexOf, orderWords, nodeWords, entryWords, tooSmall, buildRefusal, buildTold, indexAfter, setLawful, checkTold}
 use Rattle.rules.proofs.Lawful.{taken}
-use Rattle.rules.proofs.Outcomes.{one-verdict}
+use Rattle.rules.proofs.Refusals.{first-given}
+use Rattle.rules.proofs.Outcomes.{refusal-some}
 use Rattle.node.specs.Columns.{Columns}
 use Rattle.words.specs.Over.{over, orderOf}
 use Rattle.words.specs.Words.{nodeCountOf, entryCountOf, nodeWordsOf, entryWordsOf}
@@ -39,16 +40,15 @@ use Rattle.index.proofs.Whole.{node-count, entry-count, node-words, ent
 
 module _ (t : Table) (g : Grid) (x : Index) (why : Refusal) (e : refusalNumber why ≡ tableRefusal t g) where
   -- no refusal has the number 0
-  refused-some : eqb (tableRefusal t g) 0 ≡ false
-  refused-some = ne-eqb (tableRefusal t g) 0 (λ z. let c = one-verdict (verdict.Refused why) verdict.Passed (e ∙ z) in let y : _≡_ {A = ℕ} 0 1 = cc in omega arith)
+  some-refusal : tableRefusal t g ≡ 0 → ⊥
+  some-refusal z = refusal-some why (e ∙ z)
 
-  first-some : (a b : ℕ) → eqb a 0 ≡ false → firstGiven a b ≡ a
-  first-some zero b h = absurd (never _ refl h)
-  first-some (suc a) b h = refl
+  refused-some : eqb (tableRefusal t g) 0 ≡ false
+  refused-some = ne-eqb (tableRefusal t g) 0 some-refusal
 
   refusal-is : buildRefusal t g x ≡ tableRefusal t g
   unfolding buildRefusal
-  refusal-is = first-some (tableRefusal t g) (cond (tooSmall t g x) 6 0) refused-some
+  refusal-is = first-given (tableRefusal t g) (cond (tooSmall t g x) 6 0) some-refusal
 
   pub refused-built : BuildPromise t g x (built.Refused why) x
   unfolding buildTold indexAfter

@@ -1,10 +1,10 @@
 -- For the reader: no two outcomes satisfy what building or checking promises; checking accepts what building wrote, and building leaves
 -- alone what checking accepts, with the same counts; an empty table has one node and no entry. Assumes nothing.
-use mathlib.Core.Path.{_≡_, refl, sym, ap, _∙_}
+use mathlib.Core.Path.{_≡_, sym, ap, _∙_}
 use mathlib.Core.Logic.{_⊎_, inl, inr}
 use mathlib.Core.Bool.{true, false, cond}
 use mathlib.Core.List.{List, _++_}
-use Prim.Native.Nat.{ℕ, zero, suc, _*_, _≤_}
+use Prim.Native.Nat.{ℕ, _*_, _≤_}
 use native.Mathlib.Omega.{arith}
 use lib.Dec.{eqb}
 use lib.ListN.{length, drop, take-append-drop}
@@ -17,10 +17,11 @@ use Rattle.rules.specs.declared.Built.{Built}
 use Rattle.rules.specs.declared.Built.the-variants as built
 use Rattle.rules.specs.declared.Checked.{Checked}
 use Rattle.rules.specs.declared.Checked.the-variants as checked
-use Rattle.rules.specs.Numbers.{firstGiven, BuildTold, CheckTold, checkedNumbers}
+use Rattle.rules.specs.Numbers.{BuildTold, CheckTold, checkedNumbers}
 use Rattle.rules.specs.Tables.{Table, stands, tableRefusal}
 use Rattle.rules.specs.Indexes.{Index, orderWords, nodeWords, entryWords, nodeCount, entryCount, tooSmall, buildRefusal, buildTold, indexAfter, setLawful, checkTold}
 use Rattle.rules.proofs.Lawful.{lawful}
+use Rattle.rules.proofs.Refusals.{first-none}
 use Rattle.rules.proofs.Outcomes.{one-built, one-checked}
 use Rattle.trie.proofs.Listing.{order-means}
 use Rattle.trie.proofs.Words.{nodes-length, entry-words-length}
@@ -37,10 +38,6 @@ module _ (t : Table) (g : Grid) (x : Index) where
   one-checking r s p q = one-checked r s (p ∙ sym q)
 
 -- ---- an index that was built
-
-pub first-none : (a b : ℕ) → firstGiven a b ≡ 0 → (a ≡ 0) × (b ≡ 0)
-first-none zero b e = (refl, e)
-first-none (suc a) b e = absurd (omega arith)
 
 -- words stand at the start of a room that they are written to; and what stands there already is not changed by writing it
 written-begins : (words room : List ℕ) → begins words (written words room) ≡ true

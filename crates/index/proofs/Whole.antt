@@ -1,13 +1,13 @@
 -- The walk through the nodes meets the beginnings in their order, so the words that it makes are those of the rules.
 -- Assumes nothing.
-use mathlib.Core.Path.{_≡_, refl, sym, ap, _∙_, subst}
+use mathlib.Core.Path.{_≡_, refl, sym, ap, _∙_, subst, ap₂}
 use mathlib.Core.Logic.{_⊎_, inl, inr, ⊎-elim}
 use mathlib.Core.List.{List, [], _∷_, _++_}
 use Prim.Native.Nat.{ℕ, suc, _+_, _-_, _≤_, _<_}
 use native.Mathlib.Omega.{arith}
 use lib.ListN.{length, take, drop, getD}
 use Rattle.base.specs.Lists.{fromOn, upTo, each, eachList, total, In}
-use Rattle.base.proofs.Tests.{le-or-lt, ap2}
+use Rattle.base.proofs.Tests.{le-or-lt}
 use Rattle.base.proofs.Members.{length-each, in-each, in-eachList, getD-each, getD-in, each-same, each-each, each-eachList, eachList-each, eachList-same, drop-head}
 use Rattle.base.proofs.Runs.{in-from}
 use Rattle.base.proofs.Sums.{total-suc}
@@ -168,7 +168,7 @@ module _ (t : Table) (g : Grid) (l : LawfulTable t g) where
         ap (λ (p : List ℕ). length (regionsUnder t g p)) text,
       ) in
       ap (λ (k : ℕ). rowOf C j k v ++ rowsFrom C (suc j) (n + length (entriesAt C v)) vs) q
-      ∙ ap2 (λ (a b : List ℕ). a ++ b) (row-at v j there h text) (rows-from (suc j) (n + length (entriesAt C v)) vs (d .2) more)
+      ∙ ap₂ (λ (a b : List ℕ). a ++ b) (row-at v j there h text) (rows-from (suc j) (n + length (entriesAt C v)) vs (d .2) more)
 
   pub node-words : nodeWordsOf C ≡ nodeWords t g
   unfolding counted

@@ -2,7 +2,7 @@
 -- Assumes nothing.
 use mathlib.Core.Path.{_≡_, refl, sym, ap, _∙_}
 use mathlib.Core.Logic.{_⊎_, inl, inr}
-use mathlib.Core.Bool.{Bool, true, false, not, cond, _||_}
+use mathlib.Core.Bool.{Bool, true, false, not, cond, _||_, or-false}
 use mathlib.Core.List.{List, [], _∷_, _++_, append-nil}
 use Prim.Native.Nat.{ℕ, _+_, _-_, _*_, _%_, _^_, _≤_, _<_}
 use native.Mathlib.Omega.{arith}
@@ -14,7 +14,7 @@ use lib.Seq.{getD-set-same, getD-set-other}
 use borrow.Author.Tests.{eq-eqb, ne-eqb, eqb-true, eqb-false}
 use Rattle.base.specs.Lists.{keep, each, largest, isEmpty}
 use Rattle.base.specs.Bits.{wordOf, bitAt}
-use Rattle.base.proofs.Tests.{which, never, or-false}
+use Rattle.base.proofs.Tests.{which, never}
 use Rattle.base.proofs.Members.{keep-append, empty-of, length-keep, each-append}
 use Rattle.base.proofs.Runs.{length-from}
 use Rattle.base.proofs.Words.{words-or, word-one, word-same, word-none, one-shifted, bit-asks}

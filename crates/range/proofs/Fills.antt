@@ -1,6 +1,6 @@
 -- The two walks of `fill`: the first counts and keeps what a small room holds; what it kept is put into the caller's room,
 -- or where that is not all of it a second walk writes. Assumes nothing.
-use mathlib.Core.Path.{_≡_, refl, sym, ap, _∙_}
+use mathlib.Core.Path.{_≡_, sym, ap, _∙_}
 use mathlib.Core.List.{List, []}
 use Prim.Native.Nat.{ℕ, _≤_, _<_}
 use native.Mathlib.Omega.{arith}
@@ -15,7 +15,7 @@ use Rattle.rules.specs.declared.RangeAnswer.the-variants.{Found, Refused}
 use Rattle.rules.specs.declared.Refusal.the-variants.{RoomTooSmall}
 use Rattle.range.specs.declared.gather.Tally.{Tally}
 use Rattle.range.specs.declared.gather.Tally.the-variants.{Count, Broken}
-use Rattle.range.specs.Fetches.{Gathered, tallied, gathered, touched, Outcome, outcome, unlawful, filled}
+use Rattle.range.specs.Fetches.{Gathered, tallied, gathered, touched, outcome, unlawful, filled}
 use Rattle.range.proofs.Gathers.{hits, sets-written, walk-tally, walk-size, walk-counts}
 
 module _ (east north : List ℤ) (order firsts pasts regions : List ℕ) (rect : Rect) (room near₀ near : List ℕ) (t : Tally)

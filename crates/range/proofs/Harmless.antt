@@ -2,14 +2,14 @@
 -- Assumes nothing.
 use mathlib.Core.Path.{_≡_, refl, sym, ap, _∙_, subst}
 use mathlib.Core.Logic.{_⊎_, inl, inr}
-use mathlib.Core.Bool.{Bool, true, false, _&&_}
-use mathlib.Core.List.{List, [], _∷_, _++_}
-use Prim.Native.Nat.{ℕ, _+_, _≤_}
+use mathlib.Core.Bool.{true, false, _&&_}
+use mathlib.Core.List.{List, []}
+use Prim.Native.Nat.{ℕ, _+_}
 use native.Mathlib.Omega.{arith}
 use lib.Dec.{ltb}
 use lib.IntN.{ℤ}
 use lib.ListN.{length, drop}
-use lib.Seq.{sets, sets-eq, length-sets, drop-append-seam}
+use lib.Seq.{sets, length-sets, drop-append-seam}
 use borrow.Author.Tests.{ltb-true, ltb-false}
 use Rattle.base.specs.Lists.{written}
 use Rattle.base.proofs.Tests.{which}
@@ -18,14 +18,13 @@ use Rattle.rules.specs.declared.Rect.{Rect}
 use Rattle.rules.specs.declared.RangeAnswer.{RangeAnswer}
 use Rattle.rules.specs.Places.{gridLawful}
 use Rattle.rules.specs.Questions.{rangeRefusal}
-use Rattle.grid.specs.declared.cells.Cells.{Cells}
 use Rattle.grid.specs.Cells.{cellsOf, bothCells, regionsIn}
 use Rattle.walk.specs.declared.listing.Listing.{Listing}
 use Rattle.walk.specs.declared.listing.Listing.the-variants as listings
 use Rattle.walk.specs.Listings.{listingIn}
 use Rattle.range.specs.declared.gather.Tally.{Tally}
 use Rattle.range.specs.declared.gather.Tally.the-variants.{Count, Broken}
-use Rattle.range.specs.Fetches.{Notes, gathered, touched, agree, Outcome, outcome, byCount, filled, notesIn, fetchedBy, fetched}
+use Rattle.range.specs.Fetches.{gathered, touched, agree, Outcome, outcome, byCount, filled, notesIn, fetchedBy, fetched}
 use Rattle.range.specs.Promises.{Harmless}
 use Rattle.range.specs.Promises.Harmless.{noticed, over, found}
 use Rattle.range.proofs.Gathers.{sets-written, walk-counts, hits}

@@ -2,30 +2,27 @@
 -- A node's notes are its entries' runs; a region that is not looked at has no stand in the rectangle. Assumes nothing.
 use mathlib.Core.Path.{_≡_, refl, sym, ap, ap₂, _∙_}
 use mathlib.Core.Logic.{_⊎_, inl, inr}
-use mathlib.Core.Bool.{Bool, true, false, cond}
-use mathlib.Core.List.{List, [], _∷_, _++_}
-use Prim.Native.Nat.{ℕ, suc, _+_, _-_, _*_, _/_, _≤_, _<_}
+use mathlib.Core.Bool.{Bool, true, false}
+use mathlib.Core.List.{List, []}
+use Prim.Native.Nat.{ℕ, _+_, _-_, _*_, _/_, _≤_, _<_}
 use native.Mathlib.Omega.{arith}
 use lib.Dec.{ltb}
 use lib.ListN.{length, getD, take, drop, length-replicate}
 use lib.Seq.{slice, sets}
-use borrow.Author.Tests.{lt-ltb, le-ltb, ltb-true, ltb-false, eqb-true, le-leb}
+use borrow.Author.Tests.{ltb-false, eqb-true, le-leb}
 use Rattle.base.specs.Lists.{upTo, keep, each, eachList, written, begins, In}
 use Rattle.base.proofs.Tests.{which, never, every-of}
 use Rattle.base.proofs.Begins.{begins-at, begins-part, begins-length}
-use Rattle.base.proofs.Members.{in-at, in-keep, keep-in, keep-none, in-each, each-in, in-eachList, eachList-same, eachList-keep, keep-eachList, drop-take}
-use Rattle.base.proofs.Runs.{in-from, from-in}
+use Rattle.base.proofs.Members.{in-at, keep-in, keep-none, in-each, each-in, in-eachList, eachList-same, eachList-keep, keep-eachList, drop-take}
+use Rattle.base.proofs.Runs.{in-from}
 use Rattle.base.proofs.Shuffles.{shuffle-sym, shuffle-in, sort-shuffle}
 use Rattle.rules.specs.declared.Grid.{Grid}
 use Rattle.rules.specs.declared.Rect.{Rect}
-use Rattle.rules.specs.declared.RangeAnswer.the-variants.{Found, Refused}
-use Rattle.rules.specs.declared.Refusal.the-variants.{RoomTooSmall}
 use Rattle.rules.specs.Places.{regions, inRect}
 use Rattle.rules.specs.Tables.{Table, stands, placeOf}
 use Rattle.rules.specs.Questions.{under, regionOfStand, inRegion, rangeList}
-use Rattle.rules.specs.Indexes.{beginnings, nodeCount, occupied, regionsUnder, Entry, entryOf, ahead, entriesOf, entryRow, entryWords, nodeRow, orderWords, Index}
+use Rattle.rules.specs.Indexes.{nodeCount, occupied, regionsUnder, Entry, entryOf, ahead, entriesOf, entryRow, entryWords, nodeRow, orderWords, Index}
 use Rattle.rules.proofs.Lawful.{SetParts}
-use Rattle.grid.specs.declared.cells.Cells.{Cells}
 use Rattle.grid.specs.Cells.{cellsBy, cellsOf, hasCell, bothCells, regionsIn}
 use Rattle.grid.proofs.Listed.{listed-by, both-listed}
 use Rattle.grid.proofs.Covers.{Edges, covered}
@@ -38,7 +35,7 @@ use Rattle.trie.proofs.Listing.{order-means}
 use Rattle.trie.proofs.Entries.{entries-mean}
 use Rattle.walk.proofs.Listed.{listing-found}
 use Rattle.range.specs.declared.gather.Tally.the-variants.{Count}
-use Rattle.range.specs.Fetches.{Notes, notesOf, entryWord, gathered, tallied, runOf, touched, agree, Outcome, outcome, byCount, filled, blank, notesIn, fetchedBy, fetched}
+use Rattle.range.specs.Fetches.{notesOf, entryWord, gathered, tallied, runOf, touched, agree, byCount, filled, blank, notesIn, fetched}
 use Rattle.range.specs.Promises.{fitted}
 use Rattle.range.proofs.Gathers.{sets-written, walk-whole}
 use Rattle.range.proofs.Noted.{Spells, Sound, putAll, note-list, put-at}

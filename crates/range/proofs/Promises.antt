@@ -4,7 +4,7 @@ use mathlib.Core.Path.{_≡_, refl, sym, ap, _∙_}
 use mathlib.Core.Logic.{_⊎_, inl, inr}
 use mathlib.Core.Bool.{true, false, not, cond}
 use mathlib.Core.List.{List, []}
-use Prim.Native.Nat.{ℕ, zero, suc}
+use Prim.Native.Nat.{ℕ}
 use native.Mathlib.Omega.{arith}
 use lib.Dec.{ltb}
 use lib.IntN.{ℤ}
@@ -20,13 +20,14 @@ use Rattle.rules.specs.declared.Refusal.{Refusal}
 use Rattle.rules.specs.declared.RangeAnswer.{RangeAnswer}
 use Rattle.rules.specs.declared.RangeAnswer.the-variants.{Found, Refused}
 use Rattle.rules.specs.declared.Refusal.the-variants.{RectReversed, RoomTooSmall}
-use Rattle.rules.specs.Numbers.{refusalNumber, firstGiven, Told, refusing, telling, rangeNumbers}
+use Rattle.rules.specs.Numbers.{refusalNumber, Told, refusing, telling, rangeNumbers}
 use Rattle.rules.specs.Places.{rectLawful}
 use Rattle.rules.specs.Names.{allowed, textRefusal}
 use Rattle.rules.specs.Tables.{Table, tableOf, LawfulTable}
-use Rattle.rules.specs.Questions.{rangeList, rangeRefusal, toldPast, rangeTold, rangeRoom}
+use Rattle.rules.specs.Questions.{rangeList, rangeRefusal, rangeTold, rangeRoom}
 use Rattle.rules.specs.Indexes.{beginnings, Index}
 use Rattle.rules.proofs.Lawful.{SetParts, set-parts}
+use Rattle.rules.proofs.Refusals.{first-given, past-given}
 use Rattle.rules.proofs.Outcomes.{one-range, refusal-some}
 use Rattle.grid.proofs.Covers.{Edges}
 use Rattle.trie.specs.Trees.{textOf}
@@ -46,14 +47,6 @@ use Rattle.range.proofs.Harmless.{fetch-harmless}
 
 -- ---- refusals of text and rectangle
 
-told-refused : (n : ℕ) (a : Told) → (n ≡ 0 → ⊥) → toldPast n a ≡ refusing n
-told-refused zero a h = absurd (h refl)
-told-refused (suc n) a h = refl
-
-first-given : (n m : ℕ) → (n ≡ 0 → ⊥) → firstGiven n m ≡ n
-first-given zero m h = absurd (h refl)
-first-given (suc n) m h = refl
-
 module _ (p : List ℕ) (r : Rect) (room : List ℕ) (why : Refusal) (e : refusalNumber why ≡ rangeRefusal p r) where
   -- a refusal that the rules give
   some-refusal : rangeRefusal p r ≡ 0 → ⊥
@@ -62,7 +55,7 @@ module _ (p : List ℕ) (r : Rect) (room : List ℕ) (why : Refusal) (e : refusa
   exact-refused : (t : Table) (g : Grid) → Exact t g p r room room (Refused why 0)
   unfolding rangeTold
   exact-refused t g =
-      let told : rangeTold t g p r room ≡ refusing (rangeRefusal p r) = told-refused (rangeRefusal p r) _ some-refusal in
+      let told : rangeTold t g p r room ≡ refusing (rangeRefusal p r) = past-given (rangeRefusal p r) _ some-refusal in
       (ap refusing e ∙ sym told, sym (rw (told, ne-eqb (rangeRefusal p r) 0 some-refusal)))
 
   harmless-refused : Harmless p r room room (Refused why 0)

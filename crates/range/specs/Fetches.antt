@@ -1,7 +1,7 @@
 -- What the range question computes past its text's node, on any words: runs, the stands in the rectangle, the answer and the room.
 use mathlib.Core.Path.{_≡_}
 use mathlib.Core.Bool.{Bool, true, false, cond, _&&_}
-use mathlib.Core.List.{List, [], _∷_, _++_}
+use mathlib.Core.List.{List, [], _∷_}
 use Prim.Native.Nat.{ℕ, zero, suc, _+_, _*_, _/_, _≤_}
 use lib.Dec.{ltb, leb}
 use lib.IntN.{ℤ}

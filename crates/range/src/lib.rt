@@ -1,7 +1,6 @@
 // The range question: from a typed text to its node, and from there to the stands in the rectangle, written to the caller's room.
 // `runs` notes where each region's stands stand in the order, `gather` goes through them. No stand is reached but through the node.
 ghost use mathlib.Core.Path.{_≡_};
-ghost use lib.ListN.{length};
 ghost use Rattle.grid.specs.Cells.{regionsIn};
 ghost use Rattle.rules.specs.Tables.{tableOf};
 ghost use Rattle.rules.specs.Indexes.{indexOf};

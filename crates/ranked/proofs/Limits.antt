@@ -1,12 +1,12 @@
 -- Refusal 12, test by test.
 -- Assumes nothing.
 use mathlib.Core.Path.{_≡_, sym}
-use mathlib.Core.Bool.{true, false}
+use mathlib.Core.Bool.{true, false, and-true}
 use Prim.Native.Nat.{_≤_, _<_}
 use lib.Dec.{leb}
 use borrow.Author.Tests.{le-leb, lt-leb}
 use Rattle.base.specs.Lists.{every}
-use Rattle.base.proofs.Tests.{and-true, every-not}
+use Rattle.base.proofs.Tests.{every-not}
 use Rattle.rules.specs.declared.Grid.{Grid}
 use Rattle.rules.specs.declared.Ranking.{Ranking}
 use Rattle.rules.specs.Places.{inGrid}

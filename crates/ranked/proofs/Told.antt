@@ -1,10 +1,10 @@
 -- What the rules tell of a ranked question, by the first test that it fails or none, and that answer and rooms are then exact.
 -- Assumes nothing.
-use mathlib.Core.Path.{_≡_, refl, sym, ap, _∙_}
+use mathlib.Core.Path.{_≡_, sym, ap, _∙_}
 use mathlib.Core.Logic.{_⊎_, inl, inr}
-use mathlib.Core.Bool.{true, false, cond}
+use mathlib.Core.Bool.{true, false}
 use mathlib.Core.List.{List, []}
-use Prim.Native.Nat.{ℕ, zero, suc, _<_}
+use Prim.Native.Nat.{ℕ, _<_}
 use native.Mathlib.Omega.{arith}
 use lib.ListN.{length, take}
 use lib.Seq.{take-nil}
@@ -16,22 +16,14 @@ use Rattle.base.proofs.Runs.{in-from}
 use Rattle.rules.specs.declared.Grid.{Grid}
 use Rattle.rules.specs.declared.Ranking.{Ranking}
 use Rattle.rules.specs.declared.RankedAnswer.{RankedAnswer}
-use Rattle.rules.specs.Numbers.{Told, firstGiven, telling, refusing, rankedNumbers}
+use Rattle.rules.specs.Numbers.{Told, telling, refusing, rankedNumbers}
 use Rattle.rules.specs.Names.{textRefusal}
 use Rattle.rules.specs.Tables.{Table, stands, nameOf}
-use Rattle.rules.specs.Questions.{under, better, hitOf, rankedList, rankingLawful, rankedRefusal, toldPast, rankedTold, roomAfter}
+use Rattle.rules.specs.Questions.{under, better, hitOf, rankedList, rankingLawful, rankedRefusal, rankedTold, roomAfter}
 use Rattle.rules.specs.Indexes.{beginnings}
+use Rattle.rules.proofs.Refusals.{past-given}
 use Rattle.trie.proofs.Tables.{beginnings-of}
 use Rattle.ranked.specs.Promises.{tooShort, Exact}
-
--- a refusal that is given comes first, and nothing is told past it
-pub first-given : (n m : ℕ) → 0 < n → firstGiven n m ≡ n
-first-given zero m h = absurd (omega arith)
-first-given (suc n) m h = refl
-
-past-given : (n : ℕ) (a : Told) → 0 < n → toldPast n a ≡ refusing n
-past-given zero a h = absurd (omega arith)
-past-given (suc n) a h = refl
 
 -- so a refusal leaves the room, and an answer writes it
 room-kept : (told : Told) (n : ℕ) (words room : List ℕ) → 0 < n → told ≡ refusing n → room ≡ roomAfter told words room
@@ -51,7 +43,7 @@ module _ (g : Grid) (p : List ℕ) (q : Ranking) (fine : textRefusal p ≡ 0) wh
 module _ (t : Table) (g : Grid) (p : List ℕ) (q : Ranking) (room values : List ℕ) where
   pub told-refused : (n : ℕ) → 0 < n → rankedRefusal g p q ≡ n → rankedTold t g p q room values ≡ refusing n
   unfolding rankedTold
-  told-refused n h e = rw e (past-given n _ h)
+  told-refused n h e = rw e (past-given n _ (λ z. omega arith))
 
   pub told-short : rankedRefusal g p q ≡ 0 → tooShort (q .k) room values ≡ true → rankedTold t g p q room values ≡ refusing 13
   unfolding rankedTold

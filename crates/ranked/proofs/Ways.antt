@@ -21,13 +21,14 @@ use Rattle.rules.specs.declared.Refusal.{Refusal}
 use Rattle.rules.specs.declared.Refusal.the-variants.{NotLawful, QuestionOutsideLimits, RoomTooSmall}
 use Rattle.rules.specs.declared.RankedAnswer.{RankedAnswer}
 use Rattle.rules.specs.declared.RankedAnswer.the-variants.{Found, Refused}
-use Rattle.rules.specs.Numbers.{refusalNumber, firstGiven, telling, rankedNumbers}
+use Rattle.rules.specs.Numbers.{refusalNumber, firstGiven, telling}
 use Rattle.rules.specs.Places.{gridLawful}
 use Rattle.rules.specs.Names.{textRefusal}
 use Rattle.rules.specs.Tables.{Table, tableOf}
 use Rattle.rules.specs.Questions.{under, hitOf, rankedList, rankingLawful, rankedRefusal, rankedTold}
-use Rattle.rules.specs.Indexes.{Index, beginnings, numberIn, setLawful}
+use Rattle.rules.specs.Indexes.{Index, beginnings, setLawful}
 use Rattle.rules.proofs.Lawful.{SetParts, set-parts}
+use Rattle.rules.proofs.Refusals.{first-given}
 use Rattle.rules.proofs.Outcomes.{refusal-some}
 use Rattle.trie.specs.Trees.{textOf}
 use Rattle.trie.proofs.Tree.{number-in}
@@ -40,12 +41,12 @@ use Rattle.walk.proofs.Lawful.{at-means, nowhere-means, never-broken, node-foun
 use Rattle.best.specs.Keys.{keyOf, valueIn, standIn}
 use Rattle.best.specs.Holds.{bestOf}
 use Rattle.best.proofs.Streams.{found-stands, found-values, found-count}
-use Rattle.search.specs.Searches.{Asks, Columns, Search, broken, keys, bestUnder, Answered, Written}
+use Rattle.search.specs.Searches.{Asks, Columns, Search, broken, keys, bestUnder, Answered}
 use Rattle.search.proofs.Asking.{some-asked}
 use Rattle.ranked.specs.Promises.{Exact, Refuses, Answers, tooShort, GoesOn, Harmless, RankedPromise, FromPromise}
 use Rattle.ranked.proofs.Entries.{columnsOf}
 use Rattle.ranked.proofs.Under.{under-best}
-use Rattle.ranked.proofs.Told.{first-given, refusal-12, refusal-0, told-refused, told-short, told-list, exact-refused, exact-list, list-none}
+use Rattle.ranked.proofs.Told.{refusal-12, refusal-0, told-refused, told-short, told-list, exact-refused, exact-list, list-none}
 
 -- ---- rooms
 
@@ -210,7 +211,7 @@ module _ (t : Table) (g : Grid) (x : Index) (p : List ℕ) (q : Ranking) (room v
   text-refused why e =
       let n : ℕ = refusalNumber why in
       let some : 0 < n = omega (arith, refusal-some why) in
-      let given : rankedRefusal g p q ≡ n = ap (λ (m : ℕ). firstGiven m (cond (rankingLawful g q) 0 12)) (sym e) ∙ first-given n (cond (rankingLawful g q) 0 12) some in
+      let given : rankedRefusal g p q ≡ n = ap (λ (m : ℕ). firstGiven m (cond (rankingLawful g q) 0 12)) (sym e) ∙ first-given n (cond (rankingLawful g q) 0 12) (refusal-some why) in
       record {
         lawful = λ law. exact-refused t g p q room values n (Refused why) some (told-refused t g p q room values n some given) refl;
         harmless = inr (refuses g p q (Refused why) room values room values n some given (record { told = refl; found = refl; worths = refl }));

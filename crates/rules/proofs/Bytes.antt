@@ -2,7 +2,7 @@
 -- Assumes nothing.
 use mathlib.Core.Path.{_≡_}
 use mathlib.Core.Logic.{_⊎_, inl, inr}
-use mathlib.Core.Bool.{true, false}
+use mathlib.Core.Bool.{true, false, and-true}
 use mathlib.Core.List.{List}
 use Prim.Native.Nat.{ℕ, _≤_, _<_}
 use native.Mathlib.Omega.{arith}
@@ -10,7 +10,7 @@ use lib.Dec.{ltb}
 use lib.ListN.{length}
 use borrow.Author.Tests.{ltb-false, le-ltb, lt-leb, le-leb, ne-eqb}
 use Rattle.base.specs.Lists.{all, every}
-use Rattle.base.proofs.Tests.{which, and-true}
+use Rattle.base.proofs.Tests.{which}
 use Rattle.rules.specs.Names.{allowed, nameAllowed, textRefusal}
 
 pub name-bytes : (n : List ℕ) → 1 ≤ length n → length n ≤ 24 → nameAllowed n ≡ all allowed n

@@ -2,7 +2,7 @@
 -- Assumes nothing.
 use Prim.Native.Nat.{ℕ, zero, suc, _+_, _-_, _≤_, _<_}
 use mathlib.Core.Path.{_≡_, refl, sym, ap, _∙_}
-use mathlib.Core.Bool.{Bool, true, false, cond, not}
+use mathlib.Core.Bool.{Bool, true, false, cond, not, and-false}
 use mathlib.Core.List.{List}
 use native.Mathlib.Omega.{arith}
 use lib.Dec.{leb, lit<}
@@ -10,7 +10,7 @@ use lib.IntN.{ℤ}
 use lib.ListN.{length, getD, take, drop}
 use borrow.Author.Tests.{leb-true, eqb-true, lt-ltb, lt-leb, le-leb, eq-eqb}
 use Rattle.base.specs.Lists.{begins}
-use Rattle.base.proofs.Tests.{and-left, and-right, and-false, every-at, every-of}
+use Rattle.base.proofs.Tests.{and-left, and-right, every-at, every-of}
 use Rattle.base.proofs.Scans.{all-at, all-of}
 use Rattle.rules.specs.declared.Grid.{Grid}
 use Rattle.rules.specs.declared.Verdict.{Verdict}

@@ -5,4 +5,5 @@ pub mod Places
 pub mod Orders
 pub mod Bytes
 pub mod Lawful
+pub mod Refusals
 pub mod Outcomes

@@ -1,7 +1,7 @@
 -- The index, word by word; what building answers and writes, and which sets are lawful.
 -- Nodes are the distinct beginnings of names, in pre-order; a node's row is eight words, an entry's four.
-use mathlib.Core.Bool.{Bool, true, false, cond, not, _||_}
-use mathlib.Core.List.{List, [], _∷_, _++_}
+use mathlib.Core.Bool.{Bool, cond, not, _||_}
+use mathlib.Core.List.{List, [], _∷_}
 use Prim.Native.Nat.{ℕ, zero, suc, _+_, _-_, _*_}
 use lib.Dec.{eqb, ltb}
 use lib.ListN.{length, take, getD}

@@ -1,11 +1,11 @@
 -- The two questions, worked out from the table alone: no index is in sight.
 -- For each: the list that is meant, the first refusal that holds, what is answered, and the room afterwards.
-use mathlib.Core.Bool.{Bool, true, false, cond, not, _||_}
+use mathlib.Core.Bool.{Bool, cond, _||_}
 use mathlib.Core.List.{List, [], _∷_}
 use Prim.Native.Nat.{ℕ, zero, suc}
 use lib.Dec.{eqb, ltb, leb}
 use lib.ListN.{length, take}
-use Rattle.base.specs.Lists.{all, every, upTo, keep, each, eachList, sortBy, begins, written, leads}
+use Rattle.base.specs.Lists.{every, upTo, keep, each, eachList, sortBy, begins, written, leads}
 use Rattle.rules.specs.declared.Grid.{Grid}
 use Rattle.rules.specs.declared.Rect.{Rect}
 use Rattle.rules.specs.declared.Ranking.{Ranking}

@@ -1,9 +1,9 @@
 -- The session of a text: its bytes, its length, and the node of each of its beginnings; zeros behind.
 -- What a keystroke is refused with, and which letters stand after it.
 use mathlib.Core.Path.{_≡_}
-use mathlib.Core.Bool.{Bool, true, false, cond}
+use mathlib.Core.Bool.{cond}
 use mathlib.Core.List.{List, [], _∷_, _++_}
-use Prim.Native.Nat.{ℕ, zero, suc, _-_}
+use Prim.Native.Nat.{ℕ, _-_}
 use lib.Dec.{eqb, leb, ltb}
 use lib.ListN.{length, take, replicate}
 use Rattle.base.specs.Lists.{upTo, each, isEmpty}

@@ -1,14 +1,14 @@
 -- What it says that a stand or an entry can be read, both ways.
 -- Assumes nothing.
 use mathlib.Core.Path.{_≡_, sym}
-use mathlib.Core.Bool.{true, false}
+use mathlib.Core.Bool.{true, false, and-true}
 use mathlib.Core.List.{List}
 use Prim.Native.Nat.{ℕ, _≤_, _<_}
 use lib.Dec.{ltb}
 use lib.ListN.{length, getD}
 use borrow.Author.Tests.{ltb-true, leb-true, lt-ltb, le-ltb, le-leb, lt-leb}
 use Rattle.base.specs.Lists.{every}
-use Rattle.base.proofs.Tests.{and-true, every-at, every-of, every-not}
+use Rattle.base.proofs.Tests.{every-at, every-of, every-not}
 use Rattle.rules.specs.declared.Grid.{Grid}
 use Rattle.rules.specs.Places.{inGrid}
 use Rattle.rules.specs.Tables.{placeIn}

@@ -4,7 +4,6 @@
 ghost use mathlib.Core.Path.{_≡_};
 ghost use Prim.Native.Nat.{_≤_};
 ghost use lib.ListN.{length, take};
-ghost use Rattle.best.specs.Holds.{Holds};
 ghost use Rattle.search.specs.Searches.{columns, Asks, bestUnder, Answered, Written};
 
 mod entries;

@@ -1,6 +1,6 @@
 -- A letter typed on the nodes of a lawful set leads to the node of the longer text, and so to its session.
 -- By the walk to a node's child, and since past a text that begins no name no longer one does. Assumes nothing.
-use mathlib.Core.Path.{_≡_, refl, sym, ap, _∙_}
+use mathlib.Core.Path.{_≡_, refl, sym, ap, _∙_, ap₂}
 use mathlib.Core.Logic.{_⊎_, inl, inr, ⊎-elim}
 use mathlib.Core.Bool.{Bool, true, false, cond}
 use mathlib.Core.List.{List, [], _∷_, _++_}
@@ -10,7 +10,7 @@ use lib.Dec.{ltb}
 use lib.ListN.{length}
 use borrow.Author.Tests.{eq-eqb, ne-eqb}
 use Rattle.base.specs.Lists.{begins, In}
-use Rattle.base.proofs.Tests.{le-or-lt, ap2}
+use Rattle.base.proofs.Tests.{le-or-lt}
 use Rattle.base.proofs.Begins.{begins-append, in-or-out}
 use Rattle.rules.specs.declared.Grid.{Grid}
 use Rattle.rules.specs.declared.Session.{Session}
@@ -75,7 +75,7 @@ module _ (t : Table) (g : Grid) (nodes : List ℕ) (written : begins (nodeWords 
   typed-lawful : length p < 24 → allowed b ≡ true → typedOn nodes (sessionOf t p) b ≡ passed (sessionOf t (p ++ (b ∷ [])))
   typed-lawful room h =
       typed-arrived nodes (sessionOf t p) b (omega (arith, len-of t p)) h
-      ∙ ap2 (λ (k n : ℕ). arrived (sessionOf t p) b (nextOn nodes k n b)) (len-of t p) (path-last t p (omega arith))
+      ∙ ap₂ (λ (k n : ℕ). arrived (sessionOf t p) b (nextOn nodes k n b)) (len-of t p) (path-last t p (omega arith))
       ∙ ap (arrived (sessionOf t p) b) next-lawful
       ∙ arrives-at t (p ++ (b ∷ [])) (sessionOf t p) b
       ∙ ap passed (session-longer t p b room)

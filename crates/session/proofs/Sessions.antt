@@ -1,6 +1,6 @@
 -- What the promises come to on lawful sets and sessions: one outcome, never 7, a lawful session again, the one that typing the letters from fresh gives.
 -- And that a rub-out undoes a typed letter. Assumes nothing.
-use mathlib.Core.Path.{_≡_, refl, sym, ap, _∙_, subst}
+use mathlib.Core.Path.{_≡_, refl, sym, ap, _∙_, subst, ap₂}
 use mathlib.Core.Logic.{⊎-elim}
 use mathlib.Core.Bool.{Bool, true, false, cond}
 use mathlib.Core.List.{List, [], _∷_, _++_, append-nil, append-assoc}
@@ -9,7 +9,7 @@ use native.Mathlib.Omega.{arith}
 use lib.Dec.{eqb}
 use lib.ListN.{length, getD, length-append}
 use Rattle.base.specs.Lists.{all, In}
-use Rattle.base.proofs.Tests.{and-parts, ap2}
+use Rattle.base.proofs.Tests.{and-parts}
 use Rattle.base.proofs.Begins.{in-or-out}
 use Rattle.rules.specs.declared.Session.{Session}
 use Rattle.rules.specs.declared.Verdict.{Verdict}
@@ -63,7 +63,7 @@ module _ (t : Table) (s : Session) (l : LawfulSession t s) where
       p = lettersOf s
 
       found : (b : Bool) → lost (length p) (nodeOr0 t p) ≡ b → lost (s .len) (getD (s .path) (s .len) 0) ≡ b
-      found b e = ap2 lost many lawful-last ∙ e
+      found b e = ap₂ lost many lawful-last ∙ e
 
       within : In p (beginnings t) → reached s ≡ nodeOf t p
       within h =

@@ -1,14 +1,13 @@
 -- Checking all words: what is still to compare decides.
 -- Assumes nothing.
-use mathlib.Core.Path.{_≡_, refl, sym, ap, _∙_}
-use mathlib.Core.Bool.{Bool, true, false, _&&_, true≢false}
+use mathlib.Core.Path.{_≡_, refl, sym, ap, _∙_, ap₂}
+use mathlib.Core.Bool.{Bool, true, false, _&&_, true≢false, and-false}
 use mathlib.Core.List.{List, _++_}
 use Prim.Native.Nat.{ℕ, suc, _+_, _*_, _≤_, _<_}
 use native.Mathlib.Omega.{arith}
 use lib.ListN.{length, drop}
 use lib.Seq.{drop-drop}
 use Rattle.base.specs.Lists.{begins}
-use Rattle.base.proofs.Tests.{ap2, and-false}
 use Rattle.base.proofs.Begins.{begins-parts}
 use Rattle.node.specs.declared.cursor.Cursor.{Cursor}
 use Rattle.node.specs.Columns.{Columns}
@@ -59,7 +58,7 @@ module _ {t : Columns} {all : ℕ} {nodes entries next path places best ranked :
           let later = rowsFrom t (suc (c .number)) (c .entries + length (entriesAt t (visitOf c))) after in
           let n = part (s .rows) (rowOf t (c .number) (c .entries) (visitOf c)) later (ap (rowsFrom t (c .number) (c .entries)) first) in
           let e = part (s .own) (entryRows (entriesAt t (visitOf c))) (entryWordsFrom t after) (ap (entryWordsFrom t) first) in
-          sym (ap2 _&&_ n e ∙ one-fails (hasRow t c nodes) (hasEntries t c entries) _ _ q)
+          sym (ap₂ _&&_ n e ∙ one-fails (hasRow t c nodes) (hasEntries t c entries) _ _ q)
 
       pub checking-more : {r : Cursor} {next′ path′ places′ best′ ranked′ : List ℕ} → hasRow t c nodes ≡ true → hasEntries t c entries ≡ true
           → Moved t c r next′ path′ places′ best′ ranked′

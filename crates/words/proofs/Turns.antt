@@ -1,7 +1,7 @@
 -- One turn at a node, over plain lists: what each call asks of the columns and the cursor, and what the calls together leave.
 -- Assumes nothing.
 use mathlib.Core.Path.{_≡_, sym, ap, _∙_}
-use mathlib.Core.Bool.{Bool, true, false, _&&_}
+use mathlib.Core.Bool.{Bool, true, false, _&&_, and-false}
 use mathlib.Core.List.{List}
 use Prim.Native.Nat.{ℕ, _+_, _*_, _≤_, _<_}
 use native.Mathlib.Omega.{arith}
@@ -9,7 +9,6 @@ use lib.ListN.{length, drop}
 use Rattle.base.specs.Lists.{begins}
 use Rattle.base.specs.Bits.{wordOf}
 use Rattle.rules.specs.Indexes.{Entry}
-use Rattle.base.proofs.Tests.{and-false}
 use Rattle.node.specs.declared.cursor.Cursor.{Cursor}
 use Rattle.node.specs.declared.Gathered.{Gathered}
 use Rattle.node.specs.Columns.{Columns, LawfulColumns, Grows, Placed, Spelt, Slots, at, endOf, heldIn, entriesIn, entriesFrom}

@@ -3,7 +3,7 @@
 use mathlib.Core.Path.{_≡_, _∙_}
 use borrow.Author.Needs.{needs}
 use Rattle.base.proofs.Tests.{breaks, holds}
-use Rattle.base.proofs.Machine.{arrive}
+use Rattle.base.proofs.Machine.{both-arrive}
 use Rattle.rules.specs.Places.{within, inGrid}
 use Rattle.grid.proofs.holds.Statement.{statement}
 use Rattle.grid.proofs.holds.Tie as tie
@@ -12,12 +12,12 @@ use Rattle.grid.proofs.holds.Tie as tie
 east-is : (c : tie.After-within) → c .within .result ≡ within (c .before .before .before .args .grid .west) (c .before .before .before .args .grid .cell) (c .before .before .before .args .place .east)
 east-is c =
     let a = c .before .before .before .args in
-    c .within .ensures ∙ arrive (λ o x. within o (a .grid .cell) x) (a .grid .west) (a .place .east) (search needs) (search needs)
+    c .within .ensures ∙ both-arrive (λ o x. within o (a .grid .cell) x) (a .grid .west) (a .place .east) (search needs) (search needs)
 
 north-is : (c : tie.After-within2) → c .within2 .result ≡ within (c .before .before .before .before .before .before .before .args .grid .south) (c .before .before .before .before .before .before .before .args .grid .cell) (c .before .before .before .before .before .before .before .args .place .north)
 north-is c =
     let a = c .before .before .before .before .before .before .before .args in
-    c .within2 .ensures ∙ arrive (λ o x. within o (a .grid .cell) x) (a .grid .south) (a .place .north) (search needs) (search needs)
+    c .within2 .ensures ∙ both-arrive (λ o x. within o (a .grid .cell) x) (a .grid .south) (a .place .north) (search needs) (search needs)
 
 within-requires : tie.Need-within-requires
 within-requires c κs = search needs

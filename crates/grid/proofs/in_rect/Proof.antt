@@ -1,9 +1,10 @@
 -- `grid::in_rect` meets its contract. Each early return is a false part of the definition; the last test is its last part.
 -- Assumes nothing.
 use mathlib.Core.Path.{sym, _∙_}
+use mathlib.Core.Bool.{and-true}
 use borrow.Author.Needs.{needs}
 use Rattle.base.specs.Lists.{every}
-use Rattle.base.proofs.Tests.{every-not, and-true}
+use Rattle.base.proofs.Tests.{every-not}
 use Rattle.rules.specs.Places.{inRect}
 use Rattle.grid.proofs.Compared.{not-above, above, passed}
 use Rattle.grid.proofs.in_rect.Statement.{statement}

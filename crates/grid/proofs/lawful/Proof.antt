@@ -1,10 +1,11 @@
 -- `grid::lawful` meets its contract. Each early return is a false part of the definition; the last test is its last part.
 -- Assumes nothing.
 use mathlib.Core.Path.{sym, _∙_, _≡_}
+use mathlib.Core.Bool.{and-true}
 use borrow.Author.Tests.{lt-leb, le-leb}
 use borrow.Author.Needs.{needs}
 use Rattle.base.specs.Lists.{every}
-use Rattle.base.proofs.Tests.{breaks, holds, every-not, and-true}
+use Rattle.base.proofs.Tests.{breaks, holds, every-not}
 use Rattle.base.proofs.Machine.{arrives}
 use Rattle.rules.specs.Places.{gridLawful, edgeLawful}
 use Rattle.grid.proofs.lawful.Statement.{statement}

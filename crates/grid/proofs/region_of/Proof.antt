@@ -3,7 +3,7 @@
 use mathlib.Core.Path.{_≡_, _∙_}
 use native.Mathlib.Omega.{arith}
 use borrow.Author.Needs.{needs}
-use Rattle.base.proofs.Machine.{arrive}
+use Rattle.base.proofs.Machine.{both-arrive}
 use Rattle.rules.specs.Places.{within, strip, regionOf}
 use Rattle.rules.proofs.Places.{cell-some, east-inside, north-inside, strip-less}
 use Rattle.grid.proofs.region_of.Statement.{statement}
@@ -13,24 +13,24 @@ use Rattle.grid.proofs.region_of.Tie as tie
 column-is : (c : tie.After-strip) → c .strip .result ≡ strip (c .before .before .before .args .grid .west) (c .before .before .before .args .grid .cell) (c .before .before .before .args .place .east)
 column-is c =
     let a = c .before .before .before .args in
-    c .strip .ensures ∙ arrive (λ o x. strip o (a .grid .cell) x) (a .grid .west) (a .place .east) (search needs) (search needs)
+    c .strip .ensures ∙ both-arrive (λ o x. strip o (a .grid .cell) x) (a .grid .west) (a .place .east) (search needs) (search needs)
 
 row-is : (c : tie.After-strip2) → c .strip2 .result ≡ strip (c .before .before .before .before .before .before .args .grid .south) (c .before .before .before .before .before .before .args .grid .cell) (c .before .before .before .before .before .before .args .place .north)
 row-is c =
     let a = c .before .before .before .before .before .before .args in
-    c .strip2 .ensures ∙ arrive (λ o x. strip o (a .grid .cell) x) (a .grid .south) (a .place .north) (search needs) (search needs)
+    c .strip2 .ensures ∙ both-arrive (λ o x. strip o (a .grid .cell) x) (a .grid .south) (a .place .north) (search needs) (search needs)
 
 strip-requires : tie.Need-strip-requires
 strip-requires c κs =
     let s = c .before .before in
     let a = s .args in
-    (cell-some _ (s .pre .0), arrive (λ o x. within o (a .grid .cell) x) (a .grid .west) (a .place .east) (search needs) (search needs) ∙ east-inside _ _ (s .pre .1))
+    (cell-some _ (s .pre .0), both-arrive (λ o x. within o (a .grid .cell) x) (a .grid .west) (a .place .east) (search needs) (search needs) ∙ east-inside _ _ (s .pre .1))
 
 strip-requires-2 : tie.Need-strip-requires-2
 strip-requires-2 c κs =
     let s = c .before .before .before .before .before in
     let a = s .args in
-    (cell-some _ (s .pre .0), arrive (λ o x. within o (a .grid .cell) x) (a .grid .south) (a .place .north) (search needs) (search needs) ∙ north-inside _ _ (s .pre .1))
+    (cell-some _ (s .pre .0), both-arrive (λ o x. within o (a .grid .cell) x) (a .grid .south) (a .place .north) (search needs) (search needs) ∙ north-inside _ _ (s .pre .1))
 
 mul-result : tie.Need-mul-result
 mul-result c =

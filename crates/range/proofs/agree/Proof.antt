@@ -1,9 +1,10 @@
 -- `agree` meets its contract: the tests are those of the definition.
 -- Assumes nothing.
 use mathlib.Core.Path.{sym}
+use mathlib.Core.Bool.{and-true}
 use borrow.Author.Tests.{lt-leb, le-leb}
 use Rattle.base.specs.Lists.{every}
-use Rattle.base.proofs.Tests.{every-not, and-true}
+use Rattle.base.proofs.Tests.{every-not}
 use Rattle.range.specs.Fetches.{agree}
 use Rattle.range.proofs.agree.Statement.{statement}
 use Rattle.range.proofs.agree.Tie as tie

@@ -3,7 +3,7 @@
 use mathlib.Core.Path.{_≡_, _∙_}
 use native.Mathlib.Omega.{arith}
 use borrow.Author.Needs.{needs}
-use Rattle.base.proofs.Machine.{arrive}
+use Rattle.base.proofs.Machine.{both-arrive}
 use Rattle.rules.specs.Places.{lifted}
 use Rattle.rules.specs.Worth.{apart, distance²}
 use Rattle.rules.proofs.Places.{cell-small, east-inside, north-inside}
@@ -15,12 +15,12 @@ use Rattle.grid.proofs.worth.distance.Tie as tie
 across-is : (c : tie.After-metres-between) → c .metres-between .result ≡ apart (lifted (c .before .before .before .args .a .east)) (lifted (c .before .before .before .args .b .east))
 across-is c =
     let s = c .before .before .before .args in
-    c .metres-between .ensures ∙ arrive (λ x y. apart (lifted x) (lifted y)) (s .a .east) (s .b .east) (search needs) (search needs)
+    c .metres-between .ensures ∙ both-arrive (λ x y. apart (lifted x) (lifted y)) (s .a .east) (s .b .east) (search needs) (search needs)
 
 along-is : (c : tie.After-metres-between2) → c .metres-between2 .result ≡ apart (lifted (c .before .before .before .before .before .before .args .a .north)) (lifted (c .before .before .before .before .before .before .args .b .north))
 along-is c =
     let s = c .before .before .before .before .before .before .args in
-    c .metres-between2 .ensures ∙ arrive (λ x y. apart (lifted x) (lifted y)) (s .a .north) (s .b .north) (search needs) (search needs)
+    c .metres-between2 .ensures ∙ both-arrive (λ x y. apart (lifted x) (lifted y)) (s .a .north) (s .b .north) (search needs) (search needs)
 
 metres-between-requires : tie.Need-metres-between-requires
 metres-between-requires c κs = search needs

@@ -4,7 +4,7 @@ use mathlib.Core.Path.{_≡_, _∙_}
 use Prim.Native.Nat.{_%_, _/_}
 use native.Mathlib.Omega.{arith}
 use borrow.Author.Needs.{needs}
-use Rattle.base.proofs.Machine.{arrive}
+use Rattle.base.proofs.Machine.{both-arrive}
 use Rattle.rules.specs.Places.{lifted}
 use Rattle.rules.specs.Worth.{apart, nearestIn, acrossTo, alongTo, regionDistance²}
 use Rattle.rules.proofs.Places.{cell-some, cell-small, east-inside, north-inside}
@@ -16,12 +16,12 @@ use Rattle.grid.proofs.worth.region_distance.Tie as tie
 across-is : (c : tie.After-gap) → c .gap .result ≡ acrossTo (c .before .before .before .args .grid) (c .before .before .before .args .region) (c .before .before .before .args .place)
 across-is c =
     let a = c .before .before .before .args in
-    c .gap .ensures ∙ arrive (λ o x. apart (nearestIn o (a .grid .cell) (a .region % 8) x) (lifted x)) (a .grid .west) (a .place .east) (search needs) (search needs)
+    c .gap .ensures ∙ both-arrive (λ o x. apart (nearestIn o (a .grid .cell) (a .region % 8) x) (lifted x)) (a .grid .west) (a .place .east) (search needs) (search needs)
 
 along-is : (c : tie.After-gap2) → c .gap2 .result ≡ alongTo (c .before .before .before .before .before .before .args .grid) (c .before .before .before .before .before .before .args .region) (c .before .before .before .before .before .before .args .place)
 along-is c =
     let a = c .before .before .before .before .before .before .args in
-    c .gap2 .ensures ∙ arrive (λ o x. apart (nearestIn o (a .grid .cell) (a .region / 8) x) (lifted x)) (a .grid .south) (a .place .north) (search needs) (search needs)
+    c .gap2 .ensures ∙ both-arrive (λ o x. apart (nearestIn o (a .grid .cell) (a .region / 8) x) (lifted x)) (a .grid .south) (a .place .north) (search needs) (search needs)
 
 gap-requires : tie.Need-gap-requires
 gap-requires c κs =

@@ -6,7 +6,7 @@ use mathlib.Core.Path.{_≡_, _∙_}
 use mathlib.Core.Bool.{Bool}
 use lib.IntN.{ℤ, pos}
 use lib.ListN.{length, getD}
-use Rattle.base.proofs.Machine.{arrive}
+use Rattle.base.proofs.Machine.{both-arrive}
 use Rattle.rules.specs.Places.{inGrid, regionOf}
 use Rattle.rules.specs.Tables.{placeIn}
 use Rattle.rules.proofs.Places.{region-less}
@@ -43,7 +43,7 @@ region-of-requires c κs =
     let p = c .before .before .before .before .pre in
     let i = c .before .before .before .loop .i in
     let inside : ℤ → ℤ → Bool = λ e n. inGrid (a .grid) (record { east = e; north = n }) in
-    (p .lawful, arrive inside (getD (a .east .now) i (pos 0)) (getD (a .north .now) i (pos 0)) (search needs) (search needs) ∙ p .inside i (c .before .before .loop-test .taken))
+    (p .lawful, both-arrive inside (getD (a .east .now) i (pos 0)) (getD (a .north .now) i (pos 0)) (search needs) (search needs) ∙ p .inside i (c .before .before .loop-test .taken))
 
 told : (c : tie.After-region-of Inv-loop μ-loop) →
     let a = c .before .before .before .before .before .args in
@@ -52,7 +52,7 @@ told c =
     let a = c .before .before .before .before .before .args in
     let i = c .before .before .before .before .loop .i in
     let region : ℤ → ℤ → ℕ = λ e n. regionOf (a .grid) (record { east = e; north = n }) in
-    c .region-of .ensures ∙ arrive region (getD (a .east .now) i (pos 0)) (getD (a .north .now) i (pos 0)) (search needs) (search needs)
+    c .region-of .ensures ∙ both-arrive region (getD (a .east .now) i (pos 0)) (getD (a .north .now) i (pos 0)) (search needs) (search needs)
 
 cast-column : tie.Need-cast-column Inv-loop μ-loop
 cast-column c =

@@ -1,9 +1,8 @@
 -- `columns::shared_before` asks for what two names share, but before the first name there is none.
 -- Assumes nothing.
 use native.Mathlib.Omega.{arith}
-use mathlib.Core.Path.{_≡_, _∙_}
+use mathlib.Core.Path.{_≡_, _∙_, ap₂}
 use Rattle.base.specs.Lists.{sharedLength}
-use Rattle.base.proofs.Tests.{ap2}
 use Rattle.index.specs.Columns.{sharedIn}
 use Rattle.index.proofs.ByStand.{shared-first, shared-later, shared-short}
 use borrow.Author.Needs.{needs}
@@ -32,7 +31,7 @@ shared-requires : tie.Need-shared-requires
 shared-requires c κs = search needs
 
 told : (c : tie.After-shared) → let a = c .before .before .before .before .before .before .args in c .shared .result ≡ sharedIn (a .text .now) (a .starts .now) (a .i)
-told c = c .shared .ensures ∙ ap2 sharedLength (c .before .before .name-of .ensures) (c .before .name-of2 .ensures) ∙ shared-later _ _ _ (c .before .before .before .if1 .left)
+told c = c .shared .ensures ∙ ap₂ sharedLength (c .before .before .name-of .ensures) (c .before .name-of2 .ensures) ∙ shared-later _ _ _ (c .before .before .before .if1 .left)
 
 cast-result : tie.Need-cast-result
 cast-result c = let s = c .before .before .before .before .before .before .pre in omega (arith, told c, shared-short _ _ _ _ (s .0) (s .1))

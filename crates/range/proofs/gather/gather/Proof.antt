@@ -1,6 +1,6 @@
 -- `gather::gather` meets its contract: the loop's invariant is Sweeping, by the regions that are left.
 -- Assumes nothing.
-use mathlib.Core.Path.{_≡_, sym, ap, _∙_}
+use mathlib.Core.Path.{_≡_, ap, _∙_}
 use mathlib.Core.Bool.{false}
 use native.Mathlib.Omega.{arith}
 use Prim.Native.Nat.{_<_}

@@ -7,7 +7,7 @@ use lib.IntN.{ℤ, pos}
 use lib.ListN.{getD}
 use mathlib.Core.Logic.{⊎-elim}
 use native.Mathlib.Omega.{arith}
-use Rattle.base.proofs.Machine.{arrive}
+use Rattle.base.proofs.Machine.{both-arrive}
 use Rattle.rules.specs.Places.{inRect}
 use Rattle.range.specs.Fetches.{inside}
 use Rattle.range.proofs.Turns.{Gathering, run-breaks, run-hit, run-miss, run-ends}
@@ -71,7 +71,7 @@ told c =
     let a = c .before .before .before .before .before .before .before .before .before .before .before .args in
     let s = getD (a .order .now) (c .before .before .before .before .before .before .loop .i) 0 in
     let within : ℤ → ℤ → Bool = λ e n. inRect (a .rect) (record { east = e; north = n }) in
-    c .in-rect .ensures ∙ arrive within (getD (a .east .now) s (pos 0)) (getD (a .north .now) s (pos 0)) (search needs) (search needs)
+    c .in-rect .ensures ∙ both-arrive within (getD (a .east .now) s (pos 0)) (getD (a .north .now) s (pos 0)) (search needs) (search needs)
 
 add-n : tie.Need-add-n Inv-loop μ-loop
 add-n c = let w = c .before .before .before .before .before .before .before .before .before .before .before .loop .inv in omega (arith, w .few, w .room, c .before .before .before .before .before .before .before .before .before .before .loop-test .taken)

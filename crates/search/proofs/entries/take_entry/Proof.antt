@@ -7,7 +7,7 @@ use lib.ListN.{take, getD}
 use Rattle.best.specs.Keys.{keyOf}
 use Rattle.search.specs.Searches.{passedOver, boundHit}
 use Rattle.search.proofs.Asking.{asked-inside, weighable, bound-most}
-use Rattle.search.proofs.Reading.{EntryFacts, entry-facts}
+use Rattle.search.proofs.Reading.{entry-facts}
 use Rattle.search.proofs.Taking.{passed, not-passed}
 use Rattle.search.proofs.entries.take_entry.Statement.{statement}
 use Rattle.search.proofs.entries.take_entry.Tie as tie

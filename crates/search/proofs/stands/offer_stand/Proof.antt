@@ -6,7 +6,7 @@ use lib.ListN.{getD}
 use mathlib.Core.Bool.{Bool}
 use lib.IntN.{ℤ, pos}
 use Rattle.base.proofs.Tests.{breaks, holds}
-use Rattle.base.proofs.Machine.{arrive}
+use Rattle.base.proofs.Machine.{both-arrive}
 use Rattle.rules.specs.Places.{inGrid}
 use Rattle.rules.specs.Worth.{valueOf}
 use Rattle.best.specs.Keys.{keyOf}
@@ -55,7 +55,7 @@ value-requires c κs =
     let a = c .before .before .before .before .before .before .before .args in
     let f = facts (c .before .before .before) in
     let in-grid : ℤ → ℤ → Bool = λ e n. inGrid (a .grid) (record { east = e; north = n }) in
-    let inside = arrive in-grid (getD (a .east .now) (a .stand .0) (pos 0)) (getD (a .north .now) (a .stand .0) (pos 0)) (search needs) (search needs) ∙ f .inside in
+    let inside = both-arrive in-grid (getD (a .east .now) (a .stand .0) (pos 0)) (getD (a .north .now) (a .stand .0) (pos 0)) (search needs) (search needs) ∙ f .inside in
     (weighable _ _ (c .before .before .before .before .before .before .before .pre .0) _ (f .scored), inside, asked-inside _ _ (c .before .before .before .before .before .before .before .pre .0))
 
 key-of-requires : tie.Need-key-of-requires
@@ -72,7 +72,7 @@ returns-2 c =
     let a = c .before .before .before .before .before .before .before .before .before .before .before .before .args in
     let s = a .stand .0 in
     let worth : ℤ → ℤ → ℕ = λ e n. valueOf (a .grid) (a .asked .weight) (getD (a .score .now) s 0) (record { east = e; north = n }) (a .asked .place) in
-    let is = c .before .before .before .before .value .ensures ∙ arrive worth (getD (a .east .now) s (pos 0)) (getD (a .north .now) s (pos 0)) (search needs) (search needs) in
+    let is = c .before .before .before .before .value .ensures ∙ both-arrive worth (getD (a .east .now) s (pos 0)) (getD (a .north .now) s (pos 0)) (search needs) (search needs) in
     seen _ _ _ _ _ _ _ _ _ (holds _ _ (c .before .before .before .before .before .before .before .before .before .readable-stand .ensures) (c .before .before .before .before .before .before .before .before .if1 .left))
     (c .before .before .before .key-of .ensures ∙ ap (λ (v : ℕ). keyOf (record { stand = s; value = v })) is)
     (c .offer .ensures)

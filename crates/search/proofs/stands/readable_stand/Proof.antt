@@ -4,7 +4,7 @@ use mathlib.Core.Path.{_∙_}
 use lib.ListN.{getD}
 use mathlib.Core.Bool.{Bool}
 use lib.IntN.{ℤ, pos}
-use Rattle.base.proofs.Machine.{arrive}
+use Rattle.base.proofs.Machine.{both-arrive}
 use Rattle.rules.specs.Places.{inGrid}
 use Rattle.search.proofs.Reading.{stand-large, no-east, no-north, no-score, score-over, place-decides}
 use Rattle.search.proofs.stands.readable_stand.Statement.{statement}
@@ -51,7 +51,7 @@ returns-6 c =
     let a = c .before .before .before .before .before .before .before .before .before .before .args in
     let in-grid : ℤ → ℤ → Bool = λ e n. inGrid (a .grid) (record { east = e; north = n }) in
     c .holds .ensures
-    ∙ arrive in-grid (getD (a .east .now) (a .s) (pos 0)) (getD (a .north .now) (a .s) (pos 0)) (search needs) (search needs)
+    ∙ both-arrive in-grid (getD (a .east .now) (a .s) (pos 0)) (getD (a .north .now) (a .s) (pos 0)) (search needs) (search needs)
     ∙ place-decides _ _ _ (c .before .before .before .before .before .before .before .before .if1 .left) (c .before .before .before .before .before .before .before .if2 .left) (c .before .before .before .before .before .before .if3 .left) (c .before .before .before .before .before .if4 .left) (c .before .before .before .if5 .left)
 
 pub readable-stand-spec : {M : Type 1} → statement M

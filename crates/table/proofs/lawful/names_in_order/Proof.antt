@@ -1,9 +1,9 @@
 -- `lawful::names_in_order` tests each name and the next: the invariant is Scanning.
 -- Assumes nothing.
 use Prim.Native.Nat.{_+_, _-_, _<_}
-use mathlib.Core.Path.{_≡_, sym, _∙_}
+use mathlib.Core.Path.{_≡_, sym, _∙_, ap₂}
 use borrow.Author.Needs.{needs}
-use Rattle.base.proofs.Tests.{ap2, breaks, holds}
+use Rattle.base.proofs.Tests.{breaks, holds}
 use Rattle.base.proofs.Scans.{Scanning, begin, pass, fail, finish}
 use Rattle.rules.specs.Names.{inOrder, name}
 use Rattle.rules.specs.Tables.{namesInOrder}
@@ -38,7 +38,7 @@ told : (c : tie.After-in-order Inv-loop μ-loop) →
     let a = c .before .before .before .before .before .before .before .args in
     let i = c .before .before .before .before .loop .i in
     c .in-order .result ≡ inOrder (name (a .text .now) (a .starts .now) i) (name (a .text .now) (a .starts .now) (i + 1))
-told c = c .in-order .ensures ∙ ap2 inOrder (c .before .before .name-of .ensures) (c .before .name-of2 .ensures)
+told c = c .in-order .ensures ∙ ap₂ inOrder (c .before .before .name-of .ensures) (c .before .name-of2 .ensures)
 
 returns : tie.Need-returns Inv-loop μ-loop
 unfolding namesInOrder

@@ -8,7 +8,7 @@ use lib.ListN.{length, getD}
 use borrow.Author.Needs.{needs}
 use Rattle.base.proofs.Tests.{breaks, holds}
 use Rattle.base.proofs.Scans.{Scanning, begin, pass, fail, finish}
-use Rattle.base.proofs.Machine.{arrive}
+use Rattle.base.proofs.Machine.{both-arrive}
 use Rattle.rules.specs.Places.{inGrid}
 use Rattle.rules.specs.Tables.{placeIn, standLawful, standsLawful}
 use Rattle.rules.proofs.Lawful.{stand-off, stand-over, stand-in}
@@ -46,7 +46,7 @@ told c =
     let a = c .before .before .before .before .before .before .args in
     let i = c .before .before .before .before .loop .i in
     let in-grid : ℤ → ℤ → Bool = λ e n. inGrid (a .grid) (record { east = e; north = n }) in
-    c .holds .ensures ∙ arrive in-grid (getD (a .east .now) i (pos 0)) (getD (a .north .now) i (pos 0)) (search needs) (search needs)
+    c .holds .ensures ∙ both-arrive in-grid (getD (a .east .now) i (pos 0)) (getD (a .north .now) i (pos 0)) (search needs) (search needs)
 
 returns : tie.Need-returns Inv-loop μ-loop
 unfolding standsLawful

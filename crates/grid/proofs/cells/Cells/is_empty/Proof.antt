@@ -1,7 +1,6 @@
 -- `Cells::is_empty` meets its contract: a set whose words are both 0 has no region.
 -- Assumes nothing.
-use mathlib.Core.Path.{sym, ap, _∙_}
-use native.Mathlib.Omega.{arith}
+use mathlib.Core.Path.{sym, ap}
 use borrow.Author.Needs.{needs}
 use Rattle.base.specs.Lists.{isEmpty}
 use Rattle.grid.proofs.Listed.{from-low, empty-by}
