@@ -3,20 +3,25 @@
 use mathlib.Core.Path.{_≡_, refl, sym, ap, _∙_, subst}
 use mathlib.Core.Bool.{true}
 use mathlib.Core.List.{List, [], _∷_, _++_, append-nil, append-assoc}
-use Prim.Native.Nat.{ℕ, zero, suc, _-_}
+use Prim.Native.Nat.{ℕ, suc, _-_}
 use native.Mathlib.Omega.{arith}
 use lib.ListN.{length, take, length-append, length-take}
+use borrow.Author.Tests.{ne-eqb}
 use lib.Seq.{take-at, take-take, take-all}
 use Rattle.rules.specs.declared.Grid.{Grid}
 use Rattle.rules.specs.declared.Session.{Session}
+use Rattle.rules.specs.declared.Refusal.{Refusal}
+use Rattle.rules.specs.declared.Verdict.the-variants.{Passed, Refused}
+use Rattle.rules.specs.Numbers.{refusalNumber}
 use Rattle.rules.specs.Names.{textRefusal}
 use Rattle.rules.specs.Tables.{Table}
 use Rattle.rules.specs.Indexes.{Index, setLawful, butLast}
 use Rattle.rules.specs.Sessions.{sessionOf, freshSession, lettersOf, LawfulSession, typeRefusal, lettersTyped, rubRefusal, lettersRubbed}
 use Rattle.rules.proofs.Bytes.{text-taken}
+use Rattle.rules.proofs.Outcomes.{refusal-some}
 use Rattle.session.proofs.Letters.{typed-allowed, rubbed-allowed}
 use Rattle.session.proofs.Texts.{letters-of, session-lawful, fresh-is}
-use Rattle.finder.specs.Runs.{Deed, Done, Promised, Run, lastSession, lettersAfter, standing, Meant, AsMeant, Types, Rubs}
+use Rattle.finder.specs.Runs.{Deed, Done, Promised, Run, lastSession, lettersAfter, standing, Meant, AsMeant, withLetter, lettersIn, withRub, rubsIn}
 
 -- ---- letters alone
 
@@ -24,17 +29,16 @@ standing-append : (run more : List Done) (p : List ℕ) → standing p (run ++ m
 standing-append [] more p = refl
 standing-append (d ∷ run) more p = standing-append run more (lettersAfter p (d .deed))
 
--- rub-outs take as many letters from the end
-rubs-stand : (n : ℕ) (run : List Done) → Rubs n run → (p : List ℕ) → standing p run ≡ take (length p - n) p
-rubs-stand zero [] k p = sym (take-all (length p - 0) p (omega arith))
-rubs-stand zero (d ∷ run) k p = absurd k
-rubs-stand (suc n) [] k p = absurd k
-rubs-stand (suc n) (d ∷ run) k p =
-    let fewer : length (butLast p) - n ≡ length p - suc n = simp length-take (omega arith) in
-    ap (λ (e : Deed). standing (lettersAfter p e) run) (k .0)
-    ∙ rubs-stand n run (k .1) (butLast p)
-    ∙ take-take (length (butLast p) - n) (length p - 1) p (omega (arith, fewer))
-    ∙ ap (λ (m : ℕ). take m p) fewer
+taken-typing : (p : List ℕ) (b : ℕ) → 0 ≡ typeRefusal p b → lettersTyped p b ≡ p ++ (b ∷ [])
+taken-typing p b e = rw (sym e)
+
+-- a refused letter changes nothing, and a rub-out is refused only where there is nothing to take
+refused-typing : (p : List ℕ) (b : ℕ) (why : Refusal) → refusalNumber why ≡ typeRefusal p b → lettersTyped p b ≡ p
+refused-typing p b why e = rw (ne-eqb (typeRefusal p b) 0 (λ z. refusal-some why (e ∙ z)))
+
+refused-rubbing : (p : List ℕ) (why : Refusal) → refusalNumber why ≡ rubRefusal p → butLast p ≡ p
+refused-rubbing [] why e = refl
+refused-rubbing (a ∷ p) why e = absurd (refusal-some why e)
 
 module _ (t : Table) (g : Grid) (x : Index) (law : setLawful t g x ≡ true) where
   -- ---- one call
@@ -94,20 +98,47 @@ module _ (t : Table) (g : Grid) (x : Index) (law : setLawful t g x ≡ true) whe
 
   -- ---- only the letters that stand count
 
-  -- accepted letters all stand, behind those that stood
-  types-stand : (l : List ℕ) (run : List Done) → Types l run → (p : List ℕ) → AsMeant t g p run → standing p run ≡ p ++ l
-  types-stand [] [] k p m = sym (append-nil p)
-  types-stand [] (d ∷ run) k p m = absurd k
-  types-stand (b ∷ l) [] k p m = absurd k
-  types-stand (b ∷ l) (d ∷ run) k p m =
-      let taken : 0 ≡ typeRefusal p b = subst (Meant t g p) (k .0) (m .0) in
-      let here : lettersAfter p (d .deed) ≡ p ++ (b ∷ []) = ap (lettersAfter p) (k .0) ∙ rw (sym taken) refl in
-      types-stand l run (k .1) (lettersAfter p (d .deed)) (m .2) ∙ ap (λ (q : List ℕ). q ++ l) here ∙ append-assoc p (b ∷ []) l
+  -- with no rub-out accepted, the accepted letters stand behind those that stood
+  types-stand : (run : List Done) → rubsIn run ≡ 0 → (p : List ℕ) → AsMeant t g p run → standing p run ≡ p ++ lettersIn run
+  types-stand [] none p m = sym (append-nil p)
+  types-stand (d ∷ run) none p m = step (d .deed) none (m .0) (λ z. types-stand run z (lettersAfter p (d .deed)) (m .2))
+    where
+      behind : List ℕ → List ℕ
+      behind q = q ++ lettersIn run
 
-  -- the session is the one of a run that does nothing but type those letters
-  pub as-typed-afresh : (run typing : List Done) → Run t g x freshSession run → Run t g x freshSession typing → Types (standing [] run) typing
+      step : (e : Deed) → withRub e (rubsIn run) ≡ 0 → Meant t g p e → (rubsIn run ≡ 0 → standing (lettersAfter p e) run ≡ behind (lettersAfter p e))
+          → standing (lettersAfter p e) run ≡ p ++ withLetter e (lettersIn run)
+      step (Deed.types b Passed) z k below = below z ∙ ap behind (taken-typing p b k) ∙ append-assoc p (b ∷ []) (lettersIn run)
+      step (Deed.types b (Refused why)) z k below = below z ∙ ap behind (refused-typing p b why k)
+      step (Deed.rubs Passed) z k below = absurd (omega arith)
+      step (Deed.rubs (Refused why)) z k below = below z ∙ ap behind (refused-rubbing p why k)
+      step (Deed.asksRange r room after a) z k below = below z
+      step (Deed.asksRanked q room values room′ values′ a) z k below = below z
+
+  -- with no letter accepted, each accepted rub-out takes one from the end
+  rubs-stand : (run : List Done) → lettersIn run ≡ [] → (p : List ℕ) → AsMeant t g p run → standing p run ≡ take (length p - rubsIn run) p
+  rubs-stand [] none p m = sym (take-all (length p - 0) p (omega arith))
+  rubs-stand (d ∷ run) none p m = step (d .deed) none (m .0) (λ z. rubs-stand run z (lettersAfter p (d .deed)) (m .2))
+    where
+      left : ℕ → List ℕ → List ℕ
+      left n q = take (length q - n) q
+
+      step : (e : Deed) → withLetter e (lettersIn run) ≡ [] → Meant t g p e → (lettersIn run ≡ [] → standing (lettersAfter p e) run ≡ left (rubsIn run) (lettersAfter p e))
+          → standing (lettersAfter p e) run ≡ left (withRub e (rubsIn run)) p
+      step (Deed.types b Passed) z k below = absurd (omega (arith, ap length z))
+      step (Deed.types b (Refused why)) z k below = below z ∙ ap (left (rubsIn run)) (refused-typing p b why k)
+      step (Deed.rubs Passed) z k below =
+          let fewer : length (butLast p) - rubsIn run ≡ length p - suc (rubsIn run) = simp length-take (omega arith) in
+          below z ∙ take-take (length (butLast p) - rubsIn run) (length p - 1) p (omega (arith, fewer)) ∙ ap (λ (n : ℕ). take n p) fewer
+      step (Deed.rubs (Refused why)) z k below = below z ∙ ap (left (rubsIn run)) (refused-rubbing p why k)
+      step (Deed.asksRange r room after a) z k below = below z
+      step (Deed.asksRanked q room values room′ values′ a) z k below = below z
+
+  -- the session is the one of a run in which only those letters were typed
+  pub as-typed-afresh : (run typing : List Done) → Run t g x freshSession run → Run t g x freshSession typing → rubsIn typing ≡ 0 → lettersIn typing ≡ standing [] run
       → lastSession freshSession run ≡ lastSession freshSession typing
-  as-typed-afresh run typing r o k = run-ends run r ∙ ap (sessionOf t) (sym (types-stand (standing [] run) typing k [] (run-means typing o))) ∙ sym (run-ends typing o)
+  as-typed-afresh run typing r o none same =
+      run-ends run r ∙ ap (sessionOf t) (sym (types-stand typing none [] (run-means typing o) ∙ same)) ∙ sym (run-ends typing o)
 
   -- ---- letters and as many rub-outs
 
@@ -115,14 +146,19 @@ module _ (t : Table) (g : Grid) (x : Index) (law : setLawful t g x ≡ true) whe
   meant-parts [] more p m = (tt, m)
   meant-parts (d ∷ run) more p m = let k = meant-parts run more (lettersAfter p (d .deed)) (m .2) in ((m .0, m .1, k .0), k .1)
 
-  -- accepted letters, and as many accepted rub-outs after them, bring a lawful session back
-  pub brought-back : (s : Session) → LawfulSession t s → (l : List ℕ) (typing rubbing : List Done) → Types l typing → Rubs (length l) rubbing
+  -- accepted letters, and as many accepted rub-outs after them, bring a lawful session back, whatever was asked or refused between
+  pub brought-back : (s : Session) → LawfulSession t s → (typing rubbing : List Done) → rubsIn typing ≡ 0 → lettersIn rubbing ≡ [] → rubsIn rubbing ≡ length (lettersIn typing)
       → Run t g x s (typing ++ rubbing) → lastSession s (typing ++ rubbing) ≡ s
-  brought-back s lawful l typing rubbing k u r =
+  brought-back s lawful typing rubbing none no-more as-many r =
       let p : List ℕ = lettersOf s in
+      let l : List ℕ = lettersIn typing in
       let m = run-from p (lawful .allowed) s (lawful .same) (typing ++ rubbing) r in
-      let typed : standing p typing ≡ p ++ l = types-stand l typing k p (meant-parts typing rubbing p m .0) in
+      let parts = meant-parts typing rubbing p m in
+      let typed : standing p typing ≡ p ++ l = types-stand typing none p (parts .0) in
       let back : standing p (typing ++ rubbing) ≡ p =
-      standing-append typing rubbing p ∙ rubs-stand (length l) rubbing u (standing p typing) ∙ ap (λ (q : List ℕ). take (length q - length l) q) typed
-      ∙ take-at p l (length (p ++ l) - length l) (simp length-append (omega arith)) in
+      standing-append typing rubbing p
+      ∙ rubs-stand rubbing no-more (standing p typing) (parts .1)
+      ∙ ap (λ (q : List ℕ). take (length q - rubsIn rubbing) q) typed
+      ∙ take-at p l (length (p ++ l) - rubsIn rubbing) (simp length-append (omega arith))
+      in
       last-from p s (lawful .same) (typing ++ rubbing) m ∙ ap (sessionOf t) back ∙ sym (lawful .same)

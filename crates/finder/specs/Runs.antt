@@ -2,13 +2,13 @@
 -- Run holds, call by call, the very promise that the call makes; AsMeant is what the rules say, with no call in sight.
 use mathlib.Core.Path.{_≡_}
 use mathlib.Core.List.{List, [], _∷_}
-use Prim.Native.Nat.{ℕ, zero, suc}
+use Prim.Native.Nat.{ℕ, suc}
 use Rattle.rules.specs.declared.Grid.{Grid}
 use Rattle.rules.specs.declared.Rect.{Rect}
 use Rattle.rules.specs.declared.Ranking.{Ranking}
 use Rattle.rules.specs.declared.Session.{Session}
 use Rattle.rules.specs.declared.Verdict.{Verdict}
-use Rattle.rules.specs.declared.Verdict.the-variants.{Passed}
+use Rattle.rules.specs.declared.Verdict.the-variants.{Passed, Refused}
 use Rattle.rules.specs.declared.RangeAnswer.{RangeAnswer}
 use Rattle.rules.specs.declared.RankedAnswer.{RankedAnswer}
 use Rattle.rules.specs.Numbers.{verdictNumber}
@@ -76,16 +76,28 @@ abbrev pub AsMeant : Table → Grid → List ℕ → List Done → Type 0
 AsMeant t g p [] = Unit {0}
 AsMeant t g p (d ∷ run) = Meant t g p (d .deed) × (d .session ≡ sessionOf t (lettersAfter p (d .deed))) × AsMeant t g (lettersAfter p (d .deed)) run
 
--- ---- runs of letters and of rub-outs, all accepted
+-- ---- what was accepted in a run, whatever else was done between
 
-abbrev pub Types : List ℕ → List Done → Type 0
-Types [] [] = Unit {0}
-Types [] (d ∷ run) = ⊥
-Types (b ∷ l) [] = ⊥
-Types (b ∷ l) (d ∷ run) = (d .deed ≡ Deed.types b Passed) × Types l run
+-- the accepted letters in their order
+abbrev pub withLetter : Deed → List ℕ → List ℕ
+withLetter (Deed.types b Passed) l = b ∷ l
+withLetter (Deed.types b (Refused why)) l = l
+withLetter (Deed.rubs v) l = l
+withLetter (Deed.asksRange r room after a) l = l
+withLetter (Deed.asksRanked q room values room′ values′ a) l = l
 
-abbrev pub Rubs : ℕ → List Done → Type 0
-Rubs zero [] = Unit {0}
-Rubs zero (d ∷ run) = ⊥
-Rubs (suc n) [] = ⊥
-Rubs (suc n) (d ∷ run) = (d .deed ≡ Deed.rubs Passed) × Rubs n run
+abbrev pub lettersIn : List Done → List ℕ
+lettersIn [] = []
+lettersIn (d ∷ run) = withLetter (d .deed) (lettersIn run)
+
+-- how many rub-outs were accepted
+abbrev pub withRub : Deed → ℕ → ℕ
+withRub (Deed.types b v) n = n
+withRub (Deed.rubs Passed) n = suc n
+withRub (Deed.rubs (Refused why)) n = n
+withRub (Deed.asksRange r room after a) n = n
+withRub (Deed.asksRanked q room values room′ values′ a) n = n
+
+abbrev pub rubsIn : List Done → ℕ
+rubsIn [] = 0
+rubsIn (d ∷ run) = withRub (d .deed) (rubsIn run)
