@@ -7,6 +7,7 @@ use lib.Dec.{eqb, ltb}
 use lib.ListN.{length, take, getD}
 use Rattle.base.specs.Lists.{every, fromOn, upTo, keep, each, eachList, total, largest, firstOf, isEmpty, sameList, sortBy, begins, positionIn, written, leads}
 use Rattle.base.specs.Bits.{wordOf}
+use Rattle.base.specs.Lent.{Lent, given}
 use Rattle.rules.specs.declared.Grid.{Grid}
 use Rattle.rules.specs.Numbers.{firstGiven, BuildTold, CheckTold}
 use Rattle.rules.specs.Places.{regions}
@@ -111,6 +112,10 @@ pub record Index : Type 0 where
 
 abbrev pub indexOf : List ℕ → List ℕ → List ℕ → Index
 indexOf order nodes entries = record { order = order; nodes = nodes; entries = entries }
+
+-- the index that a call is lent
+abbrev pub indexIn : Lent (List ℕ) → Lent (List ℕ) → Lent (List ℕ) → Index
+indexIn order nodes entries = indexOf (given order) (given nodes) (given entries)
 
 -- 6: a buffer is too small
 unfoldable pub tooSmall : Table → Grid → Index → Bool

@@ -8,6 +8,7 @@ use lib.IntN.{ℤ, pos}
 use lib.Dec.{eqb, leb}
 use lib.ListN.{length, getD}
 use Rattle.base.specs.Lists.{all, every, upTo}
+use Rattle.base.specs.Lent.{Lent, given}
 use Rattle.rules.specs.declared.Grid.{Grid}
 use Rattle.rules.specs.declared.Place.{Place}
 use Rattle.rules.specs.Places.{gridLawful, inGrid}
@@ -22,6 +23,10 @@ pub record Table : Type 0 where
 
 abbrev pub tableOf : List ℕ → List ℕ → List ℤ → List ℤ → List ℕ → Table
 tableOf text starts east north score = record { text = text; starts = starts; east = east; north = north; score = score }
+
+-- the table that a call is lent
+abbrev pub tableIn : Lent (List ℕ) → Lent (List ℕ) → Lent (List ℤ) → Lent (List ℤ) → Lent (List ℕ) → Table
+tableIn text starts east north score = tableOf (given text) (given starts) (given east) (given north) (given score)
 
 -- N
 abbrev pub stands : Table → ℕ

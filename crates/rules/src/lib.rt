@@ -41,6 +41,8 @@ impl Grid {
 
     // Cells to a row, and rows.
     pub const SIDE: u32 = 8;
+
+    pub const REGIONS: usize = (Grid::SIDE * Grid::SIDE) as usize;
 }
 
 #[repr(C)]
