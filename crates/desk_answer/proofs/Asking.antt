@@ -23,7 +23,7 @@ use Rattle.rules.specs.Tables.{Table, nameOf, tableRefusal}
 use Rattle.rules.specs.Questions.{rankedList, rankingLawful, rankedRefusal}
 use Rattle.rules.specs.Indexes.{Index, setLawful}
 use Rattle.rules.proofs.Lawful.{lawful, taken, set-parts}
-use Rattle.rules.proofs.Outcomes.{refusal-some}
+use Rattle.rules.proofs.Numbers.{refusal-some}
 use Rattle.trie.specs.Meaning.{noHit}
 use Rattle.trie.proofs.Meaning.{table-means}
 use Rattle.rules.proofs.Refusals.{first-none}

@@ -18,7 +18,7 @@ use Rattle.rules.specs.Tables.{Table}
 use Rattle.rules.specs.Indexes.{Index, setLawful, butLast}
 use Rattle.rules.specs.Sessions.{sessionOf, freshSession, lettersOf, LawfulSession, typeRefusal, lettersTyped, rubRefusal, lettersRubbed}
 use Rattle.rules.proofs.Bytes.{text-taken}
-use Rattle.rules.proofs.Outcomes.{refusal-some}
+use Rattle.rules.proofs.Numbers.{refusal-some}
 use Rattle.session.proofs.Letters.{typed-allowed, rubbed-allowed}
 use Rattle.session.proofs.Texts.{letters-of, session-lawful, fresh-is}
 use Rattle.finder.specs.Runs.{Deed, Done, Promised, Run, lastSession, lettersAfter, standing, Meant, AsMeant, withLetter, lettersIn, withRub, rubsIn}

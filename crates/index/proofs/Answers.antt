@@ -25,7 +25,7 @@ use Rattle.rules.specs.Tables.{Table, LawfulTable, tableRefusal}
 use Rattle.rules.specs.Indexes.{Index, indexOf, orderWords, nodeWords, entryWords, tooSmall, buildRefusal, buildTold, indexAfter, setLawful, checkTold}
 use Rattle.rules.proofs.Lawful.{taken}
 use Rattle.rules.proofs.Refusals.{first-given}
-use Rattle.rules.proofs.Outcomes.{refusal-some}
+use Rattle.rules.proofs.Numbers.{refusal-some}
 use Rattle.node.specs.Columns.{Columns}
 use Rattle.words.specs.Over.{over, orderOf}
 use Rattle.words.specs.Words.{nodeCountOf, entryCountOf, nodeWordsOf, entryWordsOf}

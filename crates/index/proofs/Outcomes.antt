@@ -22,7 +22,7 @@ use Rattle.rules.specs.Tables.{Table, stands, tableRefusal}
 use Rattle.rules.specs.Indexes.{Index, orderWords, nodeWords, entryWords, nodeCount, entryCount, tooSmall, buildRefusal, buildTold, indexAfter, setLawful, checkTold}
 use Rattle.rules.proofs.Lawful.{lawful}
 use Rattle.rules.proofs.Refusals.{first-none}
-use Rattle.rules.proofs.Outcomes.{one-built, one-checked}
+use Rattle.rules.proofs.Numbers.{one-built, one-checked}
 use Rattle.trie.proofs.Listing.{order-means}
 use Rattle.trie.proofs.Words.{nodes-length, entry-words-length}
 use Rattle.trie.proofs.Sizes.{sizes-bounded}

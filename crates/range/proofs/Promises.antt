@@ -28,7 +28,7 @@ use Rattle.rules.specs.Questions.{rangeList, rangeRefusal, rangeTold, rangeRoom
 use Rattle.rules.specs.Indexes.{beginnings, Index}
 use Rattle.rules.proofs.Lawful.{SetParts, set-parts}
 use Rattle.rules.proofs.Refusals.{first-given, past-given}
-use Rattle.rules.proofs.Outcomes.{one-range, refusal-some}
+use Rattle.rules.proofs.Numbers.{one-range, refusal-some}
 use Rattle.grid.proofs.Covers.{Edges}
 use Rattle.trie.specs.Trees.{textOf}
 use Rattle.trie.proofs.Tree.{number-in}

@@ -15,7 +15,7 @@ use Rattle.rules.specs.Numbers.{Told, firstGiven, telling, refusing, rankedNumb
 use Rattle.rules.specs.Names.{allowed, textRefusal}
 use Rattle.rules.specs.Tables.{Table}
 use Rattle.rules.specs.Questions.{rankedList, rankingLawful, toldPast, rankedTold}
-use Rattle.rules.proofs.Outcomes.{one-ranked}
+use Rattle.rules.proofs.Numbers.{one-ranked}
 use Rattle.ranked.specs.Promises.{Exact, tooShort, RankedKept}
 
 -- whichever tests fail

@@ -29,7 +29,7 @@ use Rattle.rules.specs.Questions.{under, hitOf, rankedList, rankingLawful, rank
 use Rattle.rules.specs.Indexes.{Index, beginnings, setLawful}
 use Rattle.rules.proofs.Lawful.{SetParts, set-parts}
 use Rattle.rules.proofs.Refusals.{first-given}
-use Rattle.rules.proofs.Outcomes.{refusal-some}
+use Rattle.rules.proofs.Numbers.{refusal-some}
 use Rattle.trie.specs.Trees.{textOf}
 use Rattle.trie.proofs.Tree.{number-in}
 use Rattle.trie.proofs.Tables.{in-under}

@@ -6,4 +6,5 @@ pub mod Orders
 pub mod Bytes
 pub mod Lawful
 pub mod Refusals
+pub mod Numbers
 pub mod Outcomes

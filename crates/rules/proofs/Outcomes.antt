@@ -1,140 +1,102 @@
--- No two different answers have the same numbers, so what a call promises of its numbers settles its answer.
--- Each proof reads the answer back from its numbers. Assumes nothing.
+-- What is settled of a question: a refusal whatever the list, never 7, and one outcome where the promise's ground holds.
+-- Assumes nothing.
 use mathlib.Core.Path.{_≡_, refl, sym, ap, _∙_}
-use mathlib.Core.Bool.{cond, false}
+use mathlib.Core.Logic.{_⊎_, inl, inr}
+use mathlib.Core.Bool.{Bool, true, false, not, cond}
 use mathlib.Core.List.{List, [], _∷_}
-use Prim.Native.Nat.{ℕ, _-_}
-use lib.Dec.{eqb}
-use lib.ListN.{getD}
-use borrow.Author.Tests.{eqb-false}
-use Rattle.rules.specs.declared.Refusal.{Refusal}
-use Rattle.rules.specs.declared.Refusal.the-variants.{TableMisshapen, GridOutsideLimits, NameNotAllowed, NamesOutOfOrder, StandNotAllowed, BufferTooSmall, NotLawful, TextByteNotAllowed, TextTooLong, NothingToRubOut, RectReversed, QuestionOutsideLimits, RoomTooSmall, InputMalformed}
-use Rattle.rules.specs.declared.Verdict.{Verdict}
-use Rattle.rules.specs.declared.Verdict.the-variants as verdict
-use Rattle.rules.specs.declared.Located.{Located}
-use Rattle.rules.specs.declared.Located.the-variants as located
-use Rattle.rules.specs.declared.Built.{Built}
-use Rattle.rules.specs.declared.Built.the-variants as built
-use Rattle.rules.specs.declared.Checked.{Checked}
-use Rattle.rules.specs.declared.Checked.the-variants as checked
+use Prim.Native.Nat.{ℕ, zero, suc}
+use native.Mathlib.Omega.{arith}
+use lib.Dec.{ltb}
+use lib.ListN.{length, getD}
+use Rattle.base.specs.Lists.{all}
+use Rattle.rules.specs.declared.Grid.{Grid}
+use Rattle.rules.specs.declared.Rect.{Rect}
+use Rattle.rules.specs.declared.Ranking.{Ranking}
+use Rattle.rules.specs.declared.Hit.{Hit}
 use Rattle.rules.specs.declared.RangeAnswer.{RangeAnswer}
-use Rattle.rules.specs.declared.RangeAnswer.the-variants as range
 use Rattle.rules.specs.declared.RankedAnswer.{RankedAnswer}
-use Rattle.rules.specs.declared.RankedAnswer.the-variants as ranked
-use Rattle.rules.specs.Numbers.{refusalNumber, Told, BuildTold, CheckTold, verdictNumber, locatedNumbers, builtNumbers, checkedNumbers, rangeNumbers, rankedNumbers}
+use Rattle.rules.specs.Numbers.{Told, firstGiven, rangeNumbers, rankedNumbers}
+use Rattle.rules.specs.Names.{allowed, textRefusal}
+use Rattle.rules.specs.Places.{rectLawful}
+use Rattle.rules.specs.Tables.{Table}
+use Rattle.rules.specs.Questions.{rangeList, ranking, rankingLawful, rangeRefusal, rankedRefusal}
+use Rattle.rules.specs.Outcomes.{Outcome, outcome, refused, filled, roomFor, settled, rangeOutcome, rankedOutcome, rangeCame, rankedCame}
+use Rattle.rules.specs.Promises.{Harmless, Kept, RangeKept, RankedKept}
+use Rattle.rules.proofs.Numbers.{one-range, one-ranked}
 
--- the refusals in the order of their numbers
-inTurn : List Refusal
-inTurn =
-    TableMisshapen
-    ∷ GridOutsideLimits
-    ∷ NameNotAllowed
-    ∷ NamesOutOfOrder
-    ∷ StandNotAllowed
-    ∷ BufferTooSmall
-    ∷ NotLawful
-    ∷ TextByteNotAllowed
-    ∷ TextTooLong
-    ∷ NothingToRubOut
-    ∷ RectReversed
-    ∷ QuestionOutsideLimits
-    ∷ RoomTooSmall
-    ∷ InputMalformed
-    ∷ []
+-- ---- a refusal
 
-refusalOf : ℕ → Refusal
-refusalOf n = getD inTurn (n - 1) InputMalformed
+-- a question that is refused comes to the same whatever its list
+pub settled-refused : (n places : ℕ) (short told : Told) (words rooms : List (List ℕ)) → (n ≡ 0 → ⊥) → settled n places short told words rooms ≡ refused n rooms
+settled-refused zero places short told words rooms some = absurd (some refl)
+settled-refused (suc n) places short told words rooms some = refl
 
--- each is read back from its number, which is not 0
-refusal-back : (r : Refusal) → (refusalOf (refusalNumber r) ≡ r) × (eqb (refusalNumber r) 0 ≡ false)
-unfolding inTurn refusalOf
-refusal-back TableMisshapen = (refl, refl)
-refusal-back GridOutsideLimits = (refl, refl)
-refusal-back NameNotAllowed = (refl, refl)
-refusal-back NamesOutOfOrder = (refl, refl)
-refusal-back StandNotAllowed = (refl, refl)
-refusal-back BufferTooSmall = (refl, refl)
-refusal-back NotLawful = (refl, refl)
-refusal-back TextByteNotAllowed = (refl, refl)
-refusal-back TextTooLong = (refl, refl)
-refusal-back NothingToRubOut = (refl, refl)
-refusal-back RectReversed = (refl, refl)
-refusal-back QuestionOutsideLimits = (refl, refl)
-refusal-back RoomTooSmall = (refl, refl)
-refusal-back InputMalformed = (refl, refl)
+-- so its promise is kept
+pub refused-kept : {Item : Type 0} (Lawful : Type 0) (comesTo : List Item → Outcome) (meant : List Item) (rooms : List (List ℕ)) (n : ℕ)
+    → ((list : List Item) → comesTo list ≡ refused n rooms) → Kept Lawful comesTo meant rooms (refused n rooms)
+refused-kept Lawful comesTo meant rooms n h = record { exact = λ law. sym (h meant); harmless = inr (meant, sym (h meant)) }
 
-pub refusal-some : (r : Refusal) → refusalNumber r ≡ 0 → ⊥
-refusal-some r e = eqb-false (refusalNumber r) 0 (refusal-back r .1) e
+-- ---- never 7
 
--- what is read back from its numbers is told apart by them
-told-apart : {A B : Type 0} (numbers : A → B) (back : B → A) → ((a : A) → back (numbers a) ≡ a) → (a b : A) → numbers a ≡ numbers b → a ≡ b
-told-apart numbers back h a b e = sym (h a) ∙ ap back e ∙ h b
+first-but-7 : (long byte : Bool) (n : ℕ) → (n ≡ 7 → ⊥) → firstGiven (cond long 9 (cond byte 8 0)) n ≡ 7 → ⊥
+first-but-7 true byte n h e = omega arith
+first-but-7 false true n h e = omega arith
+first-but-7 false false n h e = h e
 
-pub one-refusal : (a b : Refusal) → refusalNumber a ≡ refusalNumber b → a ≡ b
-one-refusal = told-apart refusalNumber refusalOf (λ r. refusal-back r .0)
+text-but-7 : (p : List ℕ) (n : ℕ) → (n ≡ 7 → ⊥) → firstGiven (textRefusal p) n ≡ 7 → ⊥
+unfolding textRefusal
+text-but-7 p n h = first-but-7 (ltb 24 (length p)) (not (all allowed p)) n h
 
-verdictOf : ℕ → Verdict
-verdictOf n = cond (eqb n 0) verdict.Passed (verdict.Refused (refusalOf n))
+limit-but-7 : (fine : Bool) (n : ℕ) → (n ≡ 7 → ⊥) → cond fine 0 n ≡ 7 → ⊥
+limit-but-7 true n h e = omega arith
+limit-but-7 false n h e = h e
 
-verdict-back : (v : Verdict) → verdictOf (verdictNumber v) ≡ v
-unfolding verdictOf
-verdict-back verdict.Passed = refl
-verdict-back (verdict.Refused r) = let b = refusal-back r in rw (b .1, b .0)
+settled-but-7 : (n places : ℕ) (short told : Told) (words rooms : List (List ℕ)) → (n ≡ 7 → ⊥) → (short .refusal ≡ 7 → ⊥) → (told .refusal ≡ 7 → ⊥)
+    → settled n places short told words rooms .told .refusal ≡ 7 → ⊥
+settled-but-7 zero places short told words rooms h s a = step (roomFor places rooms)
+  where
+    step : (b : Bool) → cond b (outcome told (filled words rooms)) (outcome short rooms) .told .refusal ≡ 7 → ⊥
+    step true = a
+    step false = s
+settled-but-7 (suc n) places short told words rooms h s a = h
 
-pub one-verdict : (v w : Verdict) → verdictNumber v ≡ verdictNumber w → v ≡ w
-one-verdict = told-apart verdictNumber verdictOf verdict-back
+pub range-but-7 : (p : List ℕ) (r : Rect) (list : List ℕ) (rooms : List (List ℕ)) → rangeOutcome (rangeRefusal p r) list rooms .told .refusal ≡ 7 → ⊥
+range-but-7 p r list rooms =
+    settled-but-7 (rangeRefusal p r) _ _ _ _ rooms (text-but-7 p _ (limit-but-7 (rectLawful r) 11 (λ e. omega arith))) (λ e. omega arith) (λ e. omega arith)
 
-locatedOf : Told → Located
-locatedOf n = cond (eqb (n .refusal) 0) (located.In (n .number)) (located.Refused (refusalOf (n .refusal)))
+pub ranked-but-7 : (g : Grid) (p : List ℕ) (q : Ranking) (hits : List Hit) (rooms : List (List ℕ)) → rankedOutcome (rankedRefusal g p q) (q .k) hits rooms .told .refusal ≡ 7 → ⊥
+ranked-but-7 g p q hits rooms =
+    settled-but-7 (rankedRefusal g p q) _ _ _ _ rooms (text-but-7 p _ (limit-but-7 (rankingLawful g q) 12 (λ e. omega arith))) (λ e. omega arith) (λ e. omega arith)
 
-located-back : (l : Located) → locatedOf (locatedNumbers l) ≡ l
-unfolding locatedOf
-located-back (located.In region) = refl
-located-back (located.Refused r) = let b = refusal-back r in rw (b .1, b .0)
+-- ---- for the reader
 
-pub one-located : (l m : Located) → locatedNumbers l ≡ locatedNumbers m → l ≡ m
-one-located = told-apart locatedNumbers locatedOf located-back
+-- where its ground holds, no two outcomes keep a promise
+pub one-outcome : {Item : Type 0} (Lawful : Type 0) (comesTo : List Item → Outcome) (meant : List Item) (rooms : List (List ℕ)) → Lawful → (o o′ : Outcome)
+    → Kept Lawful comesTo meant rooms o → Kept Lawful comesTo meant rooms o′ → o ≡ o′
+one-outcome Lawful comesTo meant rooms law o o′ k k′ = k .exact law ∙ sym (k′ .exact law)
 
-builtOf : BuildTold → Built
-builtOf n = cond (eqb (n .refusal) 0) (built.Index (n .nodes) (n .entries)) (built.Refused (refusalOf (n .refusal)))
+module _ (Lawful : Type 0) (law : Lawful) (t : Table) (g : Grid) (p : List ℕ) (rooms : List (List ℕ)) where
+  -- and the outcome is the answer and the rooms; it is not refused 7
+  module _ (r : Rect) where
+    pub range-one-outcome : (a a′ : RangeAnswer) (found found′ : List ℕ) → RangeKept Lawful t g p r rooms (rangeCame a found) → RangeKept Lawful t g p r rooms (rangeCame a′ found′)
+        → (a ≡ a′) × (found ≡ found′)
+    range-one-outcome a a′ found found′ k k′ =
+        let same = one-outcome Lawful _ _ rooms law _ _ k k′ in
+        (one-range a a′ (ap (λ (o : Outcome). o .told) same), ap (λ (o : Outcome). getD (o .rooms) 0 []) same)
 
-built-back : (b : Built) → builtOf (builtNumbers b) ≡ b
-unfolding builtOf
-built-back (built.Index nodes entries) = refl
-built-back (built.Refused r) = let b = refusal-back r in rw (b .1, b .0)
+    pub range-never-7 : (a : RangeAnswer) (found : List ℕ) → RangeKept Lawful t g p r rooms (rangeCame a found) → rangeNumbers a .refusal ≡ 7 → ⊥
+    range-never-7 a found k e = range-but-7 p r (rangeList t g p r) rooms (sym (ap (λ (o : Outcome). o .told .refusal) (k .exact law)) ∙ e)
 
-pub one-built : (a b : Built) → builtNumbers a ≡ builtNumbers b → a ≡ b
-one-built = told-apart builtNumbers builtOf built-back
+  module _ (q : Ranking) where
+    pub ranked-one-outcome : (a a′ : RankedAnswer) (found values found′ values′ : List ℕ)
+        → RankedKept Lawful t g p q rooms (rankedCame a found values) → RankedKept Lawful t g p q rooms (rankedCame a′ found′ values′)
+        → (a ≡ a′) × (found ≡ found′) × (values ≡ values′)
+    ranked-one-outcome a a′ found values found′ values′ k k′ =
+        let same = one-outcome Lawful _ _ rooms law _ _ k k′ in (
+          one-ranked a a′ (ap (λ (o : Outcome). o .told) same),
+          ap (λ (o : Outcome). getD (o .rooms) 0 []) same,
+          ap (λ (o : Outcome). getD (o .rooms) 1 []) same,
+        )
 
-checkedOf : CheckTold → Checked
-checkedOf n = cond (eqb (n .lawful) 0) checked.Unlawful (checked.Lawful (n .nodes) (n .entries))
-
-checked-back : (c : Checked) → checkedOf (checkedNumbers c) ≡ c
-unfolding checkedOf
-checked-back (checked.Lawful nodes entries) = refl
-checked-back checked.Unlawful = refl
-
-pub one-checked : (c d : Checked) → checkedNumbers c ≡ checkedNumbers d → c ≡ d
-one-checked = told-apart checkedNumbers checkedOf checked-back
-
-rangeOf : Told → RangeAnswer
-rangeOf n = cond (eqb (n .refusal) 0) (range.Found (n .number)) (range.Refused (refusalOf (n .refusal)) (n .number))
-
-range-back : (a : RangeAnswer) → rangeOf (rangeNumbers a) ≡ a
-unfolding rangeOf
-range-back (range.Found n) = refl
-range-back (range.Refused r matches) = let b = refusal-back r in rw (b .1, b .0)
-
-pub one-range : (a b : RangeAnswer) → rangeNumbers a ≡ rangeNumbers b → a ≡ b
-one-range = told-apart rangeNumbers rangeOf range-back
-
-rankedOf : Told → RankedAnswer
-rankedOf n = cond (eqb (n .refusal) 0) (ranked.Found (n .number)) (ranked.Refused (refusalOf (n .refusal)))
-
-ranked-back : (a : RankedAnswer) → rankedOf (rankedNumbers a) ≡ a
-unfolding rankedOf
-ranked-back (ranked.Found n) = refl
-ranked-back (ranked.Refused r) = let b = refusal-back r in rw (b .1, b .0)
-
-pub one-ranked : (a b : RankedAnswer) → rankedNumbers a ≡ rankedNumbers b → a ≡ b
-one-ranked = told-apart rankedNumbers rankedOf ranked-back
+    pub ranked-never-7 : (a : RankedAnswer) (found values : List ℕ) → RankedKept Lawful t g p q rooms (rankedCame a found values) → rankedNumbers a .refusal ≡ 7 → ⊥
+    ranked-never-7 a found values k e = ranked-but-7 g p q (ranking t g p q) rooms (sym (ap (λ (o : Outcome). o .told .refusal) (k .exact law)) ∙ e)

@@ -6,6 +6,8 @@ pub mod Worth
 pub mod Names
 pub mod Tables
 pub mod Questions
+pub mod Outcomes
 pub mod Indexes
 pub mod Sessions
+pub mod Promises
 pub mod Scheme

@@ -6,7 +6,7 @@ use mathlib.Core.List.{List}
 use Prim.Native.Nat.{ℕ, _+_, _-_, _≤_, _<_, min}
 use native.Mathlib.Omega.{arith}
 use lib.ListN.{length, take, drop, length-take, length-drop}
-use Rattle.base.specs.Lists.{upTo, keep, each, largest}
+use Rattle.base.specs.Lists.{In, upTo, keep, each, largest}
 use Rattle.base.proofs.Members.{getD-in, in-at, in-keep, keep-in, in-each, each-in, in-some, some-in, some-length}
 use Rattle.base.proofs.Runs.{in-from, from-in}
 use Rattle.base.proofs.Sums.{in-largest, largest-in}
@@ -33,27 +33,27 @@ module _ (t : Table) (g : Grid) (l : LawfulTable t g) (p : List ℕ) where
   -- ---- which entries there are
 
   -- an entry is that of a region that holds a stand
-  record OfRegion (e : Entry) : Type 0 where
-    pub number : ℕ
-    pub small : number < regions
-    pub held : occupied t g p number ≡ true
-    pub same : entryOf t g p number ≡ e
+  pub record OfRegion (e : Entry) : Type 0 where
+    pub small : e .region < regions
+    pub held : occupied t g p (e .region) ≡ true
+    pub same : e ≡ entryOf t g p (e .region)
 
-  entry-of : (a : ℕ) → a < length entries → OfRegion (entryAt t g p a)
-  entry-of a h =
-      let m = shuffle-in (sort-shuffle ahead unsorted) (entryAt t g p a) (getD-in noEntry entries a h) in
-      let s = in-each (entryOf t g p) (regionsUnder t g p) (entryAt t g p a) m in
+  pub entry-own : (e : Entry) → In e entries → OfRegion e
+  entry-own e h =
+      let s = in-each (entryOf t g p) (regionsUnder t g p) e (shuffle-in (sort-shuffle ahead unsorted) e h) in
       let k = keep-in (occupied t g p) (upTo regions) (s .0) (s .1) in
-      record { number = s .0; small = omega (arith, in-from 0 regions (s .0) (k .0)); held = k .1; same = sym (s .2) }
+      rw (s .2) (record { small = omega (arith, in-from 0 regions (s .0) (k .0)); held = k .1; same = refl })
 
   -- and each such region has one
+  pub entry-there : (r : ℕ) → In r (regionsUnder t g p) → In (entryOf t g p r) entries
+  entry-there r h =
+      shuffle-in (shuffle-sym (sort-shuffle ahead unsorted)) (entryOf t g p r) (each-in (entryOf t g p) (regionsUnder t g p) r h)
+
   entry-for : (i : ℕ) → StandUnder t p i → (a : ℕ) × (a < length entries) × (entryAt t g p a ≡ entryOf t g p (regionOfStand g t i))
   entry-for i u =
       let r = regionOfStand g t i in
       let small = from-in 0 regions r (omega arith) (omega (arith, region-small t g l i (u .stand))) in
-      let there = in-keep (occupied t g p) (upTo regions) r small (held-occupied t g p r (i, u, refl)) in
-      let m = each-in (entryOf t g p) (regionsUnder t g p) r there in
-      in-at noEntry (entryOf t g p r) entries (shuffle-in (shuffle-sym (sort-shuffle ahead unsorted)) (entryOf t g p r) m)
+      in-at noEntry (entryOf t g p r) entries (entry-there r (in-keep (occupied t g p) (upTo regions) r small (held-occupied t g p r (i, u, refl))))
 
   regions-differ : Distinct (λ e. e .region) unsorted
   regions-differ =
@@ -88,7 +88,10 @@ module _ (t : Table) (g : Grid) (l : LawfulTable t g) (p : List ℕ) where
 
   -- what holds of the entry of each region that holds a stand holds of each entry
   of-each : (P : Entry → Type 0) → ((r : ℕ) → occupied t g p r ≡ true → r < regions → P (entryOf t g p r)) → (a : ℕ) → a < length entries → P (entryAt t g p a)
-  of-each P h a k = let s = entry-of a k in subst P (s .same) (h (s .number) (s .held) (s .small))
+  of-each P h a k =
+      let e = entryAt t g p a in
+      let s = entry-own e (getD-in noEntry entries a k) in
+      subst P (sym (s .same)) (h (e .region) (s .held) (s .small))
 
   pub entries-mean : EntriesMean t g p
   entries-mean =

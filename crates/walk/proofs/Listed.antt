@@ -1,21 +1,40 @@
--- A node's list of entries: the two ways that it is read, and what it is on the words that building writes.
+-- A text's listing: the ways that it is read; that on the words that building writes it is the one of the rules; and what that lists.
 -- Assumes nothing.
-use mathlib.Core.Path.{_≡_}
-use mathlib.Core.Bool.{true}
-use mathlib.Core.List.{List}
-use Prim.Native.Nat.{ℕ, _/_, _≤_, _<_}
+use mathlib.Core.Path.{_≡_, refl, sym, ap, _∙_, subst}
+use mathlib.Core.Logic.{_⊎_, inl, inr}
+use mathlib.Core.Bool.{true, false}
+use mathlib.Core.List.{List, []}
+use Prim.Native.Nat.{ℕ, _+_, _/_, _≤_, _<_}
 use native.Mathlib.Omega.{arith}
 use lib.ListN.{length, getD}
-use borrow.Author.Tests.{le-leb, lt-leb}
-use Rattle.base.specs.Lists.{begins}
+use borrow.Author.Tests.{lt-ltb, le-ltb, le-leb, lt-leb}
+use Rattle.base.specs.Lists.{In, begins, each, upTo}
+use Rattle.base.proofs.Tests.{which}
+use Rattle.base.proofs.Members.{keep-none}
+use Rattle.base.proofs.Runs.{in-from}
+use Rattle.base.proofs.Begins.{in-or-out}
 use Rattle.rules.specs.declared.Grid.{Grid}
-use Rattle.rules.specs.Tables.{Table}
-use Rattle.rules.specs.Indexes.{nodeRow, nodeWords, nodeCount, occupied}
-use Rattle.grid.specs.Cells.{cellsBy}
+use Rattle.rules.specs.Tables.{Table, stands, nameOf}
+use Rattle.rules.specs.Questions.{under}
+use Rattle.rules.specs.Indexes.{Index, beginnings, numberIn, nodeRow, nodeCount, occupied, entriesOf}
+use Rattle.rules.proofs.Lawful.{SetParts}
+use Rattle.grid.specs.declared.cells.Cells.{Cells}
+use Rattle.grid.specs.Cells.{cellsBy, regionsIn}
+use Rattle.grid.proofs.Listed.{listed-by}
 use Rattle.trie.specs.Trees.{textOf}
-use Rattle.walk.specs.declared.listing.Listing.the-variants.{Entries, Broken}
-use Rattle.walk.specs.Listings.{cellsAt, firstEntry, listingIn}
-use Rattle.walk.proofs.Lawful.{node-row, nodes-within}
+use Rattle.trie.proofs.Tree.{number-in, number-out}
+use Rattle.trie.proofs.Tables.{beginnings-of}
+use Rattle.trie.proofs.Words.{entries-length}
+use Rattle.walk.specs.declared.listing.Listing.{Listing}
+use Rattle.walk.specs.declared.listing.Listing.the-variants.{Entries, Nowhere, Broken}
+use Rattle.walk.specs.Walks.{nodeIn}
+use Rattle.walk.specs.Nodes.{nodeOf}
+use Rattle.walk.specs.Listings.{cellsAt, firstEntry, listingIn, listingAt, listingOf}
+use Rattle.walk.specs.Entries.{asRead, Spelled}
+use Rattle.walk.proofs.Lawful.{node-of-in, node-of-out, node-row, nodes-within, node-found}
+use Rattle.walk.proofs.Spelled.{entries-spelled}
+
+-- ---- on any words
 
 module _ (words : List ℕ) (j : ℕ) where
   pub no-listing : length words / 8 ≤ j → Broken ≡ listingIn words j
@@ -26,14 +45,95 @@ module _ (words : List ℕ) (j : ℕ) where
   unfolding listingIn
   listing-is h = rw (lt-leb _ _ h)
 
--- an entry for each region that holds a stand under the node's text
-pub listing-found : (t : Table) (g : Grid) (words : List ℕ) → begins (nodeWords t g) words ≡ true → (j : ℕ) → j < nodeCount t
-    → listingIn words j ≡ Entries (cellsBy (occupied t g (textOf t j))) (getD (nodeRow t g j) 7 0)
-unfolding listingIn cellsBy
-listing-found t g words written j h =
-    rw (
-      lt-leb (length words / 8) j (omega (arith, nodes-within t g words written)),
-      node-row t g words written j 5 h (omega arith),
-      node-row t g words written j 6 h (omega arith),
-      node-row t g words written j 7 h (omega arith),
-    )
+-- ---- by the rules
+
+module _ (t : Table) (g : Grid) (p : List ℕ) where
+  listing-in : In p (beginnings t) → listingOf t g p ≡ Entries (cellsBy (occupied t g p)) (getD (nodeRow t g (numberIn p (beginnings t))) 7 0)
+  listing-in h = rw (lt-ltb (numberIn p (beginnings t)) (length (beginnings t)) (number-in p (beginnings t) h .0))
+
+  listing-out : (In p (beginnings t) → ⊥) → listingOf t g p ≡ Nowhere
+  listing-out h =
+      let e = number-out p (beginnings t) h in
+      rw (le-ltb (numberIn p (beginnings t)) (length (beginnings t)) (omega arith))
+
+  -- a text that begins no name has no stand under it
+  under-none : (In p (beginnings t) → ⊥) → under t p ≡ []
+  unfolding under
+  under-none out = keep-none (λ i. begins p (nameOf t i)) (upTo (stands t)) (λ i k. step i k (which (begins p (nameOf t i))))
+    where
+      step : (i : ℕ) → In i (upTo (stands t)) → (begins p (nameOf t i) ≡ true) ⊎ (begins p (nameOf t i) ≡ false) → begins p (nameOf t i) ≡ false
+      step i k (inl b) = absurd (out (beginnings-of t i p (omega (arith, in-from 0 (stands t) i k)) b))
+      step i k (inr b) = b
+
+  pub nowhere-none : listingOf t g p ≡ Nowhere → under t p ≡ []
+  nowhere-none e = step (in-or-out p (beginnings t))
+    where
+      step : In p (beginnings t) ⊎ (In p (beginnings t) → ⊥) → under t p ≡ []
+      step (inl h) = let z : _≡_ {A = ℕ} 0 1 = cc (e, listing-in h) in absurd (omega arith)
+      step (inr h) = under-none h
+
+  pub never-broken : listingOf t g p ≡ Broken → ⊥
+  never-broken e = step (in-or-out p (beginnings t))
+    where
+      step : In p (beginnings t) ⊎ (In p (beginnings t) → ⊥) → ⊥
+      step (inl h) = let z : _≡_ {A = ℕ} 0 1 = cc (e, listing-in h) in omega arith
+      step (inr h) = let z : _≡_ {A = ℕ} 0 1 = cc (e, listing-out h) in omega arith
+
+-- what a listing of entries is, in a lawful set: the entries of the rules, as many as there are regions
+pub record Lists (t : Table) (g : Grid) (x : Index) (p : List ℕ) (cells : Cells) (first : ℕ) : Type 0 where
+  pub regions : cells ≡ cellsBy (occupied t g p)
+  pub many : length (regionsIn cells) ≡ length (entriesOf t g p)
+  pub spelled : (places : ℕ) → stands t ≤ places → Spelled (x .entries) places first (each asRead (entriesOf t g p))
+
+module _ (t : Table) (g : Grid) (x : Index) (s : SetParts t g x) (p : List ℕ) where
+  in-lists : In p (beginnings t) → Lists t g x p (cellsBy (occupied t g p)) (getD (nodeRow t g (numberIn p (beginnings t))) 7 0)
+  in-lists h =
+      let n = number-in p (beginnings t) h in
+      record {
+        regions = refl;
+        many = ap length (listed-by (occupied t g p)) ∙ sym (entries-length t g p);
+        spelled = λ places most.
+            subst (λ (q : List ℕ). Spelled (x .entries) places (getD (nodeRow t g (numberIn p (beginnings t))) 7 0) (each asRead (entriesOf t g q))) (n .1)
+            (entries-spelled t g x s (numberIn p (beginnings t)) (n .0) places most);
+      }
+
+  pub entries-listed : (cells : Cells) (first : ℕ) → listingOf t g p ≡ Entries cells first → Lists t g x p cells first
+  entries-listed cells first e = step (in-or-out p (beginnings t))
+    where
+      step : In p (beginnings t) ⊎ (In p (beginnings t) → ⊥) → Lists t g x p cells first
+      step (inl h) =
+          let same = sym e ∙ listing-in t g p h in
+          subst (λ (l : Listing). Of l) (sym same) (in-lists h)
+        where
+          Of : Listing → Type 0
+          Of (Entries cells first) = Lists t g x p cells first
+          Of Nowhere = Unit {0}
+          Of Broken = Unit {0}
+      step (inr h) = let z : _≡_ {A = ℕ} 0 1 = cc (e, listing-out t g p h) in absurd (omega arith)
+
+  -- ---- the words that building writes
+
+  -- from the text's node, if it has one
+  pub listing-reached : listingAt (x .nodes) (nodeOf t p) ≡ listingOf t g p
+  unfolding listingIn cellsBy
+  listing-reached = step (in-or-out p (beginnings t))
+    where
+      step : In p (beginnings t) ⊎ (In p (beginnings t) → ⊥) → listingAt (x .nodes) (nodeOf t p) ≡ listingOf t g p
+      step (inr h) = ap (listingAt (x .nodes)) (node-of-out t p h) ∙ sym (listing-out t g p h)
+      step (inl h) =
+          let j = numberIn p (beginnings t) in
+          let n = number-in p (beginnings t) h in
+          let written = s .nodes in
+          ap (listingAt (x .nodes)) (node-of-in t p h)
+          ∙ rw (
+            lt-leb (length (x .nodes) / 8) j (omega (arith, nodes-within t g (x .nodes) written, n .0)),
+            node-row t g (x .nodes) written j 5 (n .0) (omega arith),
+            node-row t g (x .nodes) written j 6 (n .0) (omega arith),
+            node-row t g (x .nodes) written j 7 (n .0) (omega arith),
+            n .1,
+          )
+          (sym (listing-in t g p h))
+
+  -- by a walk along the text
+  pub listing-found : listingAt (x .nodes) (nodeIn (x .nodes) p) ≡ listingOf t g p
+  listing-found = ap (listingAt (x .nodes)) (node-found t g (x .nodes) (s .nodes) (s .table .ordered) p) ∙ listing-reached

@@ -1,12 +1,14 @@
 // From a text to its node, by the nodes' words. The words may be anything: a walk always ends and reads nothing outside them.
-// Where they are what building writes, the node found is the text's.
+// Where they are what building writes, the node found is the text's. `listing` goes on to the node's entries, `entry` reads one.
 ghost use mathlib.Core.Path.{_≡_};
+ghost use Rattle.base.specs.Lent.{given};
 ghost use Rattle.walk.specs.Walks.{childIn, nodeIn};
 use rules::Node;
 use rules::layout::LAST_BYTE;
 use rules::layout::NODE_WORDS;
 use rules::layout::PAST_NODE;
 
+pub mod entry;
 pub mod listing;
 
 // Where a walk comes to.
@@ -20,7 +22,7 @@ pub enum Child {
 
 // The child of a node with this last byte. A node's first child comes right after it, and the next one past that one's subtree.
 pub fn child_of(nodes: &[u32], above: Node, byte: u8) -> Child
-    ensures { λ r. ⌜ r ≡ childIn (now (nodes .entry)) (above .0) byte ⌝ }
+    ensures { λ r. ⌜ r ≡ childIn (given nodes) (above .0) byte ⌝ }
 {
     let all = nodes.len() / NODE_WORDS;
     let p = above.0 as usize;
@@ -48,7 +50,7 @@ pub fn child_of(nodes: &[u32], above: Node, byte: u8) -> Child
 
 // The node of a typed text, from the root letter by letter.
 pub fn node_of(nodes: &[u32], typed: &[u8]) -> Child
-    ensures { λ r. ⌜ r ≡ nodeIn (now (nodes .entry)) (now (typed .entry)) ⌝ }
+    ensures { λ r. ⌜ r ≡ nodeIn (given nodes) (given typed) ⌝ }
 {
     let mut at = Node(0);
     let mut i = 0;

@@ -1,6 +1,11 @@
-// Which entries a node has: one for each of its regions, from its first entry on. The words may be anything.
+// Where a text's stands are listed: the entries of its node, one for each of the node's regions. The words may be anything.
+// A question starts from a listing, and so it needs no nodes.
 ghost use mathlib.Core.Path.{_≡_};
-ghost use Rattle.walk.specs.Listings.{listingIn};
+ghost use Rattle.base.specs.Lent.{given};
+ghost use Rattle.walk.specs.Walks.{nodeIn};
+ghost use Rattle.walk.specs.Listings.{listingIn, listingAt};
+use crate::Child;
+use crate::node_of;
 use grid::cells::Cells;
 use rules::Node;
 use rules::layout::FIRST_ENTRY;
@@ -8,16 +13,17 @@ use rules::layout::HIGH_REGIONS;
 use rules::layout::LOW_REGIONS;
 use rules::layout::NODE_WORDS;
 
-// A node's list of entries.
 pub enum Listing {
     // The regions that have an entry, and the number of the first entry.
     Entries(Cells, u32),
-    // There is no such node.
+    // No name begins so.
+    Nowhere,
+    // These are not the words of an index.
     Broken,
 }
 
-pub fn listing_of(nodes: &[u32], node: Node) -> Listing
-    ensures { λ r. ⌜ r ≡ listingIn (now (nodes .entry)) (node .0) ⌝ }
+fn entries_of(nodes: &[u32], node: Node) -> Listing
+    ensures { λ r. ⌜ r ≡ listingIn (given nodes) (node .0) ⌝ }
 {
     let j = node.0 as usize;
     if nodes.len() / NODE_WORDS <= j {
@@ -29,4 +35,22 @@ pub fn listing_of(nodes: &[u32], node: Node) -> Listing
         high: nodes[at + HIGH_REGIONS],
     };
     Listing::Entries(regions, nodes[at + FIRST_ENTRY])
+}
+
+// The listing of where a walk came to.
+pub fn listing_at(nodes: &[u32], at: Child) -> Listing
+    ensures { λ r. ⌜ r ≡ listingAt (given nodes) at ⌝ }
+{
+    match at {
+        Child::At(node) => entries_of(nodes, node),
+        Child::Nowhere => Listing::Nowhere,
+        Child::Broken => Listing::Broken,
+    }
+}
+
+// The listing of a typed text.
+pub fn listing_of(nodes: &[u32], typed: &[u8]) -> Listing
+    ensures { λ r. ⌜ r ≡ listingAt (given nodes) (nodeIn (given nodes) (given typed)) ⌝ }
+{
+    listing_at(nodes, node_of(nodes, typed))
 }
