@@ -2,7 +2,7 @@
 -- Assumes nothing.
 use mathlib.Core.Path.{_≡_, refl, sym, ap, _∙_}
 use mathlib.Core.Logic.{_⊎_, inl, inr, ⊎-elim}
-use mathlib.Core.Bool.{true, false}
+use mathlib.Core.Bool.{Bool, true, false}
 use mathlib.Core.List.{List, [], _∷_, _++_}
 use Prim.Native.Nat.{ℕ, suc, _+_, _≤_, _<_}
 use native.Mathlib.Omega.{arith}
@@ -11,8 +11,8 @@ use lib.IntN.{ℤ}
 use lib.ListN.{length, drop, set, length-set}
 use lib.Seq.{sets, sets-eq}
 use borrow.Author.Tests.{lt-ltb, le-ltb}
-use Rattle.base.specs.Lists.{keep, In, written}
-use Rattle.base.proofs.Tests.{which, le-or-lt}
+use Rattle.base.specs.Lists.{In, all, keep, written}
+use Rattle.base.proofs.Tests.{which, never, and-parts, le-or-lt}
 use Rattle.rules.specs.declared.Rect.{Rect}
 use Rattle.range.specs.declared.gather.Tally.{Tally}
 use Rattle.range.specs.declared.gather.Tally.the-variants.{Count, Broken}
@@ -92,67 +92,53 @@ module _ (east north : List ℤ) (rect : Rect) where
       step (hit h e) below = rw (lt-ltb s (length east) h, e) (below (set room n s) (suc n) ∙ length-set room n s)
       step (miss h e) below = rw (lt-ltb s (length east) h, e) (below room n)
 
-  -- what is counted does not hang on the room
-  pub walk-tally : (l room other : List ℕ) (n : ℕ) → gathered east north rect room n l .tally ≡ gathered east north rect other n l .tally
-  unfolding gathered
-  walk-tally [] room other n = refl
-  walk-tally (s ∷ l) room other n = step (first s) (walk-tally l)
-    where
-      step : First s → ((room other : List ℕ) (n : ℕ) → gathered east north rect room n l .tally ≡ gathered east north rect other n l .tally)
-          → gathered east north rect room n (s ∷ l) .tally ≡ gathered east north rect other n (s ∷ l) .tally
-      step (off h) below = rw (le-ltb s (length east) h)
-      step (hit h e) below = rw (lt-ltb s (length east) h, e) (below (set room n s) (set other n s) (suc n))
-      step (miss h e) below = rw (lt-ltb s (length east) h, e) (below room other n)
+  -- whether all of a list are stands of the table
+  abbrev pub known : List ℕ → Bool
+  known l = all (λ s. ltb s (length east)) l
 
-  -- stands of the table are counted, and written as far as the room goes
-  pub walk-whole : (l room : List ℕ) (n : ℕ) → ((s : ℕ) → In s l → s < length east) → gathered east north rect room n l ≡ tallied (Count (n + length (hits l))) (sets room n (hits l))
+  pub known-of : (l : List ℕ) → ((s : ℕ) → In s l → s < length east) → known l ≡ true
+  known-of [] h = refl
+  known-of (s ∷ l) h = rw (lt-ltb s (length east) (h s (inl refl))) (known-of l (λ x k. h x (inr k)))
+
+  -- those are counted, and written as far as the room goes
+  pub walk-whole : (l room : List ℕ) (n : ℕ) → known l ≡ true → gathered east north rect room n l ≡ tallied (Count (n + length (hits l))) (sets room n (hits l))
   unfolding gathered
-  walk-whole [] room n known = let z : n ≡ n + 0 = omega arith in rw (← z)
-  walk-whole (s ∷ l) room n known = step (which (inside east north rect s)) (λ room n. walk-whole l room n (λ x h. known x (inr h)))
+  walk-whole [] room n q = let z : n ≡ n + 0 = omega arith in rw (← z)
+  walk-whole (s ∷ l) room n q = let k = and-parts (ltb s (length east)) (known l) q in step (which (inside east north rect s)) (k .0) (λ room n. walk-whole l room n (k .1))
     where
-      step : (inside east north rect s ≡ true) ⊎ (inside east north rect s ≡ false)
+      step : (inside east north rect s ≡ true) ⊎ (inside east north rect s ≡ false) → ltb s (length east) ≡ true
           → ((room : List ℕ) (n : ℕ) → gathered east north rect room n l ≡ tallied (Count (n + length (hits l))) (sets room n (hits l)))
           → gathered east north rect room n (s ∷ l) ≡ tallied (Count (n + length (hits (s ∷ l)))) (sets room n (hits (s ∷ l)))
-      step (inl e) below =
+      step (inl e) k below =
           let z : suc n + length (hits l) ≡ n + suc (length (hits l)) = omega arith in
-          rw (lt-ltb s (length east) (known s (inl refl)), e) (below (set room n s) (suc n) ∙ rw z)
-      step (inr e) below = rw (lt-ltb s (length east) (known s (inl refl)), e) (below room n)
+          rw (k, e) (below (set room n s) (suc n) ∙ rw z)
+      step (inr e) k below = rw (k, e) (below room n)
 
-  -- a list has only stands of the table, or the walk breaks off in any room
-  whole-or-broken : (l : List ℕ) → ((s : ℕ) → In s l → s < length east) ⊎ ((room : List ℕ) (n : ℕ) → gathered east north rect room n l .tally ≡ Broken)
+  -- where one is not of the table the walk breaks off
+  pub walk-broken : (l room : List ℕ) (n : ℕ) → known l ≡ false → gathered east north rect room n l .tally ≡ Broken
   unfolding gathered
-  whole-or-broken [] = inl (λ s h. absurd h)
-  whole-or-broken (s ∷ l) = step (le-or-lt (length east) s) (whole-or-broken l)
+  walk-broken [] room n q = never true refl q
+  walk-broken (s ∷ l) room n q = step (first s) (walk-broken l)
     where
-      known : s < length east → ((x : ℕ) → In x l → x < length east) → (x : ℕ) → In x (s ∷ l) → x < length east
-      known h below x (inl e) = rw e h
-      known h below x (inr k) = below x k
+      step : First s → ((room : List ℕ) (n : ℕ) → known l ≡ false → gathered east north rect room n l .tally ≡ Broken) → gathered east north rect room n (s ∷ l) .tally ≡ Broken
+      step (off h) below = rw (le-ltb s (length east) h)
+      step (hit h e) below = let t = lt-ltb s (length east) h in rw (t, e) (below (set room n s) (suc n) (rw t at q))
+      step (miss h e) below = let t = lt-ltb s (length east) h in rw (t, e) (below room n (rw t at q))
 
-      later : s < length east → ((room : List ℕ) (n : ℕ) → gathered east north rect room n l .tally ≡ Broken) → (room : List ℕ) (n : ℕ) → gathered east north rect room n (s ∷ l) .tally ≡ Broken
-      later h below room n =
-          ⊎-elim
-          (λ (e : inside east north rect s ≡ true). rw (lt-ltb s (length east) h, e) (below (set room n s) (suc n)))
-          (λ (e : inside east north rect s ≡ false). rw (lt-ltb s (length east) h, e) (below room n))
-          (which (inside east north rect s))
-
-      step : (length east ≤ s) ⊎ (s < length east) → ((x : ℕ) → In x l → x < length east) ⊎ ((room : List ℕ) (n : ℕ) → gathered east north rect room n l .tally ≡ Broken)
-          → ((x : ℕ) → In x (s ∷ l) → x < length east) ⊎ ((room : List ℕ) (n : ℕ) → gathered east north rect room n (s ∷ l) .tally ≡ Broken)
-      step (inl h) below = inr (λ room n. rw (le-ltb s (length east) h))
-      step (inr h) (inl below) = inl (known h below)
-      step (inr h) (inr below) = inr (later h below)
-
-  -- so a count is n and the hits, and in any room the hits are what is written
-  pub walk-counts : (l room : List ℕ) (n m : ℕ) → gathered east north rect room n l .tally ≡ Count m
-      → (m ≡ n + length (hits l)) × ((other : List ℕ) → gathered east north rect other n l .room ≡ sets other n (hits l))
-  walk-counts l room n m e = step (whole-or-broken l)
+  -- so a count says that all are of the table, and which were found
+  pub walk-counts : (l room : List ℕ) (n m : ℕ) → gathered east north rect room n l .tally ≡ Count m → (known l ≡ true) × (m ≡ n + length (hits l))
+  walk-counts l room n m e = step (which (known l))
     where
       same : Count m ≡ Count (n + length (hits l)) → m ≡ n + length (hits l)
       same q = cc
 
-      step : ((s : ℕ) → In s l → s < length east) ⊎ ((room : List ℕ) (n : ℕ) → gathered east north rect room n l .tally ≡ Broken)
-          → (m ≡ n + length (hits l)) × ((other : List ℕ) → gathered east north rect other n l .room ≡ sets other n (hits l))
-      step (inl known) = (
-        same (sym e ∙ ap (λ (g : Gathered). g .tally) (walk-whole l room n known)),
-        λ other. ap (λ (g : Gathered). g .room) (walk-whole l other n known),
-      )
-      step (inr broken) = let z : _≡_ {A = ℕ} 0 1 = cc (e, broken room n) in absurd (omega arith)
+      step : (known l ≡ true) ⊎ (known l ≡ false) → (known l ≡ true) × (m ≡ n + length (hits l))
+      step (inl q) = (q, same (sym e ∙ ap (λ (g : Gathered). g .tally) (walk-whole l room n q)))
+      step (inr q) = let z : _≡_ {A = ℕ} 0 1 = cc (e, walk-broken l room n q) in absurd (omega arith)
+
+  pub walk-breaks-off : (l room : List ℕ) (n : ℕ) → gathered east north rect room n l .tally ≡ Broken → known l ≡ false
+  walk-breaks-off l room n e = step (which (known l))
+    where
+      step : (known l ≡ true) ⊎ (known l ≡ false) → known l ≡ false
+      step (inl q) = let z : _≡_ {A = ℕ} 0 1 = cc (e, ap (λ (g : Gathered). g .tally) (walk-whole l room n q)) in absurd (omega arith)
+      step (inr q) = q

@@ -6,5 +6,4 @@ pub mod Fills
 pub mod Fetching
 pub mod Noted
 pub mod Meaning
-pub mod Harmless
 pub mod Promises

@@ -1,44 +1,44 @@
--- On a lawful set the walk from a node finds exactly the range of the node's text: by region, then by number.
--- A node's notes are its entries' runs; a region that is not looked at has no stand in the rectangle. Assumes nothing.
+-- On a lawful set what is fetched from a text's listing is exactly the range of the text: by region, then by number.
+-- What is noted is the entries' runs; a region that is not looked at has no stand in the rectangle. Assumes nothing.
 use mathlib.Core.Path.{_≡_, refl, sym, ap, ap₂, _∙_}
 use mathlib.Core.Logic.{_⊎_, inl, inr}
 use mathlib.Core.Bool.{Bool, true, false}
-use mathlib.Core.List.{List, []}
-use Prim.Native.Nat.{ℕ, _+_, _-_, _*_, _/_, _≤_, _<_}
+use mathlib.Core.List.{List, [], _∷_}
+use Prim.Native.Nat.{ℕ, _≤_, _<_}
 use native.Mathlib.Omega.{arith}
 use lib.Dec.{ltb}
-use lib.ListN.{length, getD, take, drop, length-replicate}
-use lib.Seq.{slice, sets}
-use borrow.Author.Tests.{ltb-false, eqb-true, le-leb}
-use Rattle.base.specs.Lists.{upTo, keep, each, eachList, written, begins, In}
+use lib.ListN.{length, getD, drop, length-replicate}
+use lib.Seq.{slice}
+use borrow.Author.Tests.{eqb-true, le-leb}
+use Rattle.base.specs.Lists.{upTo, keep, each, eachList, In}
 use Rattle.base.proofs.Tests.{which, never, every-of}
-use Rattle.base.proofs.Begins.{begins-at, begins-part, begins-length}
-use Rattle.base.proofs.Members.{in-at, keep-in, keep-none, in-each, each-in, in-eachList, eachList-same, eachList-keep, keep-eachList, drop-take}
+use Rattle.base.proofs.Begins.{begins-part, begins-length}
+use Rattle.base.proofs.Members.{in-at, keep-in, keep-none, in-each, each-in, length-each, in-eachList, eachList-same, eachList-keep, keep-eachList, drop-take}
 use Rattle.base.proofs.Runs.{in-from}
-use Rattle.base.proofs.Shuffles.{shuffle-sym, shuffle-in, sort-shuffle}
 use Rattle.rules.specs.declared.Grid.{Grid}
 use Rattle.rules.specs.declared.Rect.{Rect}
 use Rattle.rules.specs.Places.{regions, inRect}
 use Rattle.rules.specs.Tables.{Table, stands, placeOf}
 use Rattle.rules.specs.Questions.{under, regionOfStand, inRegion, rangeList}
-use Rattle.rules.specs.Indexes.{nodeCount, occupied, regionsUnder, Entry, entryOf, ahead, entriesOf, entryRow, entryWords, nodeRow, orderWords, Index}
+use Rattle.rules.specs.Outcomes.{rangeOutcome}
+use Rattle.rules.specs.Indexes.{occupied, regionsUnder, entryOf, entriesOf, orderWords, Index}
+use Rattle.rules.specs.Indexes as rules
 use Rattle.rules.proofs.Lawful.{SetParts}
-use Rattle.grid.specs.Cells.{cellsBy, cellsOf, hasCell, bothCells, regionsIn}
-use Rattle.grid.proofs.Listed.{listed-by, both-listed}
+use Rattle.grid.specs.declared.cells.Cells.{Cells}
+use Rattle.grid.specs.Cells.{cellsOf, hasCell, bothCells, regionsIn}
+use Rattle.grid.proofs.Listed.{both-listed}
 use Rattle.grid.proofs.Covers.{Edges, covered}
-use Rattle.trie.specs.Trees.{textOf}
 use Rattle.trie.specs.Meaning.{noEntry}
 use Rattle.trie.proofs.Tables.{in-under}
 use Rattle.trie.proofs.Regions.{entry-slice, range-regions}
-use Rattle.trie.proofs.Words.{entries-length, entry-words-length, entries-fit, entry-word}
 use Rattle.trie.proofs.Listing.{order-means}
-use Rattle.trie.proofs.Entries.{entries-mean}
-use Rattle.walk.proofs.Listed.{listing-found}
-use Rattle.range.specs.declared.gather.Tally.the-variants.{Count}
-use Rattle.range.specs.Fetches.{notesOf, entryWord, gathered, tallied, runOf, touched, agree, byCount, filled, blank, notesIn, fetched}
-use Rattle.range.specs.Promises.{fitted}
-use Rattle.range.proofs.Gathers.{sets-written, walk-whole}
-use Rattle.range.proofs.Noted.{Spells, Sound, putAll, note-list, put-at}
+use Rattle.trie.proofs.Entries.{entries-mean, entry-own, entry-there}
+use Rattle.walk.specs.declared.entry.Entry.{Entry}
+use Rattle.walk.specs.Entries.{asRead}
+use Rattle.walk.proofs.Listed.{Lists}
+use Rattle.range.specs.Fetches.{notesOf, runOf, touched, agree, looked, blank, notesIn, fetched}
+use Rattle.range.proofs.Gathers.{known, known-of}
+use Rattle.range.proofs.Noted.{putAll, note-list, put-at}
 
 regions-is : regions ≡ 64
 unfolding regions
@@ -48,75 +48,43 @@ blank-length : length blank ≡ 64
 unfolding blank
 blank-length = length-replicate {A = ℕ} 64 0
 
-module _ (t : Table) (g : Grid) (x : Index) (s : SetParts t g x) (j : ℕ) (lt : j < nodeCount t) where
-  abbrev p : List ℕ
-  p = textOf t j
-
-  -- the stands of region r under the node
+module _ (t : Table) (g : Grid) (x : Index) (s : SetParts t g x) (p : List ℕ) (cells : Cells) (first : ℕ) (lists : Lists t g x p cells first) where
+  -- the stands of region r under the text
   abbrev standsOf : ℕ → List ℕ
   standsOf r = keep (inRegion g t r) (under t p)
 
-  -- ---- the node's entries
-
-  abbrev E : List Entry
-  E = entriesOf t g p
-
-  abbrev first : ℕ
-  first = getD (nodeRow t g j) 7 0
-
-  -- each is that of its region, which holds a stand
-  record OfRegion (y : Entry) : Type 0 where
-    pub small : y .region < regions
-    pub held : occupied t g p (y .region) ≡ true
-    pub same : y ≡ entryOf t g p (y .region)
-
-  entry-own : (y : Entry) → In y E → OfRegion y
-  entry-own y h =
-      let u = in-each (entryOf t g p) (regionsUnder t g p) y (shuffle-in (sort-shuffle ahead (each (entryOf t g p) (regionsUnder t g p))) y h) in
-      let k = keep-in (occupied t g p) (upTo regions) (u .0) (u .1) in
-      rw (u .2) (record { small = omega (arith, in-from 0 regions (u .0) (k .0)); held = k .1; same = refl })
-
-  -- and each such region has one
-  entry-there : (r : ℕ) → In r (regionsUnder t g p) → In (entryOf t g p r) E
-  entry-there r h =
-      shuffle-in (shuffle-sym (sort-shuffle ahead (each (entryOf t g p) (regionsUnder t g p)))) (entryOf t g p r)
-      (each-in (entryOf t g p) (regionsUnder t g p) r h)
-
-  entry-sound : (y : Entry) → In y E → Sound (stands t) y
-  entry-sound y h =
-      let a = in-at noEntry y E h in
-      let b = entries-mean t g (s .table) p .bounds (a .0) (a .1) .1 in
-      record { region = omega (arith, entry-own y h .small, regions-is); past = rw (a .2) at b }
-
-  entry-spelled : (i : ℕ) → i < length E → Spells (x .entries) (first + i) (getD E i noEntry)
-  entry-spelled i h = record { region = at 0 (omega arith); first = at 2 (omega arith); past = at 3 (omega arith) }
-    where
-      at : (k : ℕ) → k < 4 → entryWord (x .entries) (first + i) k ≡ getD (entryRow (getD E i noEntry)) k 0
-      at k u =
-          begins-at (entryWords t g) (x .entries) ((first + i) * 4 + k) 0 (s .entries) (omega (arith, entry-words-length t g, entries-fit t g j lt))
-          ∙ entry-word t g noEntry j i k lt (omega (arith, entries-length t g p)) u
-
   -- ---- the notes
 
+  abbrev listed : List Entry
+  listed = each asRead (entriesOf t g p)
+
   abbrev firsts : List ℕ
-  firsts = putAll (λ y. y .first) E blank
+  firsts = putAll (λ y. y .first .0) listed blank
 
   abbrev pasts : List ℕ
-  pasts = putAll (λ y. y .past) E blank
+  pasts = putAll (λ y. y .past .0) listed blank
 
-  notes-are : notesIn (x .entries) (stands t) (cellsBy (occupied t g p)) first ≡ notesOf firsts pasts true
+  notes-are : notesIn (x .entries) (stands t) cells first ≡ notesOf firsts pasts true
   notes-are =
-      let many : length (regionsIn (cellsBy (occupied t g p))) ≡ length E = ap length (listed-by (occupied t g p)) ∙ sym (entries-length t g p) in
-      let all : first + length E ≤ length (x .entries) / 4 =
-      omega (arith, entries-fit t g j lt, entry-words-length t g, begins-length (entryWords t g) (x .entries) (s .entries)) in
-      rw many (note-list (x .entries) (stands t) noEntry E first blank blank all entry-spelled entry-sound)
+      let many : length (regionsIn cells) ≡ length listed = lists .many ∙ sym (length-each asRead (entriesOf t g p)) in
+      rw many (note-list (x .entries) (stands t) listed first blank blank (lists .spelled (stands t) (omega arith)))
 
   -- a place that each entry has is noted at its region
-  noted : (place : Entry → ℕ) (r : ℕ) → In r (regionsUnder t g p) → getD (putAll place E blank) r 0 ≡ place (entryOf t g p r)
+  noted : (place : Entry → ℕ) (r : ℕ) → In r (regionsUnder t g p) → getD (putAll place listed blank) r 0 ≡ place (asRead (entryOf t g p r))
   noted place r h =
-      put-at place (λ k. place (entryOf t g p k)) E blank
-      (λ y k. let o = entry-own y k in (ap place (o .same), omega (arith, o .small, regions-is, blank-length)))
-      r (inl (each-in (λ y. y .region) E (entryOf t g p r) (entry-there r h)))
+      put-at place (λ k. place (asRead (entryOf t g p k))) listed blank own
+      r (inl (each-in (λ y. y .region) listed (asRead (entryOf t g p r)) (each-in asRead (entriesOf t g p) (entryOf t g p r) (entry-there t g (s .table) p r h))))
+    where
+      own : (y : Entry) → In y listed → (place y ≡ place (asRead (entryOf t g p (y .region)))) × (y .region < length blank)
+      own y k =
+          let e = in-each asRead (entriesOf t g p) y k in
+          let o = entry-own t g (s .table) p (e .0) (e .1) in
+          rw (e .2) (ap (λ (e : rules.Entry). place (asRead e)) (o .same), omega (arith, o .small, regions-is, blank-length))
+
+  past-within : (r : ℕ) → In r (regionsUnder t g p) → entryOf t g p r .past ≤ stands t
+  past-within r h =
+      let a = in-at noEntry (entryOf t g p r) (entriesOf t g p) (entry-there t g (s .table) p r h) in
+      rw (a .2) at (entries-mean t g (s .table) p .bounds (a .0) (a .1) .1)
 
   -- so a region's run has its stands
   run-is : (r : ℕ) → In r (regionsUnder t g p) → runOf (x .order) firsts pasts r ≡ standsOf r
@@ -125,8 +93,8 @@ module _ (t : Table) (g : Grid) (x : Index) (s : SetParts t g x) (j : ℕ) (lt :
       let small : r < regions = omega (arith, in-from 0 regions r (k .0)) in
       let e = entryOf t g p r in
       let O = orderWords t g in
-      ap₂ (λ (a z : ℕ). slice a z (x .order)) (noted (λ y. y .first) r h) (noted (λ y. y .past) r h)
-      ∙ ap (drop (e .first)) (begins-part O (x .order) (e .past) (s .order) (omega (arith, order-means t g (s .table) .whole, entry-sound e (entry-there r h) .past)))
+      ap₂ (λ (a z : ℕ). slice a z (x .order)) (noted (λ y. y .first .0) r h) (noted (λ y. y .past .0) r h)
+      ∙ ap (drop (e .first)) (begins-part O (x .order) (e .past) (s .order) (omega (arith, order-means t g (s .table) .whole, past-within r h)))
       ∙ drop-take (e .first) (e .past) O
       ∙ entry-slice t g (s .table .ordered) p r small (k .1)
 
@@ -153,25 +121,27 @@ module _ (t : Table) (g : Grid) (x : Index) (s : SetParts t g x) (j : ℕ) (lt :
     in-it i = inRect rect (placeOf t i)
 
     -- the regions that are looked at
-    abbrev looked : List ℕ
-    looked = keep (hasCell (cellsOf g rect)) (regionsUnder t g p)
+    abbrev looked-at : List ℕ
+    looked-at = keep (hasCell (cellsOf g rect)) (regionsUnder t g p)
 
-    looked-at : regionsIn (bothCells (cellsBy (occupied t g p)) (cellsOf g rect)) ≡ looked
+    looked-are : regionsIn (bothCells cells (cellsOf g rect)) ≡ looked-at
     unfolding cellsOf
-    looked-at = both-listed (occupied t g p) _
+    looked-are = ap (λ (c : Cells). regionsIn (bothCells c (cellsOf g rect))) (lists .regions) ∙ both-listed (occupied t g p) _
 
     abbrev seen : List ℕ
-    seen = eachList standsOf looked
+    seen = eachList standsOf looked-at
 
-    seen-are : touched (x .order) firsts pasts looked ≡ seen
-    seen-are = eachList-same (runOf (x .order) firsts pasts) standsOf looked (λ r h. run-is r (keep-in (hasCell (cellsOf g rect)) (regionsUnder t g p) r h .0))
+    seen-are : touched (x .order) firsts pasts looked-at ≡ seen
+    seen-are = eachList-same (runOf (x .order) firsts pasts) standsOf looked-at (λ r h. run-is r (keep-in (hasCell (cellsOf g rect)) (regionsUnder t g p) r h .0))
 
     -- each is of the table
-    seen-known : (i : ℕ) → In i seen → i < length (t .east)
-    seen-known i h =
-        let u = in-eachList standsOf looked i h in
+    seen-known : known (t .east) (t .north) rect seen ≡ true
+    seen-known =
+        known-of (t .east) (t .north) rect seen
+        (λ i h.
+        let u = in-eachList standsOf looked-at i h in
         let v = keep-in (inRegion g t (u .0)) (under t p) i (u .2) in
-        omega (arith, in-under t p i (v .0) .0, s .table .shaped .easts)
+        omega (arith, in-under t p i (v .0) .0, s .table .shaped .easts))
 
     -- a region that is not looked at has no stand in the rectangle
     none-missed : Edges rect → (r : ℕ) → hasCell (cellsOf g rect) r ≡ false → keep in-it (standsOf r) ≡ []
@@ -191,41 +161,16 @@ module _ (t : Table) (g : Grid) (x : Index) (s : SetParts t g x) (j : ℕ) (lt :
     -- so those that are in it are the range
     range-is : Edges rect → keep in-it seen ≡ rangeList t g p rect
     range-is e =
-        keep-eachList in-it standsOf looked
+        keep-eachList in-it standsOf looked-at
         ∙ sym (eachList-keep (λ r. keep in-it (standsOf r)) (hasCell (cellsOf g rect)) (regionsUnder t g p) (none-missed e))
         ∙ sym (range-regions t g (s .table .ordered) p rect)
 
-    -- ---- the answer
+    -- ---- the outcome
 
-    module _ (edges : Edges rect) (room : List ℕ) where
-      abbrev L : List ℕ
-      L = rangeList t g p rect
-
-      walked : (other : List ℕ) → gathered (t .east) (t .north) rect other 0 (touched (x .order) firsts pasts looked) ≡ tallied (Count (length L)) (sets other 0 L)
-      walked other =
-          let z : 0 + length L ≡ length L = omega arith in
-          ap (gathered (t .east) (t .north) rect other 0) seen-are
-          ∙ walk-whole (t .east) (t .north) rect seen other 0 seen-known
-          ∙ rw (range-is edges, z)
-
-      filled-is : filled (t .east) (t .north) (x .order) firsts pasts looked rect room ≡ fitted L room
-      unfolding filled
-      filled-is = rw (walked [], walked room) (step (which (ltb (length room) (length L))))
-        where
-          step : (ltb (length room) (length L) ≡ true) ⊎ (ltb (length room) (length L) ≡ false) → byCount (Count (length L)) (sets room 0 L) room ≡ fitted L room
-          step (inl q) = rw q
-          step (inr q) =
-              rw (q, sets-written L room (ltb-false (length room) (length L) q))
-
-      pub fetch-means : fetched (t .east) (t .north) g (x .order) (x .nodes) (x .entries) j rect room ≡ fitted L room
-      unfolding fetched
-      fetch-means =
-          rw (
-            s .table .gridded,
-            agreed,
-            listing-found t g (x .nodes) (s .nodes) j lt,
-            s .table .shaped .easts,
-            notes-are,
-            looked-at,
-          )
-          filled-is
+    pub fetch-means : Edges rect → (room : List ℕ)
+        → fetched (t .east) (t .north) g (x .order) (x .entries) cells first rect room ≡ rangeOutcome 0 (rangeList t g p rect) (room ∷ [])
+    unfolding fetched looked
+    fetch-means edges room =
+        let notes : notesIn (x .entries) (length (t .east)) cells first ≡ notesOf firsts pasts true =
+        ap (λ (n : ℕ). notesIn (x .entries) n cells first) (s .table .shaped .easts) ∙ notes-are in
+        rw (s .table .gridded, agreed, notes, looked-are, seen-are, seen-known, range-is edges)

@@ -4,58 +4,28 @@ use mathlib.Core.Path.{_≡_, refl, _∙_}
 use mathlib.Core.Logic.{_⊎_, inl, inr}
 use mathlib.Core.Bool.{true, false}
 use mathlib.Core.List.{List, [], _∷_}
-use Prim.Native.Nat.{ℕ, suc, _+_, _/_, _≤_, _<_}
-use native.Mathlib.Omega.{arith}
+use Prim.Native.Nat.{ℕ, suc, _<_}
 use lib.Dec.{eqb}
 use lib.ListN.{length, getD, set, length-set}
 use lib.Seq.{getD-set-same, getD-set-other}
-use borrow.Author.Tests.{eqb-true, eqb-false, lt-ltb, le-leb}
+use borrow.Author.Tests.{eqb-true, eqb-false}
 use Rattle.base.specs.Lists.{each, In}
-use Rattle.base.proofs.Tests.{which, every-of}
-use Rattle.rules.specs.Indexes.{Entry}
-use Rattle.range.specs.Fetches.{notesOf, entryWord, readable, noteFrom}
-
--- the words of entry e are x's
-pub record Spells (words : List ℕ) (e : ℕ) (x : Entry) : Type 0 where
-  pub region : entryWord words e 0 ≡ x .region
-  pub first : entryWord words e 2 ≡ x .first
-  pub past : entryWord words e 3 ≡ x .past
-
--- an entry can be gone by
-pub record Sound (stands : ℕ) (x : Entry) : Type 0 where
-  pub region : x .region < 64
-  pub past : x .past ≤ stands
+use Rattle.base.proofs.Tests.{which}
+use Rattle.walk.specs.declared.entry.Entry.{Entry}
+use Rattle.walk.specs.Entries.{Spelled}
+use Rattle.range.specs.Fetches.{notesOf, noteFrom}
 
 -- for each entry in turn a place of it, put at its region
 abbrev pub putAll : (Entry → ℕ) → List Entry → List ℕ → List ℕ
 putAll place [] l = l
 putAll place (x ∷ es) l = putAll place es (set l (x .region) (place x))
 
-pub note-list : (words : List ℕ) (stands : ℕ) (d : Entry) (es : List Entry) (e : ℕ) (firsts pasts : List ℕ) → e + length es ≤ length words / 4
-    → ((i : ℕ) → i < length es → Spells words (e + i) (getD es i d)) → ((x : Entry) → In x es → Sound stands x)
-    → noteFrom words stands (length es) e firsts pasts ≡ notesOf (putAll (λ x. x .first) es firsts) (putAll (λ x. x .past) es pasts) true
-unfolding noteFrom readable
-note-list words stands d [] e firsts pasts n w f = refl
-note-list words stands d (x ∷ es) e firsts pasts n w f =
-    let z : e + 0 ≡ e = omega arith in
-    let v : Spells words e x = rw z at (w 0 (omega arith)) in
-    let g = f x (inl refl) in
-    let can : readable words stands e ≡ true =
-    every-of _ (
-      lt-ltb e (length words / 4) (omega arith),
-      (
-        lt-ltb (entryWord words e 0) 64 (omega (arith, v .region, g .region)),
-        (
-          le-leb (entryWord words e 3) stands (omega (arith, v .past, g .past)),
-          tt,
-        ),
-      ),
-    ) in
-    rw (can, v .region, v .first, v .past)
-    (note-list words stands d es (suc e) (set firsts (x .region) (x .first)) (set pasts (x .region) (x .past)) (omega arith) next (λ y k. f y (inr k)))
-  where
-    next : (i : ℕ) → i < length es → Spells words (suc e + i) (getD es i d)
-    next i h = let q : e + suc i ≡ suc e + i = omega arith in rw q at (w (suc i) (omega arith))
+pub note-list : (words : List ℕ) (stands : ℕ) (es : List Entry) (e : ℕ) (firsts pasts : List ℕ) → Spelled words stands e es
+    → noteFrom words stands (length es) e firsts pasts ≡ notesOf (putAll (λ x. x .first .0) es firsts) (putAll (λ x. x .past .0) es pasts) true
+unfolding noteFrom
+note-list words stands [] e firsts pasts w = refl
+note-list words stands (x ∷ es) e firsts pasts w =
+    rw (w .0) (note-list words stands es (suc e) (set firsts (x .region) (x .first .0)) (set pasts (x .region) (x .past .0)) (w .1))
 
 -- where a region's place does not depend on the entry, it stands at each region that an entry is of
 pub put-at : (place : Entry → ℕ) (φ : ℕ → ℕ) (es : List Entry) (l : List ℕ) → ((x : Entry) → In x es → (place x ≡ φ (x .region)) × (x .region < length l))

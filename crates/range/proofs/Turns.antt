@@ -13,8 +13,11 @@ use borrow.Author.Tests.{leb-true}
 use Rattle.base.proofs.Tests.{every-at}
 use Rattle.base.proofs.Members.{first-rest, empty-of, length-keep}
 use Rattle.rules.specs.declared.Rect.{Rect}
+use Rattle.walk.specs.declared.entry.Entry.{Entry}
+use Rattle.walk.specs.declared.entry.EntryRead.the-variants as entry
+use Rattle.walk.specs.Entries.{entryRead}
 use Rattle.range.specs.declared.gather.Tally.the-variants.{Count, Broken}
-use Rattle.range.specs.Fetches.{notesOf, entryWord, readable, noteFrom, inside, Gathered, tallied, gathered, runOf, touched, agree, Ready}
+use Rattle.range.specs.Fetches.{notesOf, noteFrom, inside, Gathered, tallied, gathered, runOf, touched, agree, Ready, Run}
 use Rattle.range.proofs.Gathers.{stand-off, stand-in, stand-out, walk-on, walk-breaks, walk-size, walk-counts}
 
 -- ---- note: at entry e, which is left entries short of the end
@@ -29,7 +32,7 @@ module _ (words : List ℕ) (stands count from : ℕ) (firsts₀ pasts₀ : List
   note-begins = record { left = count; ends = refl; same = refl }
 
   module _ (end : ℕ) (firsts pasts : List ℕ) (e : ℕ) (w : Noting words stands count from firsts₀ pasts₀ end firsts pasts e) where
-    pub note-breaks : e < end → readable words stands e ≡ false → notesOf firsts pasts false ≡ noteFrom words stands count from firsts₀ pasts₀
+    pub note-breaks : e < end → entryRead words stands e ≡ entry.Broken → notesOf firsts pasts false ≡ noteFrom words stands count from firsts₀ pasts₀
     unfolding noteFrom
     note-breaks l q = go (w .left) (w .ends) (w .same)
       where
@@ -37,13 +40,13 @@ module _ (words : List ℕ) (stands count from : ℕ) (firsts₀ pasts₀ : List
         go zero z s = absurd (omega arith)
         go (suc f) z s = sym (s ∙ rw q)
 
-    pub note-more : e < end → readable words stands e ≡ true
-        → Noting words stands count from firsts₀ pasts₀ end (set firsts (entryWord words e 0) (entryWord words e 2)) (set pasts (entryWord words e 0) (entryWord words e 3)) (e + 1)
+    pub note-more : e < end → (x : Entry) → entryRead words stands e ≡ entry.At x
+        → Noting words stands count from firsts₀ pasts₀ end (set firsts (x .region) (x .first .0)) (set pasts (x .region) (x .past .0)) (e + 1)
     unfolding noteFrom
-    note-more l q = go (w .left) (w .ends) (w .same)
+    note-more l x q = go (w .left) (w .ends) (w .same)
       where
         go : (f : ℕ) → e + f ≡ end → noteFrom words stands count from firsts₀ pasts₀ ≡ noteFrom words stands f e firsts pasts
-            → Noting words stands count from firsts₀ pasts₀ end (set firsts (entryWord words e 0) (entryWord words e 2)) (set pasts (entryWord words e 0) (entryWord words e 3)) (e + 1)
+            → Noting words stands count from firsts₀ pasts₀ end (set firsts (x .region) (x .first .0)) (set pasts (x .region) (x .past .0)) (e + 1)
         go zero z s = absurd (omega arith)
         go (suc f) z s = record { left = f; ends = omega arith; same = s ∙ rw (q, add-one e) }
 
@@ -138,19 +141,19 @@ module _ (east north : List ℤ) (order firsts pasts : List ℕ) (rect : Rect) (
       here-and-later = rw least (ap (touched order firsts pasts) (first-rest left some .0))
 
       -- what the run's walk asks for
-      pub sweep-room : (length east ≤ length north) × (getD pasts r 0 ≤ length order) × (n + getD pasts r 0 < 4294967296)
+      pub sweep-room : Run east north order (getD pasts r 0) n
       sweep-room =
           let a = w .ready .agreed in
           let e = w .ready .ends r in
           let o = places-enough east north order a in
           let f = stands-few east north order a in
-          (norths-enough east north order a, omega arith, omega (arith, w .few))
+          record { placed = norths-enough east north order a; within = omega arith; few = omega (arith, w .few) }
 
       pub sweep-on : (m : ℕ) (found′ left′ : List ℕ) → tallied (Count m) found′ ≡ gathered east north rect found n (runOf order firsts pasts r) → left′ ≡ drop 1 left
           → Sweeping east north order firsts pasts rect regions found₀ found′ m left′
       sweep-on m found′ left′ e d =
           let run = runOf order firsts pasts r in
-          let count = walk-counts east north rect run found n m (ap (λ (g : Gathered). g .tally) (sym e)) .0 in
+          let count = walk-counts east north rect run found n m (ap (λ (g : Gathered). g .tally) (sym e)) .1 in
           let short = length-keep (inside east north rect) run in
           let most = slice-short (getD firsts r 0) (getD pasts r 0) order in
           let within = w .ready .ends r in

@@ -1,25 +1,26 @@
--- What the range question computes past its text's node, on any words: runs, the stands in the rectangle, the answer and the room.
+-- What the range question computes past its text's listing, on any words: runs, the stands in the rectangle, the outcome.
 use mathlib.Core.Path.{_≡_}
 use mathlib.Core.Bool.{Bool, true, false, cond, _&&_}
 use mathlib.Core.List.{List, [], _∷_}
-use Prim.Native.Nat.{ℕ, zero, suc, _+_, _*_, _/_, _≤_}
+use Prim.Native.Nat.{ℕ, zero, suc, _+_, _≤_, _<_}
 use lib.Dec.{ltb, leb}
 use lib.IntN.{ℤ}
 use lib.ListN.{length, getD, set, replicate}
 use lib.Seq.{slice}
-use Rattle.base.specs.Lists.{every, eachList}
+use Rattle.base.specs.Lists.{all, every, eachList, keep}
 use Rattle.rules.specs.declared.Grid.{Grid}
 use Rattle.rules.specs.declared.Rect.{Rect}
 use Rattle.rules.specs.declared.RangeAnswer.{RangeAnswer}
-use Rattle.rules.specs.declared.RangeAnswer.the-variants.{Found, Refused}
-use Rattle.rules.specs.declared.Refusal.the-variants.{NotLawful, RoomTooSmall}
+use Rattle.rules.specs.declared.RangeAnswer.the-variants.{Refused}
+use Rattle.rules.specs.declared.Refusal.the-variants.{NotLawful}
 use Rattle.rules.specs.Places.{gridLawful, inRect}
 use Rattle.rules.specs.Tables.{placeIn}
+use Rattle.rules.specs.Outcomes.{Outcome, refused, rangeOutcome}
 use Rattle.grid.specs.declared.cells.Cells.{Cells}
 use Rattle.grid.specs.Cells.{cellsOf, bothCells, regionsIn}
-use Rattle.walk.specs.declared.listing.Listing.{Listing}
-use Rattle.walk.specs.declared.listing.Listing.the-variants as listings
-use Rattle.walk.specs.Listings.{listingIn}
+use Rattle.walk.specs.declared.entry.EntryRead.{EntryRead}
+use Rattle.walk.specs.declared.entry.EntryRead.the-variants as entry
+use Rattle.walk.specs.Entries.{entryRead}
 use Rattle.range.specs.declared.gather.Tally.{Tally}
 use Rattle.range.specs.declared.gather.Tally.the-variants as tallies
 
@@ -34,26 +35,16 @@ pub record Notes : Type 0 where
 abbrev pub notesOf : List ℕ → List ℕ → Bool → Notes
 notesOf firsts pasts whole = record { firsts = firsts; pasts = pasts; whole = whole }
 
--- word k of entry e, counted from 0; 0 outside
-abbrev pub entryWord : List ℕ → ℕ → ℕ → ℕ
-entryWord words e k = getD words (e * 4 + k) 0
+-- an entry's run put over what is noted
+abbrev pub noteBy : EntryRead → List ℕ → List ℕ → (List ℕ → List ℕ → Notes) → Notes
+noteBy (entry.At e) firsts pasts next = next (set firsts (e .region) (e .first .0)) (set pasts (e .region) (e .past .0))
+noteBy entry.Broken firsts pasts next = notesOf firsts pasts false
 
--- whether entry e is there, of a region, and its run within the stands
-unfoldable pub readable : List ℕ → ℕ → ℕ → Bool
-readable words stands e =
-    every
-    (ltb e (length words / 4)
-    ∷ ltb (entryWord words e 0) 64
-    ∷ leb (entryWord words e 3) stands
-    ∷ [])
-
--- those of count entries from e on, put over what is noted
+-- those of count entries from a number on
 unfoldable pub noteFrom : List ℕ → ℕ → ℕ → ℕ → List ℕ → List ℕ → Notes
-noteFrom words stands zero e firsts pasts = notesOf firsts pasts true
-noteFrom words stands (suc count) e firsts pasts =
-    cond (readable words stands e)
-    (noteFrom words stands count (suc e) (set firsts (entryWord words e 0) (entryWord words e 2)) (set pasts (entryWord words e 0) (entryWord words e 3)))
-    (notesOf firsts pasts false)
+noteFrom words stands zero number firsts pasts = notesOf firsts pasts true
+noteFrom words stands (suc count) number firsts pasts =
+    noteBy (entryRead words stands number) firsts pasts (λ firsts pasts. noteFrom words stands count (suc number) firsts pasts)
 
 -- ---- stands in the rectangle
 
@@ -93,46 +84,34 @@ pub record Ready (east north : List ℤ) (order pasts : List ℕ) : Type 0 where
   pub agreed : agree east north order ≡ true
   pub ends : (r : ℕ) → getD pasts r 0 ≤ length east
 
-pub record Outcome : Type 0 where
-  pub answer : RangeAnswer
-  pub room : List ℕ
-
-abbrev pub outcome : RangeAnswer → List ℕ → Outcome
-outcome answer room = record { answer = answer; room = room }
+-- what the walk through one run asks for, behind as many as were found before
+pub record Run (east north : List ℤ) (order : List ℕ) (past before : ℕ) : Type 0 where
+  pub placed : length east ≤ length north
+  pub within : past ≤ length order
+  pub few : before + past < 4294967296
 
 abbrev pub unlawful : RangeAnswer
 unlawful = Refused NotLawful 0
 
--- by the count: the room is left as it was, or filled
-abbrev pub byCount : Tally → List ℕ → List ℕ → Outcome
-byCount tallies.Broken filled room = outcome unlawful room
-byCount (tallies.Count n) filled room = cond (ltb (length room) n) (outcome (Refused RoomTooSmall n) room) (outcome (Found n) filled)
-
-unfoldable pub filled : List ℤ → List ℤ → List ℕ → List ℕ → List ℕ → List ℕ → Rect → List ℕ → Outcome
-filled east north order firsts pasts regions rect room =
-    byCount (gathered east north rect [] 0 (touched order firsts pasts regions) .tally)
-    (gathered east north rect room 0 (touched order firsts pasts regions) .room)
-    room
+-- the outcome of some stands that were looked at: 7 where one is not of the table
+unfoldable pub looked : List ℤ → List ℤ → Rect → List ℕ → List ℕ → Outcome
+looked east north rect seen room =
+    cond (all (λ s. ltb s (length east)) seen) (rangeOutcome 0 (keep (inside east north rect) seen) (room ∷ [])) (refused 7 (room ∷ []))
 
 unfoldable pub blank : List ℕ
 blank = replicate 64 0
 
--- those of a node with these regions, from its first entry on
+-- the runs of a listing with these regions, from its first entry on
 abbrev pub notesIn : List ℕ → ℕ → Cells → ℕ → Notes
 notesIn entries stands cells first = noteFrom entries stands (length (regionsIn cells)) first blank blank
 
--- with the node's list of entries in hand
-abbrev pub fetchedBy : Listing → List ℤ → List ℤ → Grid → List ℕ → List ℕ → Rect → List ℕ → Outcome
-fetchedBy listings.Broken east north grid order entries rect room = outcome unlawful room
-fetchedBy (listings.Entries cells first) east north grid order entries rect room =
-    let notes : Notes = notesIn entries (length east) cells first in
-    cond (notes .whole)
-    (filled east north order (notes .firsts) (notes .pasts) (regionsIn (bothCells cells (cellsOf grid rect))) rect room)
-    (outcome unlawful room)
+-- by the notes: of the regions that the rectangle touches every stand is looked at
+abbrev pub fetchedBy : Notes → List ℤ → List ℤ → List ℕ → List ℕ → Rect → List ℕ → Outcome
+fetchedBy notes east north order wanted rect room =
+    cond (notes .whole) (looked east north rect (touched order (notes .firsts) (notes .pasts) wanted) room) (refused 7 (room ∷ []))
 
--- past the node
-unfoldable pub fetched : List ℤ → List ℤ → Grid → List ℕ → List ℕ → List ℕ → ℕ → Rect → List ℕ → Outcome
-fetched east north grid order nodes entries j rect room =
+unfoldable pub fetched : List ℤ → List ℤ → Grid → List ℕ → List ℕ → Cells → ℕ → Rect → List ℕ → Outcome
+fetched east north grid order entries cells first rect room =
     cond (gridLawful grid && agree east north order)
-    (fetchedBy (listingIn nodes j) east north grid order entries rect room)
-    (outcome unlawful room)
+    (fetchedBy (notesIn entries (length east) cells first) east north order (regionsIn (bothCells cells (cellsOf grid rect))) rect room)
+    (refused 7 (room ∷ []))

@@ -1,12 +1,13 @@
 // The stands of some regions' runs, region by region, each tested against the rectangle: counted, and those that the room holds written.
 // So a small room of one's own serves to count, and to keep what was found until it is known to fit the caller's.
 ghost use mathlib.Core.Path.{_≡_};
-ghost use Prim.Native.Nat.{_+_, _≤_, _<_};
+ghost use Prim.Native.Nat.{_≤_};
 ghost use lib.ListN.{length, set, take};
 ghost use lib.Seq.{slice};
+ghost use Rattle.base.specs.Lent.{given, after};
 ghost use Rattle.base.specs.Lists.{written};
 ghost use Rattle.grid.specs.Cells.{regionsIn};
-ghost use Rattle.range.specs.Fetches.{tallied, gathered, touched, Ready};
+ghost use Rattle.range.specs.Fetches.{tallied, gathered, touched, Run, Ready};
 use crate::runs::Places;
 use grid::cells::Cells;
 use grid::in_rect;
@@ -28,7 +29,7 @@ pub(crate) const NEAR: usize = 32;
 // The first so many words put at the start of a room.
 pub(crate) fn copy(words: &[u32], count: usize, room: &mut [u32])
     requires { ⌜ (count ≤ length (now words)) × (count ≤ length (now room)) ⌝ }
-    ensures { λ _. ⌜ now (room .exit) ≡ written (take count (now (words .entry))) (now (room .entry)) ⌝ }
+    ensures { λ _. ⌜ after room ≡ written (take count (given words)) (given room) ⌝ }
 {
     let mut i = 0;
     while i < count {
@@ -39,7 +40,7 @@ pub(crate) fn copy(words: &[u32], count: usize, room: &mut [u32])
 
 // A stand put at a place of the room; past its end nothing is put.
 fn put(found: &mut [u32], at: u32, stand: Stand)
-    ensures { λ _. ⌜ now (found .exit) ≡ set (now (found .entry)) at (stand .0) ⌝ }
+    ensures { λ _. ⌜ after found ≡ set (given found) at (stand .0) ⌝ }
 {
     let i = at as usize;
     if i < found.len() {
@@ -58,8 +59,8 @@ fn gather_run(
     found: &mut [u32],
     before: u32,
 ) -> Tally
-    requires { ⌜ (length (now east) ≤ length (now north)) × (past .0 ≤ length (now order)) × (before + past .0 < 4294967296) ⌝ }
-    ensures { λ r. ⌜ tallied r (now (found .exit)) ≡ gathered (now (east .entry)) (now (north .entry)) rect (now (found .entry)) before (slice (first .0) (past .0) (now (order .entry))) ⌝ }
+    requires { ⌜ Run (now east) (now north) (now order) (past .0) before ⌝ }
+    ensures { λ r. ⌜ tallied r (after found) ≡ gathered (given east) (given north) rect (given found) before (slice (first .0) (past .0) (given order)) ⌝ }
 {
     let end = past.0 as usize;
     let mut i = first.0 as usize;
@@ -95,7 +96,7 @@ pub(crate) fn gather(
     found: &mut [u32],
 ) -> Tally
     requires { ⌜ Ready (now east) (now north) (now order) (now pasts) ⌝ }
-    ensures { λ r. ⌜ tallied r (now (found .exit)) ≡ gathered (now (east .entry)) (now (north .entry)) rect (now (found .entry)) 0 (touched (now (order .entry)) (now (firsts .entry)) (now (pasts .entry)) (regionsIn regions)) ⌝ }
+    ensures { λ r. ⌜ tallied r (after found) ≡ gathered (given east) (given north) rect (given found) 0 (touched (given order) (given firsts) (given pasts) (regionsIn regions)) ⌝ }
 {
     let mut n = 0;
     let mut left = regions;

@@ -1,11 +1,15 @@
-// The range question: from a typed text to its node, and from there to the stands in the rectangle, written to the caller's room.
-// `runs` notes where each region's stands stand in the order, `gather` goes through them. No stand is reached but through the node.
+// The range question: from a text's listing to the stands in the rectangle, written to the caller's room.
+// `runs` notes where each region's stands stand in the order, `gather` goes through them. No stand is reached but through the listing.
 ghost use mathlib.Core.Path.{_≡_};
+ghost use mathlib.Core.List.{[], _∷_};
+ghost use Rattle.base.specs.Lent.{given, after};
 ghost use Rattle.grid.specs.Cells.{regionsIn};
-ghost use Rattle.rules.specs.Tables.{tableOf};
-ghost use Rattle.rules.specs.Indexes.{indexOf};
-ghost use Rattle.range.specs.Promises.{RangePromise, FromPromise};
-ghost use Rattle.range.specs.Fetches.{agree, outcome, unlawful, Ready, filled, fetched};
+ghost use Rattle.rules.specs.Tables.{tableIn};
+ghost use Rattle.rules.specs.Outcomes.{rangeCame};
+ghost use Rattle.rules.specs.Indexes.{indexIn};
+ghost use Rattle.rules.specs.Promises.{RangePromise};
+ghost use Rattle.range.specs.Promises.{FromListing};
+ghost use Rattle.range.specs.Fetches.{agree, unlawful, touched, Ready, looked, fetched};
 
 mod gather;
 mod runs;
@@ -17,20 +21,16 @@ use gather::gather;
 use grid::cells::Cells;
 use grid::cells::cells_of;
 use rules::Grid;
-use rules::Node;
 use rules::RangeAnswer;
 use rules::Rect;
 use rules::Refusal;
 use rules::Stand;
 use rules::Verdict;
 use runs::Places;
-use runs::REGIONS;
 use runs::note;
 use table::typed::text_verdict;
-use walk::Child;
 use walk::listing::Listing;
 use walk::listing::listing_of;
-use walk::node_of;
 
 // The words cannot be those of a lawful set.
 fn unlawful() -> RangeAnswer
@@ -44,7 +44,7 @@ fn unlawful() -> RangeAnswer
 
 // Whether there is a place for each stand, and a place in the order.
 fn agree(east: &[i32], north: &[i32], order: &[u32]) -> bool
-    ensures { λ r. ⌜ r ≡ agree (now (east .entry)) (now (north .entry)) (now (order .entry)) ⌝ }
+    ensures { λ r. ⌜ r ≡ agree (given east) (given north) (given order) ⌝ }
 {
     if Stand::MOST < east.len() {
         return false;
@@ -68,7 +68,7 @@ fn fill(
     found: &mut [u32],
 ) -> RangeAnswer
     requires { ⌜ Ready (now east) (now north) (now order) (now pasts) ⌝ }
-    ensures { λ r. ⌜ outcome r (now (found .exit)) ≡ filled (now (east .entry)) (now (north .entry)) (now (order .entry)) (now (firsts .entry)) (now (pasts .entry)) (regionsIn regions) rect (now (found .entry)) ⌝ }
+    ensures { λ r. ⌜ rangeCame r (after found) ≡ looked (given east) (given north) rect (touched (given order) (given firsts) (given pasts) (regionsIn regions)) (given found) ⌝ }
 {
     let mut near = [0u32; NEAR];
     let Tally::Count(matches) = gather(east, north, order, regions, firsts, pasts, rect, &mut near)
@@ -90,19 +90,19 @@ fn fill(
     RangeAnswer::Found(matches)
 }
 
-// The stands under a node that are in a rectangle, by region and then by number.
-fn range_at(
+// The listed stands that are in a rectangle, by region and then by number.
+fn range_listed(
     east: &[i32],
     north: &[i32],
     grid: Grid,
     order: &[u32],
-    nodes: &[u32],
     entries: &[u32],
-    node: Node,
+    regions: Cells,
+    first: u32,
     rect: Rect,
     found: &mut [u32],
 ) -> RangeAnswer
-    ensures { λ r. ⌜ outcome r (now (found .exit)) ≡ fetched (now (east .entry)) (now (north .entry)) grid (now (order .entry)) (now (nodes .entry)) (now (entries .entry)) (node .0) rect (now (found .entry)) ⌝ }
+    ensures { λ r. ⌜ rangeCame r (after found) ≡ fetched (given east) (given north) grid (given order) (given entries) regions first rect (given found) ⌝ }
 {
     if !grid::lawful(grid) {
         return unlawful();
@@ -110,15 +110,11 @@ fn range_at(
     if !agree(east, north, order) {
         return unlawful();
     }
-    let Listing::Entries(regions, first) = listing_of(nodes, node) else {
-        return unlawful();
-    };
-    let stands = east.len() as u32;
-    let mut firsts: Places = [0; REGIONS];
-    let mut pasts: Places = [0; REGIONS];
+    let mut firsts: Places = [0; Grid::REGIONS];
+    let mut pasts: Places = [0; Grid::REGIONS];
     if !note(
         entries,
-        stands,
+        east.len(),
         first,
         regions.count(),
         &mut firsts,
@@ -130,19 +126,18 @@ fn range_at(
     fill(east, north, order, wanted, &firsts, &pasts, rect, found)
 }
 
-// The question from where the walk along a text came to; the text itself is no more needed.
+// The question from a text's listing; the text itself is no more needed.
 pub fn range_from(
     east: &[i32],
     north: &[i32],
     grid: Grid,
     order: &[u32],
-    nodes: &[u32],
     entries: &[u32],
-    at: Child,
+    at: Listing,
     rect: Rect,
     found: &mut [u32],
 ) -> RangeAnswer
-    ensures { λ a. ⌜ FromPromise (now (east .entry)) (now (north .entry)) grid (indexOf (now (order .entry)) (now (nodes .entry)) (now (entries .entry))) at rect (now (found .entry)) (now (found .exit)) a ⌝ }
+    ensures { λ a. ⌜ FromListing (given east) (given north) grid (given order) (given entries) at rect (given found ∷ []) (rangeCame a (after found)) ⌝ }
 {
     if !grid::rect_lawful(rect) {
         return RangeAnswer::Refused {
@@ -151,9 +146,19 @@ pub fn range_from(
         };
     }
     match at {
-        Child::At(node) => { range_at(east, north, grid, order, nodes, entries, node, rect, found) }
-        Child::Nowhere => RangeAnswer::Found(0),
-        Child::Broken => unlawful(),
+        Listing::Entries(regions, first) => range_listed(
+            east,
+            north,
+            grid,
+            order,
+            entries,
+            regions,
+            first,
+            rect,
+            found,
+        ),
+        Listing::Nowhere => RangeAnswer::Found(0),
+        Listing::Broken => unlawful(),
     }
 }
 
@@ -173,11 +178,11 @@ pub fn range(
     rect: Rect,
     found: &mut [u32],
 ) -> RangeAnswer
-    ensures { λ a. ⌜ RangePromise (tableOf (now (text .entry)) (now (starts .entry)) (now (east .entry)) (now (north .entry)) (now (score .entry))) grid (indexOf (now (order .entry)) (now (nodes .entry)) (now (entries .entry))) (now (typed .entry)) rect (now (found .entry)) (now (found .exit)) a ⌝ }
+    ensures { λ a. ⌜ RangePromise (tableIn text starts east north score) grid (indexIn order nodes entries) (given typed) rect (given found ∷ []) (rangeCame a (after found)) ⌝ }
 {
     if let Verdict::Refused(why) = text_verdict(typed) {
         return RangeAnswer::Refused { why, matches: 0 };
     }
-    let at = node_of(nodes, typed);
-    range_from(east, north, grid, order, nodes, entries, at, rect, found)
+    let at = listing_of(nodes, typed);
+    range_from(east, north, grid, order, entries, at, rect, found)
 }

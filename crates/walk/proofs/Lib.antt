@@ -3,3 +3,4 @@ pub mod Steps
 pub mod Lawful
 pub mod Spelled
 pub mod Listed
+pub mod Asked

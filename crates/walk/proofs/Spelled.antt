@@ -1,15 +1,16 @@
 -- One entry's words: the ways that it is read; and that on the words that building writes a node's entries are the rules'.
 -- Assumes nothing.
 use mathlib.Core.Path.{_≡_, refl, sym, ap, _∙_}
-use mathlib.Core.Bool.{true, false}
+use mathlib.Core.Logic.{_⊎_, inl, inr}
+use mathlib.Core.Bool.{true, false, _&&_}
 use mathlib.Core.List.{List, [], _∷_}
 use Prim.Native.Nat.{ℕ, suc, _+_, _*_, _/_, _≤_, _<_}
 use native.Mathlib.Omega.{arith}
-use lib.Dec.{leb}
+use lib.Dec.{ltb, leb}
 use lib.ListN.{length, getD}
 use borrow.Author.Tests.{lt-ltb, le-ltb, le-leb, lt-leb, ltb-true, leb-true}
 use Rattle.base.specs.Lists.{each}
-use Rattle.base.proofs.Tests.{and-parts}
+use Rattle.base.proofs.Tests.{which, and-parts}
 use Rattle.base.proofs.Members.{length-each, getD-each, getD-in}
 use Rattle.base.proofs.Begins.{begins-length, begins-at}
 use Rattle.rules.specs.declared.Grid.{Grid}
@@ -59,6 +60,19 @@ module _ (words : List ℕ) (places number : ℕ) where
     pub entry-is : within places (entryIn words number) ≡ true → At (entryIn words number) ≡ entryRead words places number
     unfolding entryRead
     entry-is h = rw (lt-ltb _ _ there, h)
+
+  -- what is known of an entry that could be read
+  pub read-facts : (e : Entry) → entryRead words places number ≡ At e → (e .region < 64) × (e .past .0 ≤ places)
+  unfolding entryRead
+  read-facts e q = step (which (ltb number (length words / 4) && within places (entryIn words number)))
+    where
+      step : (ltb number (length words / 4) && within places (entryIn words number) ≡ true) ⊎ (ltb number (length words / 4) && within places (entryIn words number) ≡ false)
+          → (e .region < 64) × (e .past .0 ≤ places)
+      step (inl w) =
+          let same : At (entryIn words number) ≡ At e = sym (rw w) ∙ q in
+          let it : entryIn words number ≡ e = cc in
+          rw (sym it) (within-facts places (entryIn words number) (and-parts (ltb number (length words / 4)) (within places (entryIn words number)) w .1))
+      step (inr w) = let z : _≡_ {A = ℕ} 0 1 = cc (rw w at q) in absurd (omega arith)
 
 -- entries that are read one by one stand one after the other
 spelled-by : (words : List ℕ) (places : ℕ) (d : Entry) (es : List Entry) (number : ℕ) → ((i : ℕ) → i < length es → entryRead words places (number + i) ≡ At (getD es i d))

@@ -21,13 +21,13 @@ unlawful-requires : tie.Need-unlawful-requires
 unlawful-requires c κs = search needs
 
 returns : tie.Need-returns
-returns c = fill-breaks _ _ _ _ _ _ _ _ _ _ _ (c .before .before .before .before .gather .ensures) _ (c .unlawful .ensures) (c .before .enum-told .given .1)
+returns c = fill-breaks _ _ _ _ _ _ _ _ (c .before .before .before .before .gather .ensures) _ (c .unlawful .ensures) (c .before .enum-told .given .1)
 
 cast-count : tie.Need-cast-count
 cast-count c = search needs
 
 returns-2 : tie.Need-returns-2
-returns-2 c = fill-over _ _ _ _ _ _ _ _ _ _ _ (c .before .before .before .before .before .gather .ensures) _ (c .before .before .matches .given .1) (c .if1 .taken)
+returns-2 c = fill-over _ _ _ _ _ _ _ _ (c .before .before .before .before .before .gather .ensures) _ (c .before .before .matches .given .1) (c .if1 .taken)
 
 slice-aggregate-copy : tie.Need-slice-aggregate-copy
 slice-aggregate-copy c = search needs
@@ -42,13 +42,13 @@ same-length : tie.Need-same-length
 same-length c = search needs
 
 returns-3 : tie.Need-returns-3
-returns-3 c = fill-keeps _ _ _ _ _ _ _ _ _ _ _ (c .before .before .before .before .before .before .before .before .before .before .before .gather .ensures) _ (c .before .before .before .before .before .before .before .before .matches .given .1) (c .before .before .before .before .before .before .if1 .left) (search needs) _ (c .before .before .copy .ensures)
+returns-3 c = fill-keeps _ _ _ _ _ _ _ _ (c .before .before .before .before .before .before .before .before .before .before .before .gather .ensures) _ (c .before .before .before .before .before .before .before .before .matches .given .1) (c .before .before .before .before .before .before .if1 .left) (search needs) _ (c .before .before .copy .ensures)
 
 same-length-2 : tie.Need-same-length-2
 same-length-2 c = search needs
 
 returns-4 : tie.Need-returns-4
-returns-4 c = fill-writes _ _ _ _ _ _ _ _ _ _ _ (c .before .before .before .before .before .before .before .before .before .before .gather .ensures) _ (c .before .before .before .before .before .before .before .matches .given .1) (c .before .before .before .before .before .if1 .left) _ _ (c .before .before .gather2 .ensures)
+returns-4 c = fill-writes _ _ _ _ _ _ _ _ (c .before .before .before .before .before .before .before .before .before .before .gather .ensures) _ (c .before .before .before .before .before .before .before .matches .given .1) (c .before .before .before .before .before .if1 .left) _ _ (c .before .before .gather2 .ensures)
 
 pub fill-spec : {M : Type 1} → statement M
 fill-spec =

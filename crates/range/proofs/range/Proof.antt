@@ -1,8 +1,10 @@
--- `range` keeps its promise: the text is refused, or the walk along it goes before.
+-- `range` keeps its promise: the text is refused, or its listing goes before.
 -- Assumes nothing.
 use mathlib.Core.Path.{sym, ap, _∙_}
 use Rattle.rules.specs.Numbers.{verdictNumber}
-use Rattle.range.proofs.Promises.{text-refused, text-walked}
+use Rattle.rules.proofs.Numbers.{refusal-some}
+use Rattle.rules.proofs.Outcomes.{range-text-refused, range-text-taken}
+use Rattle.walk.proofs.Asked.{from-kept, text-listed}
 use borrow.Author.Needs.{needs}
 use Rattle.range.proofs.range.Statement.{statement}
 use Rattle.range.proofs.range.Tie as tie
@@ -14,13 +16,13 @@ enum-known-why : tie.Need-enum-known-why
 enum-known-why c = search needs
 
 returns : tie.Need-returns
-returns c = text-refused _ _ _ _ _ _ _ (ap verdictNumber (sym (c .before .why .given .1)) ∙ c .before .before .before .text-verdict .ensures)
+returns c = range-text-refused _ _ _ _ _ _ (ap verdictNumber (sym (c .before .why .given .1)) ∙ c .before .before .before .text-verdict .ensures) (refusal-some (c .before .why .given .0 .0)) _
 
 enum-told : tie.Need-enum-told
 enum-told c = search needs
 
-node-of-requires : tie.Need-node-of-requires
-node-of-requires c κs = search needs
+listing-of-requires : tie.Need-listing-of-requires
+listing-of-requires c κs = search needs
 
 range-from-requires : tie.Need-range-from-requires
 range-from-requires c κs = search needs
@@ -30,7 +32,10 @@ same-length c = search needs
 
 returns-2 : tie.Need-returns-2
 returns-2 c =
-    text-walked _ _ _ _ _ _ _ _ _ (sym (c .before .before .before .before .before .before .before .text-verdict .ensures) ∙ ap verdictNumber (c .before .before .before .before .before .enum-told .given .1)) (c .before .before .before .before .node-of .ensures) (c .before .before .range-from .ensures)
+    range-text-taken _ _ _ _ _
+    (sym (c .before .before .before .before .before .before .before .text-verdict .ensures) ∙ ap verdictNumber (c .before .before .before .before .before .enum-told .given .1))
+    _ _
+    (from-kept _ _ _ _ _ (c .before .before .range-from .ensures) _ _ _ (λ law. text-listed _ _ _ _ _ law (c .before .before .before .before .listing-of .ensures)))
 
 pub range-spec : {M : Type 1} → statement M
 range-spec =
@@ -40,7 +45,7 @@ range-spec =
     enum-known-why
     returns
     enum-told
-    node-of-requires
+    listing-of-requires
     range-from-requires
     same-length
     returns-2)

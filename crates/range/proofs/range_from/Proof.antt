@@ -1,7 +1,7 @@
 -- `range_from` keeps its promise: its ways out are the laws of proofs/Promises.antt.
 -- Assumes nothing.
 use Rattle.base.proofs.Tests.{breaks, holds}
-use Rattle.range.proofs.Promises.{from-11, from-node, from-nowhere, from-broken}
+use Rattle.range.proofs.Promises.{from-11, from-entries, from-nowhere, from-broken}
 use borrow.Author.Needs.{needs}
 use Rattle.range.proofs.range_from.Statement.{statement}
 use Rattle.range.proofs.range_from.Tie as tie
@@ -10,13 +10,13 @@ rect-lawful-requires : tie.Need-rect-lawful-requires
 rect-lawful-requires c κs = search needs
 
 returns : tie.Need-returns
-returns c = from-11 _ _ _ _ _ _ _ (breaks _ _ (c .before .rect-lawful .ensures) (c .if1 .taken))
+returns c = from-11 _ _ _ _ _ _ _ _ (breaks _ _ (c .before .rect-lawful .ensures) (c .if1 .taken))
 
 enum-known-at : tie.Need-enum-known-at
 enum-known-at c = search needs
 
-range-at-requires : tie.Need-range-at-requires
-range-at-requires c κs = search needs
+range-listed-requires : tie.Need-range-listed-requires
+range-listed-requires c κs = search needs
 
 enum-told : tie.Need-enum-told
 enum-told c = search needs
@@ -32,16 +32,16 @@ same-length c = search needs
 
 returns-2 : tie.Need-returns-2
 returns-2 c =
-    let h = c .before .before .before .before .before .before .before .before .before .before .before .before .before .good .1 .1 .1 .1 .1 .1 .1 .0 in
-    from-node _ _ _ _ _ _ _ (holds _ _ (c .before .before .before .before .before .before .before .before .rect-lawful .ensures) (c .before .before .before .before .before .before .before .if1 .left))
+    let h = c .before .before .before .before .before .before .before .before .before .before .before .before .good .1 .1 .1 .1 .1 .1 .0 in
+    from-entries _ _ _ _ _ _ _ _ (holds _ _ (c .before .before .before .before .before .before .before .before .rect-lawful .ensures) (c .before .before .before .before .before .before .before .if1 .left))
     (record { west = search (needs, h); east = search (needs, h); south = search (needs, h); north = search (needs, h) })
-    _ (c .before .before .before .before .before .at .given .1) _ _ (c .before .before .range-at .ensures)
+    _ _ (c .before .before .before .before .before .at .given .1) _ (c .before .before .range-listed .ensures)
 
 returns-3 : tie.Need-returns-3
-returns-3 c = from-nowhere _ _ _ _ _ _ _ (holds _ _ (c .before .before .before .rect-lawful .ensures) (c .before .before .if1 .left)) (c .enum-told .given .1)
+returns-3 c = from-nowhere _ _ _ _ _ _ _ _ (holds _ _ (c .before .before .before .rect-lawful .ensures) (c .before .before .if1 .left)) (c .enum-told .given .1)
 
 returns-4 : tie.Need-returns-4
-returns-4 c = from-broken _ _ _ _ _ _ _ (c .before .enum-told2 .given .1) _ (c .unlawful .ensures)
+returns-4 c = from-broken _ _ _ _ _ _ _ _ (c .before .enum-told2 .given .1) _ (c .unlawful .ensures)
 
 pub range-from-spec : {M : Type 1} → statement M
 range-from-spec =
@@ -50,7 +50,7 @@ range-from-spec =
     rect-lawful-requires
     returns
     enum-known-at
-    range-at-requires
+    range-listed-requires
     enum-told
     enum-told-2
     unlawful-requires
