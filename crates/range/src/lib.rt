@@ -28,7 +28,7 @@ use rules::Stand;
 use rules::Verdict;
 use runs::Places;
 use runs::note;
-use table::typed::text_verdict;
+use table::text::text_verdict;
 use walk::listing::Listing;
 use walk::listing::listing_of;
 

@@ -12,7 +12,7 @@ use rules::Ranking;
 use rules::Refusal;
 use rules::Verdict;
 use search::best_under;
-use table::typed::text_verdict;
+use table::text::text_verdict;
 use walk::Child;
 use walk::node_of;
 

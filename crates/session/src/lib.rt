@@ -9,6 +9,7 @@ use table::names::allowed;
 use walk::Child;
 use walk::child_of;
 ghost use mathlib.Core.Path.{_≡_};
+ghost use Rattle.base.specs.Lent.{given, after};
 ghost use Rattle.session.specs.Promises.{TypePromise, RubPromise};
 ghost use Rattle.session.specs.Strokes.{refused, lost, nextOn, ledOn, typedOn, rubbedOut, reached};
 
@@ -47,7 +48,7 @@ fn lost(letters: usize, last: u32) -> bool
 
 // Where one more letter leads from the node of the letters so far; from nowhere none leads on.
 fn next(nodes: &[u32], letters: usize, last: Node, byte: u8) -> Child
-    ensures { λ r. ⌜ r ≡ nextOn (now (nodes .entry)) letters (last .0) byte ⌝ }
+    ensures { λ r. ⌜ r ≡ nextOn (given nodes) letters (last .0) byte ⌝ }
 {
     if lost(letters, last.0) {
         return Child::Nowhere;
@@ -57,7 +58,7 @@ fn next(nodes: &[u32], letters: usize, last: Node, byte: u8) -> Child
 
 // Whether a letter is taken behind so many, and the node that it leads to. It is taken where it leads nowhere too.
 fn leads(nodes: &[u32], letters: usize, last: Node, byte: u8) -> Led
-    ensures { λ r. ⌜ r ≡ ledOn (now (nodes .entry)) letters (last .0) byte ⌝ }
+    ensures { λ r. ⌜ r ≡ ledOn (given nodes) letters (last .0) byte ⌝ }
 {
     if Stand::NAME_MOST < letters {
         return Led::Refused(Refusal::NotLawful);
@@ -78,7 +79,7 @@ fn leads(nodes: &[u32], letters: usize, last: Node, byte: u8) -> Led
 // A letter typed, by value: one look among the children of the last letter's node, however long the text. One local is the session all
 // the way to the one return, changed only where the letter is taken, so that the record is copied once in and once out.
 pub fn typed(nodes: &[u32], session: Session, byte: u8) -> Stroke
-    ensures { λ r. ⌜ r ≡ typedOn (now (nodes .entry)) session byte ⌝ }
+    ensures { λ r. ⌜ r ≡ typedOn (given nodes) session byte ⌝ }
 {
     let mut after = session;
     let len = after.len as usize;
@@ -140,7 +141,7 @@ pub fn reached(session: Session) -> Child
 
 // A letter typed into the session that is lent. The record is rewritten whole, so that the step by value has all the branches.
 pub fn type_byte(nodes: &[u32], session: &mut Session, byte: u8) -> Verdict
-    ensures { λ r. ⌜ TypePromise (now (nodes .entry)) byte (now (session .entry)) (now (session .exit)) r ⌝ }
+    ensures { λ r. ⌜ TypePromise (given nodes) byte (given session) (after session) r ⌝ }
 {
     let out = typed(nodes, *session, byte);
     *session = out.session;
@@ -149,7 +150,7 @@ pub fn type_byte(nodes: &[u32], session: &mut Session, byte: u8) -> Verdict
 
 // The last letter of the session that is lent, rubbed out.
 pub fn rub_out(session: &mut Session) -> Verdict
-    ensures { λ r. ⌜ RubPromise (now (session .entry)) (now (session .exit)) r ⌝ }
+    ensures { λ r. ⌜ RubPromise (given session) (after session) r ⌝ }
 {
     let out = rubbed_out(*session);
     *session = out.session;

@@ -7,12 +7,13 @@ use rules::Grid;
 use rules::Place;
 use rules::Stand;
 ghost use mathlib.Core.Path.{_≡_};
+ghost use Rattle.base.specs.Lent.{given};
 ghost use lib.ListN.{length};
-ghost use Rattle.rules.specs.Tables.{tableOf, rising, shapeLawful, namesAllowed, namesInOrder, standsLawful};
+ghost use Rattle.rules.specs.Tables.{tableIn, rising, shapeLawful, namesAllowed, namesInOrder, standsLawful};
 
 // Whether no start is below the one before it.
 fn rising(starts: &[u32]) -> bool
-    ensures { λ r. ⌜ r ≡ rising (now (starts .entry)) ⌝ }
+    ensures { λ r. ⌜ r ≡ rising (given starts) ⌝ }
 {
     let mut i = 0;
     while i + 1 < starts.len() {
@@ -26,7 +27,7 @@ fn rising(starts: &[u32]) -> bool
 
 // Refusal 1. That there is one start more than stands comes first, so that the first and the last can be read.
 pub fn shape_lawful(text: &[u8], starts: &[u32], east: &[i32], north: &[i32], score: &[u32]) -> bool
-    ensures { λ r. ⌜ r ≡ shapeLawful (tableOf (now (text .entry)) (now (starts .entry)) (now (east .entry)) (now (north .entry)) (now (score .entry))) ⌝ }
+    ensures { λ r. ⌜ r ≡ shapeLawful (tableIn text starts east north score) ⌝ }
 {
     let stands = score.len();
     if Stand::MOST < stands {
@@ -55,7 +56,7 @@ pub fn shape_lawful(text: &[u8], starts: &[u32], east: &[i32], north: &[i32], sc
 
 // Refusal 3.
 pub fn names_allowed(text: &[u8], starts: &[u32], stands: u32) -> bool
-    ensures { λ r. ⌜ r ≡ namesAllowed (now (text .entry)) (now (starts .entry)) stands ⌝ }
+    ensures { λ r. ⌜ r ≡ namesAllowed (given text) (given starts) stands ⌝ }
 {
     let mut i = 0;
     while i < stands {
@@ -69,7 +70,7 @@ pub fn names_allowed(text: &[u8], starts: &[u32], stands: u32) -> bool
 
 // Refusal 4. Neighbours are enough, since the byte order carries over a name between.
 pub fn names_in_order(text: &[u8], starts: &[u32], stands: u32) -> bool
-    ensures { λ r. ⌜ r ≡ namesInOrder (now (text .entry)) (now (starts .entry)) stands ⌝ }
+    ensures { λ r. ⌜ r ≡ namesInOrder (given text) (given starts) stands ⌝ }
 {
     let mut i = 0;
     while i + 1 < stands {
@@ -86,7 +87,7 @@ pub fn names_in_order(text: &[u8], starts: &[u32], stands: u32) -> bool
 // Refusal 5.
 pub fn stands_lawful(east: &[i32], north: &[i32], score: &[u32], grid: Grid) -> bool
     requires { ⌜ (length (now east) ≡ length (now score)) × (length (now north) ≡ length (now score)) ⌝ }
-    ensures { λ r. ⌜ r ≡ standsLawful (now (east .entry)) (now (north .entry)) (now (score .entry)) grid ⌝ }
+    ensures { λ r. ⌜ r ≡ standsLawful (given east) (given north) (given score) grid ⌝ }
 {
     let mut i = 0;
     while i < score.len() {

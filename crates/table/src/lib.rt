@@ -1,9 +1,9 @@
 // A table of stands, lent as its five parts, and whether the finder takes it: refusals 1 to 5.
 // `names` has the names as parts of the text, `lawful` one test for each of refusals 1, 3, 4 and 5; refusal 2 is the crate `grid`'s.
-// `typed` has the refusals of a typed text.
+// `text` has the refusals of a typed text.
 pub mod lawful;
 pub mod names;
-pub mod typed;
+pub mod text;
 
 use lawful::names_allowed;
 use lawful::names_in_order;
@@ -14,7 +14,7 @@ use rules::Refusal;
 use rules::Verdict;
 ghost use mathlib.Core.Path.{_≡_};
 ghost use Rattle.rules.specs.Numbers.{verdictNumber};
-ghost use Rattle.rules.specs.Tables.{tableOf, tableRefusal};
+ghost use Rattle.rules.specs.Tables.{tableIn, tableRefusal};
 
 // The first of refusals 1 to 5 that holds.
 pub fn table_refusal(
@@ -25,7 +25,7 @@ pub fn table_refusal(
     score: &[u32],
     grid: Grid,
 ) -> Verdict
-    ensures { λ r. ⌜ verdictNumber r ≡ tableRefusal (tableOf (now (text .entry)) (now (starts .entry)) (now (east .entry)) (now (north .entry)) (now (score .entry))) grid ⌝ }
+    ensures { λ r. ⌜ verdictNumber r ≡ tableRefusal (tableIn text starts east north score) grid ⌝ }
 {
     if !shape_lawful(text, starts, east, north, score) {
         return Verdict::Refused(Refusal::TableMisshapen);

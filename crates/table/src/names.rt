@@ -2,6 +2,7 @@
 // Nothing is asked of text and starts: a stand whose starts are broken has the empty name at the text's start.
 use rules::Stand;
 ghost use mathlib.Core.Path.{_≡_};
+ghost use Rattle.base.specs.Lent.{given};
 ghost use denote.Ref.{ptr};
 ghost use Rattle.base.specs.Lists.{all, begins, sharedLength};
 ghost use Rattle.rules.specs.Names.{allowed, nameAllowed, inOrder, name};
@@ -26,7 +27,7 @@ pub fn allowed(b: u8) -> bool
 }
 
 pub fn bytes_allowed(bytes: &[u8]) -> bool
-    ensures { λ r. ⌜ r ≡ all allowed (now (bytes .entry)) ⌝ }
+    ensures { λ r. ⌜ r ≡ all allowed (given bytes) ⌝ }
 {
     let mut i = 0;
     while i < bytes.len() {
@@ -39,7 +40,7 @@ pub fn bytes_allowed(bytes: &[u8]) -> bool
 }
 
 pub fn name_allowed(name: &[u8]) -> bool
-    ensures { λ r. ⌜ r ≡ nameAllowed (now (name .entry)) ⌝ }
+    ensures { λ r. ⌜ r ≡ nameAllowed (given name) ⌝ }
 {
     if name.len() < 1 {
         return false;
@@ -52,7 +53,7 @@ pub fn name_allowed(name: &[u8]) -> bool
 
 // How many bytes a and b have in common from their beginnings on.
 pub fn shared(a: &[u8], b: &[u8]) -> usize
-    ensures { λ r. ⌜ r ≡ sharedLength (now (a .entry)) (now (b .entry)) ⌝ }
+    ensures { λ r. ⌜ r ≡ sharedLength (given a) (given b) ⌝ }
 {
     let mut i = 0;
     while i < a.len() {
@@ -69,14 +70,14 @@ pub fn shared(a: &[u8], b: &[u8]) -> usize
 
 // Whether a name, or a part of one, begins with a typed text.
 pub fn begins(name: &[u8], typed: &[u8]) -> bool
-    ensures { λ r. ⌜ r ≡ begins (now (typed .entry)) (now (name .entry)) ⌝ }
+    ensures { λ r. ⌜ r ≡ begins (given typed) (given name) ⌝ }
 {
     shared(typed, name) == typed.len()
 }
 
 // Whether name a may stand before name b: byte order, the shorter first, equal ones either way.
 pub fn in_order(a: &[u8], b: &[u8]) -> bool
-    ensures { λ r. ⌜ r ≡ inOrder (now (a .entry)) (now (b .entry)) ⌝ }
+    ensures { λ r. ⌜ r ≡ inOrder (given a) (given b) ⌝ }
 {
     let at = shared(a, b);
     if at == a.len() {
@@ -90,7 +91,7 @@ pub fn in_order(a: &[u8], b: &[u8]) -> bool
 
 // Where a stand's name lies.
 fn name_span(text: &[u8], starts: &[u32], stand: Stand) -> Span
-    ensures { λ r. ⌜ Spans (now (text .entry)) (now (starts .entry)) (stand .0) r ⌝ }
+    ensures { λ r. ⌜ Spans (given text) (given starts) (stand .0) r ⌝ }
 {
     let i = stand.0 as usize;
     if starts.len() <= i + 1 {
@@ -106,7 +107,7 @@ fn name_span(text: &[u8], starts: &[u32], stand: Stand) -> Span
 
 // A stand's name, as a part of the text.
 pub fn name_of<'a>(text: &'a [u8], starts: &[u32], stand: Stand) -> &'a [u8]
-    ensures { λ r. ⌜ now r ≡ name (now (text .entry)) (now (starts .entry)) (stand .0) ⌝ }
+    ensures { λ r. ⌜ now r ≡ name (given text) (given starts) (stand .0) ⌝ }
 {
     let Span { from, past } = name_span(text, starts, stand);
     &text[from..past]
@@ -114,7 +115,7 @@ pub fn name_of<'a>(text: &'a [u8], starts: &[u32], stand: Stand) -> &'a [u8]
 
 // Where the rest of a stand's name after a typed text lies; where the name doesn't begin so, the empty part at the text's start.
 pub fn rest_span(text: &[u8], starts: &[u32], stand: Stand, typed: &[u8]) -> Span
-    ensures { λ r. ⌜ RestSpans (now (text .entry)) (now (starts .entry)) (stand .0) (now (typed .entry)) r ⌝ }
+    ensures { λ r. ⌜ RestSpans (given text) (given starts) (stand .0) (given typed) r ⌝ }
 {
     let Span { from, past } = name_span(text, starts, stand);
     if begins(&text[from..past], typed) {
@@ -129,7 +130,7 @@ pub fn rest_span(text: &[u8], starts: &[u32], stand: Stand, typed: &[u8]) -> Spa
 // What is left of a stand's name after a typed text, for showing a hit. Bytes and place are promised, so that no caller has to look
 // the part up in the text again.
 pub fn rest_of_name<'a>(text: &'a [u8], starts: &[u32], stand: Stand, typed: &[u8]) -> &'a [u8]
-    ensures { λ r. ⌜ Rest (now (text .entry)) (now (starts .entry)) (stand .0) (now (typed .entry)) (ptr (text .entry)) (now r) (ptr r) ⌝ }
+    ensures { λ r. ⌜ Rest (given text) (given starts) (stand .0) (given typed) (ptr (text .entry)) (now r) (ptr r) ⌝ }
 {
     let Span { from, past } = rest_span(text, starts, stand, typed);
     &text[from..past]

@@ -1,11 +1,14 @@
 // Both questions on the letters of a session. Its path has the letters' node, so nothing is walked from the root.
 // On a lawful set and session the outcome is that of the same text given afresh; on any other it is harmless.
 ghost use mathlib.Core.Path.{_≡_};
+ghost use mathlib.Core.List.{[], _∷_};
+ghost use Rattle.base.specs.Lent.{given, after};
 ghost use Rattle.rules.specs.Numbers.{verdictNumber};
-ghost use Rattle.rules.specs.Tables.{tableOf};
-ghost use Rattle.rules.specs.Indexes.{indexOf};
-ghost use Rattle.typed.specs.Letters.{lettersRefusal};
-ghost use Rattle.typed.specs.Promises.{TypedRangePromise, TypedRankedPromise};
+ghost use Rattle.rules.specs.Tables.{tableIn};
+ghost use Rattle.rules.specs.Outcomes.{rangeCame, rankedCame};
+ghost use Rattle.rules.specs.Indexes.{indexIn};
+ghost use Rattle.rules.specs.Promises.{TypedRangePromise, TypedRankedPromise};
+ghost use Rattle.letters.specs.Letters.{lettersRefusal};
 use range::range_from;
 use ranked::ranked_from;
 use rules::Grid;
@@ -18,7 +21,8 @@ use rules::Session;
 use rules::Stand;
 use rules::Verdict;
 use session::reached;
-use table::typed::text_verdict;
+use table::text::text_verdict;
+use walk::listing::listing_at;
 
 // A session is refused 7 for a length that none has, else as its letters are.
 fn letters_verdict(session: Session) -> Verdict
@@ -47,13 +51,13 @@ pub fn range_typed(
     rect: Rect,
     found: &mut [u32],
 ) -> RangeAnswer
-    ensures { λ a. ⌜ TypedRangePromise (tableOf (now (text .entry)) (now (starts .entry)) (now (east .entry)) (now (north .entry)) (now (score .entry))) grid (indexOf (now (order .entry)) (now (nodes .entry)) (now (entries .entry))) session rect (now (found .entry)) (now (found .exit)) a ⌝ }
+    ensures { λ a. ⌜ TypedRangePromise (tableIn text starts east north score) grid (indexIn order nodes entries) session rect (given found ∷ []) (rangeCame a (after found)) ⌝ }
 {
     if let Verdict::Refused(why) = letters_verdict(session) {
         return RangeAnswer::Refused { why, matches: 0 };
     }
-    let at = reached(session);
-    range_from(east, north, grid, order, nodes, entries, at, rect, found)
+    let at = listing_at(nodes, reached(session));
+    range_from(east, north, grid, order, entries, at, rect, found)
 }
 
 // The best k stands whose name begins with the session's letters, best first, each with its value.
@@ -72,19 +76,18 @@ pub fn ranked_typed(
     found: &mut [u32],
     values: &mut [u64],
 ) -> RankedAnswer
-    ensures { λ r. ⌜ TypedRankedPromise (tableOf (now (text .entry)) (now (starts .entry)) (now (east .entry)) (now (north .entry)) (now (score .entry))) grid (indexOf (now (order .entry)) (now (nodes .entry)) (now (entries .entry))) session asked r (now (found .entry)) (now (values .entry)) (now (found .exit)) (now (values .exit)) ⌝ }
+    ensures { λ r. ⌜ TypedRankedPromise (tableIn text starts east north score) grid (indexIn order nodes entries) session asked (given found ∷ given values ∷ []) (rankedCame r (after found) (after values)) ⌝ }
 {
     if let Verdict::Refused(why) = letters_verdict(session) {
         return RankedAnswer::Refused(why);
     }
-    let at = reached(session);
+    let at = listing_at(nodes, reached(session));
     ranked_from(
         east,
         north,
         score,
         grid,
         order,
-        nodes,
         entries,
         at,
         asked,

@@ -1,11 +1,11 @@
--- `typed::text_verdict` tests the length, then the bytes.
+-- `text::text_verdict` tests the length, then the bytes.
 -- Assumes nothing.
 use borrow.Author.Tests.{lt-ltb, le-ltb}
 use borrow.Author.Needs.{needs}
 use Rattle.base.proofs.Tests.{breaks, holds}
 use Rattle.rules.specs.Names.{textRefusal}
-use Rattle.table.proofs.typed.text_verdict.Statement.{statement}
-use Rattle.table.proofs.typed.text_verdict.Tie as tie
+use Rattle.table.proofs.text.text_verdict.Statement.{statement}
+use Rattle.table.proofs.text.text_verdict.Tie as tie
 
 returns : tie.Need-returns
 unfolding textRefusal

@@ -1,10 +1,10 @@
--- `typed::ranked_typed` keeps its promise: the letters are refused, or the path says where they came to (proofs/Ways.antt). Assumes nothing.
+-- `letters::ranked_typed` keeps its promise: the letters are refused, or the path says where they came to (proofs/Ways.antt). Assumes nothing.
 use mathlib.Core.Path.{sym, ap, _∙_}
 use borrow.Author.Needs.{needs}
 use Rattle.rules.specs.Numbers.{verdictNumber}
-use Rattle.typed.proofs.Ways.{ranked-refused, ranked-reached}
-use Rattle.typed.proofs.ranked_typed.Statement.{statement}
-use Rattle.typed.proofs.ranked_typed.Tie as tie
+use Rattle.letters.proofs.Ways.{ranked-refused, ranked-reached}
+use Rattle.letters.proofs.ranked_typed.Statement.{statement}
+use Rattle.letters.proofs.ranked_typed.Tie as tie
 
 letters-verdict-requires : tie.Need-letters-verdict-requires
 letters-verdict-requires c κs = search needs

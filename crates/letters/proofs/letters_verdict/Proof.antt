@@ -1,12 +1,12 @@
--- `typed::letters_verdict` meets its contract: by the length, or as the letters are judged (proofs/Ways.antt). Assumes nothing.
+-- `letters::letters_verdict` meets its contract: by the length, or as the letters are judged (proofs/Ways.antt). Assumes nothing.
 use mathlib.Core.Path.{_≡_, sym, _∙_}
 use native.Mathlib.Omega.{arith}
 use lib.ListN.{length}
 use lib.Seq.{length-take-le}
 use borrow.Author.Needs.{needs}
-use Rattle.typed.proofs.Ways.{over, within}
-use Rattle.typed.proofs.letters_verdict.Statement.{statement}
-use Rattle.typed.proofs.letters_verdict.Tie as tie
+use Rattle.letters.proofs.Ways.{over, within}
+use Rattle.letters.proofs.letters_verdict.Statement.{statement}
+use Rattle.letters.proofs.letters_verdict.Tie as tie
 
 cast-len : tie.Need-cast-len
 cast-len c = search needs

@@ -1,0 +1,53 @@
+-- `letters::range_typed` keeps its promise: the letters are refused, or the path says where they came to (proofs/Ways.antt). Assumes nothing.
+use mathlib.Core.Path.{sym, ap, _∙_}
+use borrow.Author.Needs.{needs}
+use Rattle.rules.specs.Numbers.{verdictNumber}
+use Rattle.rules.proofs.Numbers.{refusal-some}
+use Rattle.letters.proofs.Ways.{range-refused, range-reached}
+use Rattle.letters.proofs.range_typed.Statement.{statement}
+use Rattle.letters.proofs.range_typed.Tie as tie
+
+letters-verdict-requires : tie.Need-letters-verdict-requires
+letters-verdict-requires c κs = search needs
+
+enum-known-why : tie.Need-enum-known-why
+enum-known-why c = search needs
+
+returns : tie.Need-returns
+returns c = range-refused _ _ _ _ _ _ _ (ap verdictNumber (sym (c .before .why .given .1)) ∙ c .before .before .before .letters-verdict .ensures) (refusal-some (c .before .why .given .0 .0))
+
+enum-told : tie.Need-enum-told
+enum-told c = search needs
+
+reached-requires : tie.Need-reached-requires
+reached-requires c κs = search needs
+
+listing-at-requires : tie.Need-listing-at-requires
+listing-at-requires c κs = search needs
+
+range-from-requires : tie.Need-range-from-requires
+range-from-requires c κs = search needs
+
+same-length : tie.Need-same-length
+same-length c = search needs
+
+returns-2 : tie.Need-returns-2
+returns-2 c =
+    range-reached _ _ _ _ _ _ _ _ _
+    (sym (c .before .before .before .before .before .before .before .before .letters-verdict .ensures) ∙ ap verdictNumber (c .before .before .before .before .before .before .enum-told .given .1))
+    (c .before .before .before .before .listing-at .ensures) (c .before .before .before .before .before .reached .ensures)
+    (c .before .before .range-from .ensures)
+
+pub range-typed-spec : {M : Type 1} → statement M
+range-typed-spec =
+    tie.close
+    (tie.spec
+    letters-verdict-requires
+    enum-known-why
+    returns
+    enum-told
+    reached-requires
+    listing-at-requires
+    range-from-requires
+    same-length
+    returns-2)
