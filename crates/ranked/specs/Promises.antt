@@ -1,10 +1,12 @@
 -- What the ranked question promises that starts from a listing. What it promises of a text stands in the crate `rules`.
-use mathlib.Core.List.{List}
+use mathlib.Core.List.{List, [], _∷_}
 use Prim.Native.Nat.{ℕ}
+use Rattle.base.specs.Lent.{Lent, given, after}
 use Rattle.rules.specs.declared.Grid.{Grid}
 use Rattle.rules.specs.declared.Ranking.{Ranking}
+use Rattle.rules.specs.declared.RankedAnswer.{RankedAnswer}
 use Rattle.rules.specs.Questions.{ranking, rankingRefusal}
-use Rattle.rules.specs.Outcomes.{Outcome, rankedOutcome}
+use Rattle.rules.specs.Outcomes.{Outcome, rankedOutcome, rankedCame}
 use Rattle.walk.specs.declared.listing.Listing.{Listing}
 use Rattle.walk.specs.Asked.{Listed, FromPromise}
 use Rattle.search.specs.Searches.{StandColumns}
@@ -12,3 +14,10 @@ use Rattle.search.specs.Searches.{StandColumns}
 abbrev pub RankedFrom : StandColumns → Grid → List ℕ → List ℕ → Listing → Ranking → List (List ℕ) → Outcome → Type 0
 RankedFrom c g order entries at q rooms o =
     FromPromise (Listed (c .east) (c .north) (c .score) g order entries at) (λ hits. rankedOutcome (rankingRefusal g q) (q .k) hits rooms) (λ t p. ranking t g p q) rooms o
+
+-- the two rooms that a call is lent, and what came of the call
+abbrev pub roomsIn : Lent (List ℕ) → Lent (List ℕ) → List (List ℕ)
+roomsIn found values = given found ∷ given values ∷ []
+
+abbrev pub cameIn : RankedAnswer → Lent (List ℕ) → Lent (List ℕ) → Outcome
+cameIn a found values = rankedCame a (after found) (after values)

@@ -1,15 +1,13 @@
 // The ranked question. On a lawful set it comes to what the rules say; on any other it is harmless.
 // Refusals 9 and 8 are the text's, then come 12, 13 and 7; the search itself is the crate `search`.
 ghost use mathlib.Core.Path.{_≡_};
-ghost use mathlib.Core.List.{[], _∷_};
-ghost use Rattle.base.specs.Lent.{given, after};
+ghost use Rattle.base.specs.Lent.{given};
 ghost use Rattle.rules.specs.Tables.{tableIn};
 ghost use Rattle.rules.specs.Questions.{rankingLawful};
-ghost use Rattle.rules.specs.Outcomes.{rankedCame};
 ghost use Rattle.rules.specs.Indexes.{indexIn};
 ghost use Rattle.rules.specs.Promises.{RankedPromise};
 ghost use Rattle.search.specs.Searches.{columnsIn};
-ghost use Rattle.ranked.specs.Promises.{RankedFrom};
+ghost use Rattle.ranked.specs.Promises.{RankedFrom, roomsIn, cameIn};
 use rules::Grid;
 use rules::RankedAnswer;
 use rules::Ranking;
@@ -49,7 +47,7 @@ pub fn ranked_from(
     found: &mut [u32],
     values: &mut [u64],
 ) -> RankedAnswer
-    ensures { λ r. ⌜ RankedFrom (columnsIn east north score) grid (given order) (given entries) at asked (given found ∷ given values ∷ []) (rankedCame r (after found) (after values)) ⌝ }
+    ensures { λ r. ⌜ RankedFrom (columnsIn east north score) grid (given order) (given entries) at asked (roomsIn found values) (cameIn r found values) ⌝ }
 {
     if !rankable(grid, asked) {
         return RankedAnswer::Refused(Refusal::QuestionOutsideLimits);
@@ -99,7 +97,7 @@ pub fn ranked(
     found: &mut [u32],
     values: &mut [u64],
 ) -> RankedAnswer
-    ensures { λ r. ⌜ RankedPromise (tableIn text starts east north score) grid (indexIn order nodes entries) (given typed) asked (given found ∷ given values ∷ []) (rankedCame r (after found) (after values)) ⌝ }
+    ensures { λ r. ⌜ RankedPromise (tableIn text starts east north score) grid (indexIn order nodes entries) (given typed) asked (roomsIn found values) (cameIn r found values) ⌝ }
 {
     if let Verdict::Refused(why) = text_verdict(typed) {
         return RankedAnswer::Refused(why);
