@@ -1,20 +1,20 @@
 -- Keys stand for hits: a larger key is a better hit, a key gives back its value and stand, and the k largest keys are those of the k best hits.
 -- Assumes nothing.
-use mathlib.Core.Path.{_≡_, sym, ap, _∙_}
-use mathlib.Core.Logic.{⊎-elim}
+use mathlib.Core.Path.{_≡_, refl, sym, ap, _∙_}
+use mathlib.Core.Logic.{inl, inr, ⊎-elim}
 use mathlib.Core.Bool.{true, false}
-use mathlib.Core.List.{List}
+use mathlib.Core.List.{List, [], _∷_}
 use Prim.Native.Nat.{ℕ, _≤_, _<_}
 use native.Mathlib.Omega.{arith}
 use lib.ListN.{take}
 use borrow.Author.Tests.{ltb-true, ltb-false, lt-ltb, le-ltb}
 use Rattle.base.specs.Lists.{In, each, sortBy}
 use Rattle.base.proofs.Tests.{which}
-use Rattle.base.proofs.Members.{each-take, each-each, each-same}
+use Rattle.base.proofs.Members.{each-take}
 use Rattle.base.proofs.Sorts.{Linear, wins, loses, each-sort}
 use Rattle.rules.specs.declared.Hit.{Hit}
 use Rattle.rules.specs.Questions.{better}
-use Rattle.best.specs.Keys.{keyOf, valueIn, standIn, larger}
+use Rattle.best.specs.Keys.{keyOf, valueIn, standIn, hitOfKey, larger}
 
 pub larger-linear : Linear larger
 larger-linear =
@@ -36,11 +36,11 @@ better-larger a b h k =
     e ∙ sym (le-ltb (keyOf b) (keyOf a) (⊎-elim (λ l. omega arith) (λ w. omega arith) (loses (λ h. h .value) (λ h. h .stand) a b e))))
     (which (better a b))
 
-pub value-in : (h : Hit) → h .stand < 1024 → valueIn (keyOf h) ≡ h .value
-value-in h l = omega arith
-
-pub stand-in : (h : Hit) → h .stand < 1024 → standIn (keyOf h) ≡ h .stand
-stand-in h l = omega arith
+hit-back : (h : Hit) → h .stand < 1024 → hitOfKey (keyOf h) ≡ h
+hit-back h l =
+    let v : valueIn (keyOf h) ≡ h .value = omega arith in
+    let s : standIn (keyOf h) ≡ h .stand = omega arith in
+    rw (v, s)
 
 -- no hit of at most this value and at least this stand number has a larger key
 pub key-most : (h most : Hit) → h .value ≤ most .value → most .stand ≤ h .stand → keyOf h ≤ keyOf most
@@ -52,8 +52,6 @@ module _ (hits : List Hit) (below : (h : Hit) → In h hits → h .stand < 1024)
       each-take keyOf k (sortBy better hits)
       ∙ ap (take k) (each-sort keyOf better larger hits (λ a b h k. better-larger a b (below a h) (below b k)))
 
-  pub keys-values : each valueIn (each keyOf hits) ≡ each (λ h. h .value) hits
-  keys-values = each-each valueIn keyOf hits ∙ each-same (λ h. valueIn (keyOf h)) (λ h. h .value) hits (λ h k. value-in h (below h k))
-
-  pub keys-stands : each standIn (each keyOf hits) ≡ each (λ h. h .stand) hits
-  keys-stands = each-each standIn keyOf hits ∙ each-same (λ h. standIn (keyOf h)) (λ h. h .stand) hits (λ h k. stand-in h (below h k))
+pub keys-hits : (hits : List Hit) → ((h : Hit) → In h hits → h .stand < 1024) → each hitOfKey (each keyOf hits) ≡ hits
+keys-hits [] below = refl
+keys-hits (h ∷ hits) below = rw (hit-back h (below h (inl refl)), keys-hits hits (λ h k. below h (inr k)))

@@ -14,6 +14,9 @@ valueIn key = key / 1024
 abbrev pub standIn : ℕ → ℕ
 standIn key = 1023 - key % 1024
 
+abbrev pub hitOfKey : ℕ → Hit
+hitOfKey key = record { stand = standIn key; value = valueIn key }
+
 -- the larger key goes before
 abbrev pub larger : ℕ → ℕ → Bool
 larger a b = ltb b a

@@ -25,8 +25,9 @@ use Rattle.walk.specs.Asked.{Listed}
 use Rattle.walk.proofs.Asked.{from-kept, node-listed}
 use Rattle.session.specs.Strokes.{reached}
 use Rattle.session.proofs.Sessions.{lawful-short, lawful-reached}
-use Rattle.range.specs.Promises as range
-use Rattle.ranked.specs.Promises as ranked
+use Rattle.range.specs.Promises.{RangeFrom}
+use Rattle.search.specs.Searches.{columns}
+use Rattle.ranked.specs.Promises.{RankedFrom}
 use Rattle.letters.specs.Letters.{lettersRefusal}
 
 -- ---- what the letters are refused with
@@ -78,7 +79,7 @@ module _ (t : Table) (g : Grid) (x : Index) (s : Session) (rooms : List (List �
     range-refused n e some = refused-by _ _ n e (λ f. range-text-refused (LawfulBoth t g x s) t g (lettersOf s) rooms n f some r)
 
     pub range-reached : (at : Listing) (c : Child) (o : Outcome) → lettersRefusal s ≡ 0 → at ≡ listingAt (x .nodes) c → c ≡ reached s
-        → range.FromListing (t .east) (t .north) g (x .order) (x .entries) at r rooms o → TypedRangePromise t g x s r rooms o
+        → RangeFrom (t .east) (t .north) g (x .order) (x .entries) at r rooms o → TypedRangePromise t g x s r rooms o
     range-reached at c o fine e came w =
         range-text-taken (LawfulBoth t g x s) t g (lettersOf s) rooms (taken s fine) o r
         (from-kept _ _ _ rooms o w (LawfulBoth t g x s) t (lettersOf s) (served at c e came))
@@ -88,7 +89,7 @@ module _ (t : Table) (g : Grid) (x : Index) (s : Session) (rooms : List (List �
     ranked-refused n e some = refused-by _ _ n e (λ f. ranked-text-refused (LawfulBoth t g x s) t g (lettersOf s) rooms n f some q)
 
     pub ranked-reached : (at : Listing) (c : Child) (o : Outcome) → lettersRefusal s ≡ 0 → at ≡ listingAt (x .nodes) c → c ≡ reached s
-        → ranked.FromListing (t .east) (t .north) (t .score) g (x .order) (x .entries) at q rooms o → TypedRankedPromise t g x s q rooms o
+        → RankedFrom (columns (t .east) (t .north) (t .score)) g (x .order) (x .entries) at q rooms o → TypedRankedPromise t g x s q rooms o
     ranked-reached at c o fine e came w =
         ranked-text-taken (LawfulBoth t g x s) t g (lettersOf s) rooms (taken s fine) o q
         (from-kept _ _ _ rooms o w (LawfulBoth t g x s) t (lettersOf s) (served at c e came))

@@ -1,11 +1,9 @@
 // Both questions on the letters of a session. Its path has the letters' node, so nothing is walked from the root.
 // On a lawful set and session the outcome is that of the same text given afresh; on any other it is harmless.
 ghost use mathlib.Core.Path.{_≡_};
-ghost use mathlib.Core.List.{[], _∷_};
-ghost use Rattle.base.specs.Lent.{given, after};
 ghost use Rattle.rules.specs.Numbers.{verdictNumber};
 ghost use Rattle.rules.specs.Tables.{tableIn};
-ghost use Rattle.rules.specs.Outcomes.{rangeCame, rankedCame};
+ghost use Rattle.rules.specs.Outcomes.{roomIn, roomsIn, rangeCameIn, rankedCameIn};
 ghost use Rattle.rules.specs.Indexes.{indexIn};
 ghost use Rattle.rules.specs.Promises.{TypedRangePromise, TypedRankedPromise};
 ghost use Rattle.letters.specs.Letters.{lettersRefusal};
@@ -51,7 +49,7 @@ pub fn range_typed(
     rect: Rect,
     found: &mut [u32],
 ) -> RangeAnswer
-    ensures { λ a. ⌜ TypedRangePromise (tableIn text starts east north score) grid (indexIn order nodes entries) session rect (given found ∷ []) (rangeCame a (after found)) ⌝ }
+    ensures { λ a. ⌜ TypedRangePromise (tableIn text starts east north score) grid (indexIn order nodes entries) session rect (roomIn found) (rangeCameIn a found) ⌝ }
 {
     if let Verdict::Refused(why) = letters_verdict(session) {
         return RangeAnswer::Refused { why, matches: 0 };
@@ -76,7 +74,7 @@ pub fn ranked_typed(
     found: &mut [u32],
     values: &mut [u64],
 ) -> RankedAnswer
-    ensures { λ r. ⌜ TypedRankedPromise (tableIn text starts east north score) grid (indexIn order nodes entries) session asked (given found ∷ given values ∷ []) (rankedCame r (after found) (after values)) ⌝ }
+    ensures { λ r. ⌜ TypedRankedPromise (tableIn text starts east north score) grid (indexIn order nodes entries) session asked (roomsIn found values) (rankedCameIn r found values) ⌝ }
 {
     if let Verdict::Refused(why) = letters_verdict(session) {
         return RankedAnswer::Refused(why);

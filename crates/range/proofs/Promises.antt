@@ -28,7 +28,7 @@ use Rattle.walk.specs.declared.listing.Listing.{Listing}
 use Rattle.walk.specs.declared.listing.Listing.the-variants.{Entries, Nowhere, Broken}
 use Rattle.walk.proofs.Listed.{nowhere-none, never-broken, entries-listed}
 use Rattle.range.specs.Fetches.{unlawful, fetched}
-use Rattle.range.specs.Promises.{FromListing}
+use Rattle.range.specs.Promises.{RangeFrom}
 use Rattle.range.proofs.Fetching.{fetch-harmless}
 use Rattle.range.proofs.Meaning.{fetch-means}
 
@@ -40,13 +40,13 @@ none-ranged t g p r e =
     ∙ ap (eachList (λ r. keep (inRegion g t r) [])) (keep-none (λ r. false) (upTo regions) (λ r h. refl))
 
 module _ (east north : List ℤ) (g : Grid) (order entries : List ℕ) (at : Listing) (r : Rect) (room : List ℕ) where
-  pub from-11 : rectLawful r ≡ false → FromListing east north g order entries at r (room ∷ []) (rangeCame (Refused RectReversed 0) room)
+  pub from-11 : rectLawful r ≡ false → RangeFrom east north g order entries at r (room ∷ []) (rangeCame (Refused RectReversed 0) room)
   from-11 f =
       let all : (list : List ℕ) → refused 11 (room ∷ []) ≡ rangeOutcome (rectRefusal r) list (room ∷ []) = λ list. rw f in
       record { exact = λ t p w. all (rangeList t g p r); harmless = inr ([], all []) }
 
   -- only a set that is not lawful is refused 7
-  pub from-broken : at ≡ Broken → (a : RangeAnswer) → a ≡ unlawful → FromListing east north g order entries at r (room ∷ []) (rangeCame a room)
+  pub from-broken : at ≡ Broken → (a : RangeAnswer) → a ≡ unlawful → RangeFrom east north g order entries at r (room ∷ []) (rangeCame a room)
   from-broken b a u =
       record {
         exact = λ t p w. absurd (never-broken t g p (sym (w .listing) ∙ b));
@@ -60,7 +60,7 @@ module _ (east north : List ℤ) (g : Grid) (order entries : List ℕ) (at : Lis
     nothing-found : rangeCame (Found 0) room ≡ rangeOutcome (rectRefusal r) [] (room ∷ [])
     nothing-found = sym (rw (straight, le-leb 0 (length room) (omega arith)))
 
-    pub from-nowhere : at ≡ Nowhere → FromListing east north g order entries at r (room ∷ []) (rangeCame (Found 0) room)
+    pub from-nowhere : at ≡ Nowhere → RangeFrom east north g order entries at r (room ∷ []) (rangeCame (Found 0) room)
     from-nowhere e =
         record {
           exact = λ t p w. nothing-found ∙ ap (λ (l : List ℕ). rangeOutcome (rectRefusal r) l (room ∷ [])) (sym (none-ranged t g p r (nowhere-none t g p (sym (w .listing) ∙ e))));
@@ -68,7 +68,7 @@ module _ (east north : List ℤ) (g : Grid) (order entries : List ℕ) (at : Lis
         }
 
     pub from-entries : Edges r → (cells : Cells) (first : ℕ) → at ≡ Entries cells first → (o : Outcome)
-        → o ≡ fetched east north g order entries cells first r room → FromListing east north g order entries at r (room ∷ []) o
+        → o ≡ fetched east north g order entries cells first r room → RangeFrom east north g order entries at r (room ∷ []) o
     from-entries edges cells first e o f =
         record {
           exact = λ t p w.

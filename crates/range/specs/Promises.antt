@@ -10,6 +10,6 @@ use Rattle.walk.specs.declared.listing.Listing.{Listing}
 use Rattle.walk.specs.Asked.{Listed, FromPromise}
 
 -- of a set it is lent the stands' places, the order and the entries; their scores may be any
-abbrev pub FromListing : List ℤ → List ℤ → Grid → List ℕ → List ℕ → Listing → Rect → List (List ℕ) → Outcome → Type 0
-FromListing east north g order entries at r rooms o =
+abbrev pub RangeFrom : List ℤ → List ℤ → Grid → List ℕ → List ℕ → Listing → Rect → List (List ℕ) → Outcome → Type 0
+RangeFrom east north g order entries at r rooms o =
     FromPromise (λ t p. Listed east north (t .score) g order entries at t p) (λ list. rangeOutcome (rectRefusal r) list rooms) (λ t p. rangeList t g p r) rooms o

@@ -1,14 +1,13 @@
 // The range question: from a text's listing to the stands in the rectangle, written to the caller's room.
 // `runs` notes where each region's stands stand in the order, `gather` goes through them. No stand is reached but through the listing.
 ghost use mathlib.Core.Path.{_≡_};
-ghost use mathlib.Core.List.{[], _∷_};
-ghost use Rattle.base.specs.Lent.{given, after};
+ghost use Rattle.base.specs.Lent.{given};
 ghost use Rattle.grid.specs.Cells.{regionsIn};
 ghost use Rattle.rules.specs.Tables.{tableIn};
-ghost use Rattle.rules.specs.Outcomes.{rangeCame};
+ghost use Rattle.rules.specs.Outcomes.{roomIn, rangeCameIn};
 ghost use Rattle.rules.specs.Indexes.{indexIn};
 ghost use Rattle.rules.specs.Promises.{RangePromise};
-ghost use Rattle.range.specs.Promises.{FromListing};
+ghost use Rattle.range.specs.Promises.{RangeFrom};
 ghost use Rattle.range.specs.Fetches.{agree, unlawful, touched, Ready, looked, fetched};
 
 mod gather;
@@ -68,7 +67,7 @@ fn fill(
     found: &mut [u32],
 ) -> RangeAnswer
     requires { ⌜ Ready (now east) (now north) (now order) (now pasts) ⌝ }
-    ensures { λ r. ⌜ rangeCame r (after found) ≡ looked (given east) (given north) rect (touched (given order) (given firsts) (given pasts) (regionsIn regions)) (given found) ⌝ }
+    ensures { λ r. ⌜ rangeCameIn r found ≡ looked (given east) (given north) rect (touched (given order) (given firsts) (given pasts) (regionsIn regions)) (given found) ⌝ }
 {
     let mut near = [0u32; NEAR];
     let Tally::Count(matches) = gather(east, north, order, regions, firsts, pasts, rect, &mut near)
@@ -102,7 +101,7 @@ fn range_listed(
     rect: Rect,
     found: &mut [u32],
 ) -> RangeAnswer
-    ensures { λ r. ⌜ rangeCame r (after found) ≡ fetched (given east) (given north) grid (given order) (given entries) regions first rect (given found) ⌝ }
+    ensures { λ r. ⌜ rangeCameIn r found ≡ fetched (given east) (given north) grid (given order) (given entries) regions first rect (given found) ⌝ }
 {
     if !grid::lawful(grid) {
         return unlawful();
@@ -137,7 +136,7 @@ pub fn range_from(
     rect: Rect,
     found: &mut [u32],
 ) -> RangeAnswer
-    ensures { λ a. ⌜ FromListing (given east) (given north) grid (given order) (given entries) at rect (given found ∷ []) (rangeCame a (after found)) ⌝ }
+    ensures { λ a. ⌜ RangeFrom (given east) (given north) grid (given order) (given entries) at rect (roomIn found) (rangeCameIn a found) ⌝ }
 {
     if !grid::rect_lawful(rect) {
         return RangeAnswer::Refused {
@@ -178,7 +177,7 @@ pub fn range(
     rect: Rect,
     found: &mut [u32],
 ) -> RangeAnswer
-    ensures { λ a. ⌜ RangePromise (tableIn text starts east north score) grid (indexIn order nodes entries) (given typed) rect (given found ∷ []) (rangeCame a (after found)) ⌝ }
+    ensures { λ a. ⌜ RangePromise (tableIn text starts east north score) grid (indexIn order nodes entries) (given typed) rect (roomIn found) (rangeCameIn a found) ⌝ }
 {
     if let Verdict::Refused(why) = text_verdict(typed) {
         return RangeAnswer::Refused { why, matches: 0 };

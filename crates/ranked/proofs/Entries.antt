@@ -1,4 +1,4 @@
--- At a lawful set: a node's entries as the search reads them are the rules' entries, and each is sound, so that it may be taken or passed over.
+-- At a lawful set: each entry of a text is sound, so that it may be taken or passed over.
 -- Assumes nothing.
 use mathlib.Core.Path.{_≡_, refl, sym, ap, _∙_, subst}
 use mathlib.Core.Logic.{inl}
@@ -14,7 +14,6 @@ use Rattle.base.proofs.Begins.{begins-part, begins-length}
 use Rattle.base.proofs.Pairs.{Less, less-first, pairs-keep}
 use Rattle.rules.specs.declared.Grid.{Grid}
 use Rattle.rules.specs.declared.Ranking.{Ranking}
-use Rattle.rules.specs.Places.{regions}
 use Rattle.rules.specs.Worth.{boundOf}
 use Rattle.rules.specs.Tables.{Table, stands, placeOf, scoreOf, LawfulTable}
 use Rattle.rules.specs.Questions.{under, regionOfStand, inRegion, hitOf}
@@ -22,31 +21,22 @@ use Rattle.rules.specs.Indexes.{orderWords, entriesOf}
 use Rattle.rules.specs.Indexes as indexes
 use Rattle.grid.proofs.Values.{value-within-bound}
 use Rattle.trie.specs.Meaning.{StandUnder, noEntry, entryAt}
-use Rattle.trie.proofs.Regions.{region-small}
 use Rattle.trie.proofs.Listing.{under-rises, order-means, standsIn, in-region}
 use Rattle.trie.proofs.Entries.{entries-mean}
+use Rattle.walk.specs.Entries.{asRead}
 use Rattle.best.proofs.Keys.{key-most}
-use Rattle.search.specs.declared.Entry.{Entry}
-use Rattle.search.specs.Searches.{Columns, columns, readableStand, boundHit}
+use Rattle.search.specs.Searches.{StandColumns, standColumns, readableStand, boundHit}
 use Rattle.search.proofs.Reading.{stand-read}
 use Rattle.ranked.proofs.Offers.{Sound}
 
--- an entry as the code has it
-abbrev pub asRead : indexes.Entry → Entry
-asRead e = record { region = e .region; score = e .score; first = record { 0 = e .first }; past = record { 0 = e .past } }
-
-abbrev pub columnsOf : Table → Columns
-columnsOf t = columns (t .east) (t .north) (t .score)
-
-below-64 : (r : ℕ) → r < regions → r < 64
-unfolding regions
-below-64 r h = h
+abbrev pub tableColumns : Table → StandColumns
+tableColumns t = standColumns (t .east) (t .north) (t .score)
 
 module _ (t : Table) (g : Grid) (l : LawfulTable t g) where
-  pub stand-seen : (i : ℕ) → i < stands t → readableStand (columnsOf t) g i ≡ true
+  pub stand-seen : (i : ℕ) → i < stands t → readableStand (tableColumns t) g i ≡ true
   stand-seen i h =
       let s = l .shaped in
-      stand-read (columnsOf t) g i
+      stand-read (tableColumns t) g i
       (record {
         small = omega (arith, s .few);
         has-east = omega (arith, s .easts);
@@ -93,14 +83,12 @@ module _ (t : Table) (g : Grid) (l : LawfulTable t g) where
         let u = in-region t g p (e .region) i h in
         rw (u .1) at (within-bound q i (e .score) (u .0 .stand) (largest i (u .0) (u .1)))
 
-    of-entry : Sound (columnsOf t) g q order (standsIn t g p (e .region)) (asRead e)
+    of-entry : Sound (tableColumns t) g q order (standsIn t g p (e .region)) (asRead e)
     of-entry =
         record {
           facts = record {
-            region = below-64 (e .region) (subst (λ (r : ℕ). r < regions) (attained .2) (region-small t g l (attained .0) (attained .1 .stand)));
             scored = omega (arith, attained .3, l .scored (attained .0) (attained .1 .stand));
             some = bounds .0;
-            inside = omega (arith, begins-length words order written);
             small = omega (arith, stand-of (getD order (e .first) 0) first-there, l .shaped .few);
           };
           listed = listed;
@@ -110,10 +98,10 @@ module _ (t : Table) (g : Grid) (l : LawfulTable t g) where
 
   -- each of a text's entries
   pub entry-sound : (order : List ℕ) → begins (orderWords t g) order ≡ true → (q : Ranking) (p : List ℕ) (e : indexes.Entry) → In e (entriesOf t g p)
-      → Sound (columnsOf t) g q order (standsIn t g p (e .region)) (asRead e)
+      → Sound (tableColumns t) g q order (standsIn t g p (e .region)) (asRead e)
   entry-sound order written q p e h =
       let m = entries-mean t g l p in
       let s = in-at noEntry e (entriesOf t g p) h in
-      subst (λ (e : indexes.Entry). Sound (columnsOf t) g q order (standsIn t g p (e .region)) (asRead e)) (s .2)
+      subst (λ (e : indexes.Entry). Sound (tableColumns t) g q order (standsIn t g p (e .region)) (asRead e)) (s .2)
       (of-entry p (orderWords t g) order (order-means t g l .whole) written q (entryAt t g p (s .0))
       (m .attained (s .0) (s .1)) (m .largest (s .0) (s .1)) (m .bounds (s .0) (s .1)) (m .places (s .0) (s .1)))

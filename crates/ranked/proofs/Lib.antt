@@ -1,8 +1,7 @@
--- That the search's model is the meaning on a lawful set, and what follows of answers and rooms.
+-- That the search's model is the meaning on a lawful set, and what follows for each way out of the question.
 pub mod Offers
 pub mod Entries
 pub mod Under
-pub mod Told
 pub mod Ways
+pub mod Asked
 pub mod Limits
-pub mod Outcomes

@@ -4,37 +4,38 @@ use mathlib.Core.Path.{_≡_, refl, sym, ap, _∙_}
 use mathlib.Core.Logic.{_⊎_, inl, inr}
 use mathlib.Core.Bool.{true, false}
 use mathlib.Core.List.{List, [], _∷_, _++_, append-assoc}
-use Prim.Native.Nat.{ℕ, suc, _+_, _-_, _/_, _≤_, _<_}
+use Prim.Native.Nat.{ℕ, suc, _-_, _≤_, _<_}
 use native.Mathlib.Omega.{arith}
 use lib.Dec.{ltb, leb}
 use lib.ListN.{length, getD}
 use lib.Seq.{slice}
-use borrow.Author.Tests.{ltb-true, leb-true, lt-ltb}
+use borrow.Author.Tests.{ltb-true, leb-true}
 use Rattle.base.specs.Lists.{In, each, eachList}
 use Rattle.base.proofs.Tests.{which, and-parts}
 use Rattle.base.proofs.Members.{in-each, each-append}
 use Rattle.base.proofs.Shuffles.{shuffle-sym, middle, swap-parts}
 use Rattle.rules.specs.declared.Grid.{Grid}
 use Rattle.rules.specs.declared.Ranking.{Ranking}
+use Rattle.walk.specs.declared.entry.Entry.{Entry}
+use Rattle.walk.specs.Entries.{Spelled}
 use Rattle.best.specs.Keys.{keyOf}
 use Rattle.best.specs.Holds.{bestOf}
 use Rattle.best.proofs.Streams.{one-more, in-any-order, passed-over}
-use Rattle.search.specs.declared.Entry.{Entry}
-use Rattle.search.specs.Searches.{Columns, Search, keys, andThen, readableStand, hitIn, standOffered, standsOffered, entryIn, readableEntry, boundHit, passedOver, entryTaken, entriesTaken}
-use Rattle.search.proofs.Reading.{EntryFacts, entry-read}
+use Rattle.search.specs.Searches.{StandColumns, Search, keys, andThen, readableStand, hitIn, standOffered, standsOffered, boundHit, passedOver, entryTaken, entriesTaken}
+use Rattle.search.proofs.Reading.{EntryFacts, entry-usable}
 
 -- the key of a stand
-abbrev pub keyIn : Columns → Grid → Ranking → ℕ → ℕ
+abbrev pub keyIn : StandColumns → Grid → Ranking → ℕ → ℕ
 keyIn c g q i = keyOf (hitIn c g q i)
 
 -- an entry that can be gone by: these are its stands, and its bound holds for them
-pub record Sound (c : Columns) (g : Grid) (q : Ranking) (order stands : List ℕ) (x : Entry) : Type 0 where
+pub record Sound (c : StandColumns) (g : Grid) (q : Ranking) (order stands : List ℕ) (x : Entry) : Type 0 where
   pub facts : EntryFacts order x
   pub listed : slice (x .first .0) (x .past .0) order ≡ stands
   pub readable : (i : ℕ) → In i stands → readableStand c g i ≡ true
   pub covered : (i : ℕ) → In i stands → keyIn c g q i ≤ keyOf (boundHit g q order x)
 
-module _ (c : Columns) (g : Grid) (q : Ranking) where
+module _ (c : StandColumns) (g : Grid) (q : Ranking) where
   offers-best : (ss seen : List ℕ) → ((i : ℕ) → In i ss → readableStand c g i ≡ true)
       → standsOffered c g q ss (bestOf (q .k) seen) ≡ keys (bestOf (q .k) (each (keyIn c g q) ss ++ seen))
   unfolding standsOffered standOffered
@@ -82,26 +83,18 @@ module _ (c : Columns) (g : Grid) (q : Ranking) where
         step (inr e) = rw e (ap (λ (l : List ℕ). standsOffered c g q l held) (w .listed) ∙ offers-best stands seen (w .readable))
 
     -- the entries es stand in the words from number n on
-    pub entries-best : (entries : List ℕ) (d : Entry) (stands : Entry → List ℕ) (es : List Entry) (n : ℕ) (seen : List ℕ)
-        → ((i : ℕ) → i < length es → (n + i < length entries / 4) × (entryIn entries (n + i) ≡ getD es i d))
+    pub entries-best : (entries : List ℕ) (stands : Entry → List ℕ) (es : List Entry) (n : ℕ) (seen : List ℕ) → Spelled entries (length order) n es
         → ((x : Entry) → In x es → Sound c g q order (stands x) x)
         → entriesTaken c g q order entries (length es) n (bestOf (q .k) seen) ≡ keys (bestOf (q .k) (each (keyIn c g q) (eachList stands es) ++ seen))
     unfolding entriesTaken
-    entries-best entries d stands [] n seen rows sound = refl
-    entries-best entries d stands (x ∷ es) n seen rows sound =
+    entries-best entries stands [] n seen spelled sound = refl
+    entries-best entries stands (x ∷ es) n seen spelled sound =
         let w : Sound c g q order (stands x) x = sound x (inl refl) in
-        let here : n + 0 ≡ n = omega arith in
-        let there : n < length entries / 4 = omega (arith, rows 0 (omega arith) .0) in
-        let read : entryIn entries n ≡ x = rw here at (rows 0 (omega arith) .1) in
-        let able : readableEntry order (entryIn entries n) ≡ true = ap (readableEntry order) read ∙ entry-read order x (w .facts) in
         let mine : List ℕ = each (keyIn c g q) (stands x) in
         let others : List ℕ = each (keyIn c g q) (eachList stands es) in
-        let next : (i : ℕ) → i < length es → (suc n + i < length entries / 4) × (entryIn entries (suc n + i) ≡ getD es i d) =
-        λ i h. let same : n + suc i ≡ suc n + i = omega arith in rw same at (rows (suc i) (omega arith)) in
-        rw (lt-ltb n (length entries / 4) there, able)
-        (ap (λ (s : Search). andThen s (λ more. entriesTaken c g q order entries (length es) (suc n) more))
-        (ap (λ (y : Entry). entryTaken c g q order y (bestOf (q .k) seen)) read ∙ entry-best (stands x) x seen w)
-        ∙ entries-best entries d stands es (suc n) (mine ++ seen) next (λ y k. sound y (inr k))
+        rw (spelled .0, entry-usable order x (w .facts))
+        (ap (λ (s : Search). andThen s (λ more. entriesTaken c g q order entries (length es) (suc n) more)) (entry-best (stands x) x seen w)
+        ∙ entries-best entries stands es (suc n) (mine ++ seen) (spelled .1) (λ y k. sound y (inr k))
         ∙ ap keys
         (in-any-order (q .k) (swap-parts others mine seen)
         ∙ ap (bestOf (q .k)) (sym (append-assoc mine others seen) ∙ ap (λ (l : List ℕ). l ++ seen) (sym (each-append (keyIn c g q) (stands x) (eachList stands es))))))

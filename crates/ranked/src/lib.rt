@@ -1,20 +1,23 @@
-// The ranked question. On a lawful set its answer and both rooms are what the rules give; on any other it is harmless.
+// The ranked question. On a lawful set it comes to what the rules say; on any other it is harmless.
 // Refusals 9 and 8 are the text's, then come 12, 13 and 7; the search itself is the crate `search`.
 ghost use mathlib.Core.Path.{_≡_};
-ghost use Rattle.rules.specs.Tables.{tableOf};
+ghost use Rattle.base.specs.Lent.{given};
+ghost use Rattle.rules.specs.Tables.{tableIn};
 ghost use Rattle.rules.specs.Questions.{rankingLawful};
-ghost use Rattle.rules.specs.Indexes.{indexOf};
-ghost use Rattle.search.specs.Searches.{columns};
-ghost use Rattle.ranked.specs.Promises.{RankedPromise, FromPromise};
+ghost use Rattle.rules.specs.Outcomes.{roomsIn, rankedCameIn};
+ghost use Rattle.rules.specs.Indexes.{indexIn};
+ghost use Rattle.rules.specs.Promises.{RankedPromise};
+ghost use Rattle.search.specs.Searches.{columnsIn};
+ghost use Rattle.ranked.specs.Promises.{RankedFrom};
 use rules::Grid;
 use rules::RankedAnswer;
 use rules::Ranking;
 use rules::Refusal;
 use rules::Verdict;
-use search::best_under;
+use search::best_listed;
 use table::text::text_verdict;
-use walk::Child;
-use walk::node_of;
+use walk::listing::Listing;
+use walk::listing::listing_of;
 
 // Refusal 12 is for a question that is outside its limits.
 fn rankable(grid: Grid, asked: Ranking) -> bool
@@ -32,21 +35,20 @@ fn rankable(grid: Grid, asked: Ranking) -> bool
     asked.k <= Ranking::K_MOST
 }
 
-// The question from where the walk along a text came to; the text itself is no more needed.
+// The question from a text's listing; the text itself is no more needed.
 pub fn ranked_from(
     east: &[i32],
     north: &[i32],
     score: &[u32],
     grid: Grid,
     order: &[u32],
-    nodes: &[u32],
     entries: &[u32],
-    at: Child,
+    at: Listing,
     asked: Ranking,
     found: &mut [u32],
     values: &mut [u64],
 ) -> RankedAnswer
-    ensures { λ r. ⌜ FromPromise (columns (now (east .entry)) (now (north .entry)) (now (score .entry))) grid (indexOf (now (order .entry)) (now (nodes .entry)) (now (entries .entry))) at asked r (now (found .entry)) (now (values .entry)) (now (found .exit)) (now (values .exit)) ⌝ }
+    ensures { λ r. ⌜ RankedFrom (columnsIn east north score) grid (given order) (given entries) at asked (roomsIn found values) (rankedCameIn r found values) ⌝ }
 {
     if !rankable(grid, asked) {
         return RankedAnswer::Refused(Refusal::QuestionOutsideLimits);
@@ -62,21 +64,21 @@ pub fn ranked_from(
         return RankedAnswer::Refused(Refusal::NotLawful);
     }
     match at {
-        Child::At(node) => best_under(
+        Listing::Entries(regions, first) => best_listed(
             east,
             north,
             score,
             grid,
             order,
-            nodes,
             entries,
-            node,
+            regions,
+            first,
             asked,
             found,
             values,
         ),
-        Child::Nowhere => RankedAnswer::Found(0),
-        Child::Broken => RankedAnswer::Refused(Refusal::NotLawful),
+        Listing::Nowhere => RankedAnswer::Found(0),
+        Listing::Broken => RankedAnswer::Refused(Refusal::NotLawful),
     }
 }
 
@@ -96,19 +98,18 @@ pub fn ranked(
     found: &mut [u32],
     values: &mut [u64],
 ) -> RankedAnswer
-    ensures { λ r. ⌜ RankedPromise (tableOf (now (text .entry)) (now (starts .entry)) (now (east .entry)) (now (north .entry)) (now (score .entry))) grid (indexOf (now (order .entry)) (now (nodes .entry)) (now (entries .entry))) (now (typed .entry)) asked r (now (found .entry)) (now (values .entry)) (now (found .exit)) (now (values .exit)) ⌝ }
+    ensures { λ r. ⌜ RankedPromise (tableIn text starts east north score) grid (indexIn order nodes entries) (given typed) asked (roomsIn found values) (rankedCameIn r found values) ⌝ }
 {
     if let Verdict::Refused(why) = text_verdict(typed) {
         return RankedAnswer::Refused(why);
     }
-    let at = node_of(nodes, typed);
+    let at = listing_of(nodes, typed);
     ranked_from(
         east,
         north,
         score,
         grid,
         order,
-        nodes,
         entries,
         at,
         asked,

@@ -4,6 +4,7 @@ pub mod Scheme
 pub mod Places
 pub mod Orders
 pub mod Bytes
+pub mod Names
 pub mod Lawful
 pub mod Refusals
 pub mod Numbers

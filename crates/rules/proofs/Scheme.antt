@@ -21,6 +21,7 @@ small-scheme =
       line1-order = refl;
       line2-nodes = refl;
       line2-entries = refl;
+      line3-text = refl;
       line3 = refl;
       line4 = refl;
       line5 = refl;
@@ -31,5 +32,7 @@ small-scheme =
       line8 = refl;
       line9 = refl;
       line10 = refl;
-      line11 = refl;
+      line11-ki = refl;
+      line11-kiz = refl;
+      line11-letters = refl;
     }

@@ -6,6 +6,7 @@ use Prim.Native.Nat.{ℕ, zero, suc}
 use lib.Dec.{leb}
 use lib.ListN.{length, take}
 use Rattle.base.specs.Lists.{all, each, written}
+use Rattle.base.specs.Lent.{Lent, given, after}
 use Rattle.rules.specs.declared.Hit.{Hit}
 use Rattle.rules.specs.declared.RangeAnswer.{RangeAnswer}
 use Rattle.rules.specs.declared.RankedAnswer.{RankedAnswer}
@@ -25,6 +26,19 @@ rangeCame a found = outcome (rangeNumbers a) (found ∷ [])
 
 abbrev pub rankedCame : RankedAnswer → List ℕ → List ℕ → Outcome
 rankedCame a found values = outcome (rankedNumbers a) (found ∷ values ∷ [])
+
+-- the rooms that a call is lent, and what came of the call
+abbrev pub roomIn : Lent (List ℕ) → List (List ℕ)
+roomIn found = given found ∷ []
+
+abbrev pub roomsIn : Lent (List ℕ) → Lent (List ℕ) → List (List ℕ)
+roomsIn found values = given found ∷ given values ∷ []
+
+abbrev pub rangeCameIn : RangeAnswer → Lent (List ℕ) → Outcome
+rangeCameIn a found = rangeCame a (after found)
+
+abbrev pub rankedCameIn : RankedAnswer → Lent (List ℕ) → Lent (List ℕ) → Outcome
+rankedCameIn a found values = rankedCame a (after found) (after values)
 
 -- a refusal leaves every room as it was
 abbrev pub refused : ℕ → List (List ℕ) → Outcome

@@ -2,17 +2,19 @@
 -- SmallScheme is one statement about the definitions; its proof is a computation.
 use mathlib.Core.Path.{_≡_}
 use mathlib.Core.List.{List, [], _∷_}
-use Prim.Native.Nat.{ℕ}
+use Prim.Native.Nat.{ℕ, _*_}
 use lib.IntN.{pos}
-use Rattle.base.specs.Lists.{each, eachList, upTo}
+use lib.ListN.{take, drop, getD, replicate}
+use Rattle.base.specs.Lists.{each, upTo}
 use Rattle.rules.specs.declared.Grid.{Grid}
 use Rattle.rules.specs.declared.Rect.{Rect}
 use Rattle.rules.specs.declared.Ranking.{Ranking}
 use Rattle.rules.specs.declared.Hit.{Hit}
+use Rattle.rules.specs.declared.Session.{Session}
 use Rattle.rules.specs.Worth.{diagonal²}
 use Rattle.rules.specs.Tables.{Table, tableRefusal}
 use Rattle.rules.specs.Questions.{regionOfStand, rangeList, rankedList}
-use Rattle.rules.specs.Indexes.{orderWords, nodeCount, entryCount, nodeRow, entryRow, entriesOf}
+use Rattle.rules.specs.Indexes.{orderWords, beginnings, nodeCount, entryCount, nodeRow, entryWords}
 use Rattle.rules.specs.Sessions.{sessionOf, lettersTyped, lettersRubbed}
 
 abbrev pub grid : Grid
@@ -48,6 +50,9 @@ hit stand value = record { stand = stand; value = value }
 abbrev pub numbersOf : List Hit → List ℕ
 numbersOf hits = each (λ h. h .stand) hits
 
+abbrev pub session : List ℕ → ℕ → List ℕ → Session
+session text len path = record { text = text; len = len; path = path }
+
 pub record SmallScheme : Type 0 where
   pub lawful : tableRefusal table grid ≡ 0
   pub diagonal : diagonal² grid ≡ 12800
@@ -55,8 +60,9 @@ pub record SmallScheme : Type 0 where
   pub line1-order : orderWords table grid ≡ 0 ∷ 3 ∷ 2 ∷ 4 ∷ 1 ∷ []
   pub line2-nodes : nodeCount table ≡ 12
   pub line2-entries : entryCount table grid ≡ 22
+  pub line3-text : getD (beginnings table) 2 [] ≡ ki
   pub line3 : nodeRow table grid 2 ≡ 1 ∷ 105 ∷ 0 ∷ 4 ∷ 9 ∷ 3 ∷ 2147483648 ∷ 6 ∷ []
-  pub line4 : eachList entryRow (entriesOf table grid ki) ≡ 63 ∷ 900 ∷ 4 ∷ 5 ∷ 0 ∷ 400 ∷ 0 ∷ 2 ∷ 1 ∷ 400 ∷ 2 ∷ 3 ∷ []
+  pub line4 : take 12 (drop (6 * 4) (entryWords table grid)) ≡ 63 ∷ 900 ∷ 4 ∷ 5 ∷ 0 ∷ 400 ∷ 0 ∷ 2 ∷ 1 ∷ 400 ∷ 2 ∷ 3 ∷ []
   pub line5 : rangeList table grid ki (box 0 12 0 9) ≡ 0 ∷ 3 ∷ 2 ∷ []
   pub line5-narrower : rangeList table grid ki (box 0 11 0 9) ≡ 0 ∷ 3 ∷ []
   pub line6 : rangeList table grid [] (box 12 12 5 5) ≡ 2 ∷ []
@@ -65,4 +71,6 @@ pub record SmallScheme : Type 0 where
   pub line8 : rankedList table grid ki (asked 16 2) ≡ hit 1 184320000 ∷ hit 2 81920000 ∷ []
   pub line9 : rankedList table grid ki (asked 8 4) ≡ hit 3 143104000 ∷ hit 2 142968000 ∷ hit 1 116160000 ∷ hit 0 112640000 ∷ []
   pub line10 : numbersOf (rankedList table grid [] (asked 0 3)) ≡ 0 ∷ 3 ∷ 4 ∷ []
-  pub line11 : sessionOf table (lettersRubbed (lettersTyped (lettersTyped (lettersTyped [] 107) 105) 122)) ≡ sessionOf table ki
+  pub line11-ki : sessionOf table ki ≡ session (107 ∷ 105 ∷ replicate 22 0) 2 (0 ∷ 1 ∷ 2 ∷ replicate 22 0)
+  pub line11-kiz : sessionOf table kiz ≡ session (107 ∷ 105 ∷ 122 ∷ replicate 21 0) 3 (0 ∷ 1 ∷ 2 ∷ replicate 22 0)
+  pub line11-letters : lettersRubbed (lettersTyped (lettersTyped (lettersTyped [] 107) 105) 122) ≡ ki

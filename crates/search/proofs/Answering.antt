@@ -1,43 +1,46 @@
--- The ways out of the search under a node: no such node, broken words, or what is held, written.
+-- What the search comes to: broken words are refused, and the keys held, written to the rooms, are what their hits come to.
 -- Assumes nothing.
-use mathlib.Core.Path.{_≡_, refl, sym, ap, _∙_}
-use mathlib.Core.List.{List, []}
-use Prim.Native.Nat.{ℕ}
+use mathlib.Core.Path.{_≡_, sym, ap, _∙_}
+use mathlib.Core.List.{List, [], _∷_}
+use Prim.Native.Nat.{ℕ, _≤_}
 use native.Mathlib.Omega.{arith}
 use lib.ListN.{length, take}
-use lib.Seq.{length-take-le}
-use Rattle.rules.specs.declared.Grid.{Grid}
-use Rattle.rules.specs.declared.Ranking.{Ranking}
+use lib.Seq.{take-all, length-take-le}
+use borrow.Author.Tests.{le-leb}
+use Rattle.base.specs.Lists.{each}
+use Rattle.base.proofs.Members.{each-each, length-each}
 use Rattle.rules.specs.declared.Refusal.the-variants.{NotLawful}
 use Rattle.rules.specs.declared.RankedAnswer.the-variants.{Found, Refused}
-use Rattle.rules.specs.Numbers.{telling}
-use Rattle.grid.specs.declared.cells.Cells.{Cells}
-use Rattle.grid.specs.Cells.{regionsIn}
-use Rattle.walk.specs.declared.listing.Listing.{Listing}
-use Rattle.walk.specs.declared.listing.Listing.the-variants as listing
+use Rattle.rules.specs.Outcomes.{rankedOutcome, rankedCame}
+use Rattle.best.specs.Keys.{hitOfKey}
 use Rattle.search.specs.declared.Kept.{Kept}
 use Rattle.search.specs.declared.Kept.the-variants as kept
-use Rattle.search.specs.Searches.{Columns, broken, entriesTaken, listedTaken, Keeps, Written, Answered}
+use Rattle.search.specs.Searches.{Search, Written, Answers, Keeps}
 use Rattle.search.proofs.Keeping.{held-is, broken-is}
 
-module _ (c : Columns) (g : Grid) (q : Ranking) (order entries : List ℕ) (l : Listing) (room values : List ℕ) where
-  as-broken : listedTaken c g q order entries l ≡ broken → Answered (listedTaken c g q order entries l) (q .k) (Refused NotLawful) room values room values
-  as-broken e = rw e (refl, refl, refl)
+-- the keys l, of which there are at most k, written to rooms of k places
+held-come : (k : ℕ) (l found values found′ values′ : List ℕ) → length l ≤ k → k ≤ length found → k ≤ length values → Written l found values found′ values′
+    → rankedCame (Found (length l)) found′ values′ ≡ rankedOutcome 0 k (each hitOfKey l) (found ∷ values ∷ [])
+held-come k l found values found′ values′ few f v w =
+    let whole : take k (each hitOfKey l) ≡ each hitOfKey l = take-all k (each hitOfKey l) (omega (arith, length-each hitOfKey l)) in
+    rw (
+      le-leb k (length found) f,
+      le-leb k (length values) v,
+      whole,
+      length-each hitOfKey l,
+      each-each (λ h. h .stand) hitOfKey l,
+      each-each (λ h. h .value) hitOfKey l,
+      w .stands,
+      w .worths,
+    )
 
-  pub no-node : l ≡ listing.Broken → Answered (listedTaken c g q order entries l) (q .k) (Refused NotLawful) room values room values
-  no-node e = as-broken (ap (listedTaken c g q order entries) e)
+module _ (s : Search) (k : ℕ) (room : List ℕ) (r : Kept) (w : Keeps s k room r) (found values : List ℕ) where
+  pub broken-words : r ≡ kept.Broken → Answers s k (found ∷ values ∷ []) (rankedCame (Refused NotLawful) found values)
+  broken-words e = rw (broken-is s k room r w e)
 
-  module _ (regions : Cells) (first : ℕ) (listed : l ≡ listing.Entries regions first) (count : ℕ) (counted : count ≡ length (regionsIn regions)) (held : List ℕ) (r : Kept)
-      (k : Keeps (entriesTaken c g q order entries count first []) (q .k) held r) where
-    taken : listedTaken c g q order entries l ≡ entriesTaken c g q order entries count first []
-    taken = ap (listedTaken c g q order entries) listed ∙ ap (λ (n : ℕ). entriesTaken c g q order entries n first []) (sym counted)
-
-    pub broken-words : r ≡ kept.Broken → Answered (listedTaken c g q order entries l) (q .k) (Refused NotLawful) room values room values
-    broken-words e = as-broken (taken ∙ broken-is _ _ _ _ k e)
-
-    pub found-best : (len : ℕ) (room′ values′ : List ℕ) → r ≡ kept.Held len → Written (take len held) room values room′ values′
-        → Answered (listedTaken c g q order entries l) (q .k) (Found len) room values room′ values′
-    found-best len room′ values′ e w =
-        let h = held-is _ _ _ _ k len e in
-        let all : length (take len held) ≡ len = length-take-le len held (omega (arith, h .1 .size, h .1 .within, h .1 .fits)) in
-        rw (taken ∙ h .0) (ap telling (sym all), omega (arith, h .1 .within), w)
+  pub found-best : k ≤ length found → k ≤ length values → (len : ℕ) (found′ values′ : List ℕ) → r ≡ kept.Held len → Written (take len room) found values found′ values′
+      → Answers s k (found ∷ values ∷ []) (rankedCame (Found len) found′ values′)
+  found-best f v len found′ values′ e t =
+      let h = held-is s k room r w len e in
+      let all : length (take len room) ≡ len = length-take-le len room (omega (arith, h .1 .size, h .1 .within, h .1 .fits)) in
+      rw (h .0) (ap (λ (n : ℕ). rankedCame (Found n) found′ values′) (sym all) ∙ held-come k (take len room) found values found′ values′ (omega (arith, h .1 .within)) f v t)

@@ -6,19 +6,19 @@ use mathlib.Core.List.{List, []}
 use Prim.Native.Nat.{ℕ, suc, _+_, _≤_, _<_}
 use native.Mathlib.Omega.{arith}
 use native.Mathlib.Numerals.{add-one}
-use lib.ListN.{length, take, getD}
+use lib.ListN.{take, getD}
 use lib.Seq.{slice, slice-cons, slice-empty}
 use Rattle.base.specs.Lists.{insertBy}
 use Rattle.rules.specs.declared.Grid.{Grid}
 use Rattle.rules.specs.declared.Ranking.{Ranking}
 use Rattle.best.specs.Keys.{keyOf, larger}
-use Rattle.best.specs.Holds.{Holds, Offered}
+use Rattle.best.specs.Holds.{Offered}
 use Rattle.search.specs.declared.Kept.{Kept}
 use Rattle.search.specs.declared.Kept.the-variants as kept
-use Rattle.search.specs.Searches.{Asks, Columns, Search, keys, andThen, readableStand, hitIn, standOffered, standsOffered, Keeps}
+use Rattle.search.specs.Searches.{StandColumns, Searching, Run, Search, keys, andThen, readableStand, hitIn, standOffered, standsOffered, Keeps}
 use Rattle.search.proofs.Keeping.{held-is, broken-is}
 
-module _ (c : Columns) (g : Grid) (q : Ranking) where
+module _ (c : StandColumns) (g : Grid) (q : Ranking) where
   pub unreadable : (s : ℕ) (held room : List ℕ) → readableStand c g s ≡ false → Keeps (standOffered c g q s held) (q .k) room kept.Broken
   unfolding standOffered
   unreadable s held room e = record { is = rw e; holds = tt }
@@ -33,27 +33,23 @@ module _ (c : Columns) (g : Grid) (q : Ranking) where
       }
 
 -- at place i of the order with n held, short of the place past
-pub record Offering (c : Columns) (g : Grid) (q : Ranking) (order : List ℕ) (past : ℕ) (whole : Search) (room : List ℕ) (n i : ℕ) : Type 0 where
-  pub asks : Asks g q
-  pub within : i ≤ past
-  pub inside : past ≤ length order
-  pub holds : Holds room n (q .k)
+pub record Offering (c : StandColumns) (g : Grid) (q : Ranking) (order : List ℕ) (past : ℕ) (whole : Search) (room : List ℕ) (n i : ℕ) : Type 0 where
+  pub searching : Searching g q room n
+  pub run : Run order i past
   pub rest : standsOffered c g q (slice i past order) (take n room) ≡ whole
 
-module _ (c : Columns) (g : Grid) (q : Ranking) (order : List ℕ) (past : ℕ) (whole : Search) (room : List ℕ) (n i : ℕ) (w : Offering c g q order past whole room n i) where
+module _ (c : StandColumns) (g : Grid) (q : Ranking) (order : List ℕ) (past : ℕ) (whole : Search) (room : List ℕ) (n i : ℕ) (w : Offering c g q order past whole room n i) where
   module _ (more : i < past) (after : List ℕ) (r : Kept) (k : Keeps (standOffered c g q (getD order i 0) (take n room)) (q .k) after r) where
     opened : andThen (standOffered c g q (getD order i 0) (take n room)) (λ held. standsOffered c g q (slice (suc i) past order) held) ≡ whole
     unfolding standsOffered
-    opened = ap (λ (l : List ℕ). standsOffered c g q l (take n room)) (sym (slice-cons i past order 0 more (w .inside))) ∙ w .rest
+    opened = ap (λ (l : List ℕ). standsOffered c g q l (take n room)) (sym (slice-cons i past order 0 more (w .run .inside))) ∙ w .rest
 
     pub offer-next : (m : ℕ) → r ≡ kept.Held m → Offering c g q order past whole after m (i + 1)
     offer-next m e =
         let h = held-is _ _ _ _ k m e in
         record {
-          asks = w .asks;
-          within = omega arith;
-          inside = w .inside;
-          holds = h .1;
+          searching = record { asks = w .searching .asks; holds = h .1 };
+          run = record { forward = omega arith; inside = w .run .inside };
           rest =
               ap (λ (j : ℕ). standsOffered c g q (slice j past order) (take m after)) (add-one i)
               ∙ ap (λ (s : Search). andThen s (λ held. standsOffered c g q (slice (suc i) past order) held)) (sym (h .0))
@@ -70,6 +66,6 @@ module _ (c : Columns) (g : Grid) (q : Ranking) (order : List ℕ) (past : ℕ) 
   pub offer-done : past ≤ i → Keeps whole (q .k) room (kept.Held n)
   unfolding standsOffered
   offer-done h =
-      let end : i ≡ past = omega (arith, w .within) in
+      let end : i ≡ past = omega (arith, w .run .forward) in
       let none : slice i past order ≡ [] = ap (λ (j : ℕ). slice j past order) end ∙ slice-empty past order in
-      record { is = ap (λ (l : List ℕ). standsOffered c g q l (take n room)) (sym none) ∙ w .rest; holds = w .holds }
+      record { is = ap (λ (l : List ℕ). standsOffered c g q l (take n room)) (sym none) ∙ w .rest; holds = w .searching .holds }

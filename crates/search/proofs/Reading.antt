@@ -1,23 +1,26 @@
--- What it says that a stand or an entry can be read, both ways.
+-- What it says that a stand can be read and an entry be used, both ways.
 -- Assumes nothing.
-use mathlib.Core.Path.{_≡_, sym}
-use mathlib.Core.Bool.{true, false, and-true}
+use mathlib.Core.Path.{_≡_, refl, sym, subst}
+use mathlib.Core.Bool.{Bool, true, false, cond, _&&_, and-true}
 use mathlib.Core.List.{List}
-use Prim.Native.Nat.{ℕ, _≤_, _<_}
+use Prim.Native.Nat.{ℕ, _/_, _≤_, _<_}
 use lib.Dec.{ltb}
 use lib.ListN.{length, getD}
 use borrow.Author.Tests.{ltb-true, leb-true, lt-ltb, le-ltb, le-leb, lt-leb}
 use Rattle.base.specs.Lists.{every}
-use Rattle.base.proofs.Tests.{every-at, every-of, every-not}
+use Rattle.base.proofs.Tests.{and-parts, every-at, every-of, every-not}
 use Rattle.rules.specs.declared.Grid.{Grid}
 use Rattle.rules.specs.Places.{inGrid}
 use Rattle.rules.specs.Tables.{placeIn}
-use Rattle.search.specs.declared.Entry.{Entry}
-use Rattle.search.specs.Searches.{Columns, readableStand, readableEntry}
+use Rattle.walk.specs.declared.entry.Entry.{Entry}
+use Rattle.walk.specs.declared.entry.EntryRead.{EntryRead}
+use Rattle.walk.specs.declared.entry.EntryRead.the-variants.{At, Broken}
+use Rattle.walk.specs.Entries.{entryIn, within, entryRead}
+use Rattle.search.specs.Searches.{StandColumns, readableStand, usable}
 
 -- ---- a stand
 
-pub record StandFacts (c : Columns) (g : Grid) (s : ℕ) : Type 0 where
+pub record StandFacts (c : StandColumns) (g : Grid) (s : ℕ) : Type 0 where
   pub small : s < 1024
   pub has-east : s < length (c .east)
   pub has-north : s < length (c .north)
@@ -25,7 +28,7 @@ pub record StandFacts (c : Columns) (g : Grid) (s : ℕ) : Type 0 where
   pub scored : getD (c .score) s 0 ≤ 1000
   pub inside : inGrid g (placeIn (c .east) (c .north) s) ≡ true
 
-module _ (c : Columns) (g : Grid) (s : ℕ) where
+module _ (c : StandColumns) (g : Grid) (s : ℕ) where
   pub stand-facts : readableStand c g s ≡ true → StandFacts c g s
   unfolding readableStand
   stand-facts e =
@@ -73,48 +76,46 @@ module _ (c : Columns) (g : Grid) (s : ℕ) where
 
 -- ---- an entry
 
+-- one that was read is there, and within the places
+pub read-facts : (words : List ℕ) (places number : ℕ) (x : Entry) → entryRead words places number ≡ At x → (number < length words / 4) × (within places x ≡ true)
+unfolding entryRead
+read-facts words places number x e = subst Facts e (step _ refl)
+  where
+    Facts : EntryRead → Type 0
+    Facts (At x) = (number < length words / 4) × (within places x ≡ true)
+    Facts Broken = Unit {0}
+
+    step : (b : Bool) → (ltb number (length words / 4) && within places (entryIn words number)) ≡ b → Facts (cond b (At (entryIn words number)) Broken)
+    step true h = let w = and-parts _ _ h in (ltb-true _ _ (w .0), w .1)
+    step false h = tt
+
 pub record EntryFacts (order : List ℕ) (x : Entry) : Type 0 where
-  pub region : x .region < 64
   pub scored : x .score ≤ 1000
   pub some : x .first .0 < x .past .0
-  pub inside : x .past .0 ≤ length order
   pub small : getD order (x .first .0) 0 < 1024
 
 module _ (order : List ℕ) (x : Entry) where
-  pub entry-facts : readableEntry order x ≡ true → EntryFacts order x
-  unfolding readableEntry
+  pub entry-facts : usable order x ≡ true → EntryFacts order x
+  unfolding usable
   entry-facts e =
       record {
-        region = ltb-true _ _ (every-at _ 0 e);
-        scored = leb-true _ _ (every-at _ 1 e);
-        some = ltb-true _ _ (every-at _ 2 e);
-        inside = leb-true _ _ (every-at _ 3 e);
-        small = ltb-true _ _ (every-at _ 4 e);
+        scored = leb-true _ _ (every-at _ 0 e);
+        some = ltb-true _ _ (every-at _ 1 e);
+        small = ltb-true _ _ (every-at _ 2 e);
       }
 
-  pub entry-read : EntryFacts order x → readableEntry order x ≡ true
-  unfolding readableEntry
-  entry-read f =
-      every-of _
-      (lt-ltb _ _ (f .region), (le-leb _ _ (f .scored), (lt-ltb _ _ (f .some), (le-leb _ _ (f .inside), (lt-ltb _ _ (f .small), tt)))))
+  pub entry-usable : EntryFacts order x → usable order x ≡ true
+  unfolding usable
+  entry-usable f = every-of _ (le-leb _ _ (f .scored), (lt-ltb _ _ (f .some), (lt-ltb _ _ (f .small), tt)))
 
-  pub no-region : 64 ≤ x .region → false ≡ readableEntry order x
-  unfolding readableEntry
-  no-region h = sym (every-not _ 0 (le-ltb _ _ h))
+  pub entry-over : 1000 < x .score → false ≡ usable order x
+  unfolding usable
+  entry-over h = sym (every-not _ 0 (lt-leb _ _ h))
 
-  pub entry-over : 1000 < x .score → false ≡ readableEntry order x
-  unfolding readableEntry
-  entry-over h = sym (every-not _ 1 (lt-leb _ _ h))
+  pub no-places : x .past .0 ≤ x .first .0 → false ≡ usable order x
+  unfolding usable
+  no-places h = sym (every-not _ 1 (le-ltb _ _ h))
 
-  pub no-places : x .past .0 ≤ x .first .0 → false ≡ readableEntry order x
-  unfolding readableEntry
-  no-places h = sym (every-not _ 2 (le-ltb _ _ h))
-
-  pub past-order : length order < x .past .0 → false ≡ readableEntry order x
-  unfolding readableEntry
-  past-order h = sym (every-not _ 3 (lt-leb _ _ h))
-
-  pub first-decides : x .region < 64 → x .score ≤ 1000 → x .first .0 < x .past .0 → x .past .0 ≤ length order
-      → ltb (getD order (x .first .0) 0) 1024 ≡ readableEntry order x
-  unfolding readableEntry every
-  first-decides a b d e = rw (lt-ltb _ _ a, le-leb _ _ b, lt-ltb _ _ d, le-leb _ _ e) (sym (and-true (ltb (getD order (x .first .0) 0) 1024)))
+  pub first-decides : x .score ≤ 1000 → x .first .0 < x .past .0 → ltb (getD order (x .first .0) 0) 1024 ≡ usable order x
+  unfolding usable every
+  first-decides a b = rw (le-leb _ _ a, lt-ltb _ _ b) (sym (and-true (ltb (getD order (x .first .0) 0) 1024)))

@@ -11,7 +11,7 @@ use Rattle.base.specs.Lists.{each, written}
 use Rattle.base.proofs.Members.{length-each, each-append}
 use Rattle.base.proofs.Rooms.{length-written, written-next}
 use Rattle.best.specs.Keys.{valueIn, standIn}
-use Rattle.search.specs.Searches.{Written}
+use Rattle.search.specs.Searches.{Writable, Written}
 
 -- of the first i keys f is written
 module _ (f : ℕ → ℕ) (held room : List ℕ) (i : ℕ) (there : i < length held) where
@@ -31,38 +31,34 @@ module _ (f : ℕ → ℕ) (held room : List ℕ) (i : ℕ) (there : i < length 
 -- i of the len keys are written
 pub record Writing (held : List ℕ) (len : ℕ) (room₀ values₀ room values : List ℕ) (i : ℕ) : Type 0 where
   pub within : i ≤ len
-  pub all : len ≤ length held
-  pub stands-fit : len ≤ length room₀
-  pub values-fit : len ≤ length values₀
+  pub fits : Writable held len room₀ values₀
   pub done : Written (take i held) room₀ values₀ room values
 
 module _ (held : List ℕ) (len : ℕ) (room₀ values₀ : List ℕ) where
-  pub write-begin : len ≤ length held → len ≤ length room₀ → len ≤ length values₀ → Writing held len room₀ values₀ room₀ values₀ 0
-  write-begin h s v = record { within = omega arith; all = h; stands-fit = s; values-fit = v; done = record { stands = refl; worths = refl } }
+  pub write-begin : Writable held len room₀ values₀ → Writing held len room₀ values₀ room₀ values₀ 0
+  write-begin f = record { within = omega arith; fits = f; done = record { stands = refl; worths = refl } }
 
   module _ (room values : List ℕ) (i : ℕ) (w : Writing held len room₀ values₀ room values i) where
     length-kept : (f : ℕ → ℕ) (before : List ℕ) → len ≤ length before → length (written (each f (take i held)) before) ≡ length before
     length-kept f before h =
         length-written (each f (take i held)) before
-        (omega (arith, length-each f (take i held), length-take-le i held (omega (arith, w .within, w .all)), w .within))
+        (omega (arith, length-each f (take i held), length-take-le i held (omega (arith, w .within, w .fits .size, w .fits .few)), w .within))
 
     pub stands-long : length room ≡ length room₀
-    stands-long = ap length (w .done .stands) ∙ length-kept standIn room₀ (w .stands-fit)
+    stands-long = ap length (w .done .stands) ∙ length-kept standIn room₀ (w .fits .stands-fit)
 
     pub values-long : length values ≡ length values₀
-    values-long = ap length (w .done .worths) ∙ length-kept valueIn values₀ (w .values-fit)
+    values-long = ap length (w .done .worths) ∙ length-kept valueIn values₀ (w .fits .values-fit)
 
     pub write-next : i < len → Writing held len room₀ values₀ (set room i (standIn (getD held i 0))) (set values i (valueIn (getD held i 0))) (i + 1)
     write-next h =
-        let there : i < length held = omega (arith, w .all) in
+        let there : i < length held = omega (arith, w .fits .size, w .fits .few) in
         record {
           within = omega arith;
-          all = w .all;
-          stands-fit = w .stands-fit;
-          values-fit = w .values-fit;
+          fits = w .fits;
           done = record {
-            stands = next-key standIn held room₀ i there room (omega (arith, w .stands-fit)) (w .done .stands);
-            worths = next-key valueIn held values₀ i there values (omega (arith, w .values-fit)) (w .done .worths);
+            stands = next-key standIn held room₀ i there room (omega (arith, w .fits .stands-fit)) (w .done .stands);
+            worths = next-key valueIn held values₀ i there values (omega (arith, w .fits .values-fit)) (w .done .worths);
           };
         }
 

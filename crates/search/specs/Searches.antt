@@ -3,44 +3,59 @@
 use mathlib.Core.Path.{_≡_}
 use mathlib.Core.Bool.{Bool, true, cond, _&&_}
 use mathlib.Core.List.{List, [], _∷_}
-use Prim.Native.Nat.{ℕ, zero, suc, _-_, _*_, _+_, _/_, _≤_}
+use Prim.Native.Nat.{ℕ, zero, suc, _-_, _≤_}
 use lib.IntN.{ℤ}
 use lib.Dec.{ltb, leb}
 use lib.ListN.{length, take, getD}
 use lib.Seq.{slice}
 use Rattle.base.specs.Lists.{every, each, insertBy, written}
+use Rattle.base.specs.Lent.{Lent, given}
 use Rattle.rules.specs.declared.Grid.{Grid}
 use Rattle.rules.specs.declared.Ranking.{Ranking}
 use Rattle.rules.specs.declared.Hit.{Hit}
-use Rattle.rules.specs.declared.RankedAnswer.{RankedAnswer}
-use Rattle.rules.specs.Numbers.{telling, refusing, rankedNumbers}
 use Rattle.rules.specs.Places.{gridLawful, inGrid}
 use Rattle.rules.specs.Worth.{valueOf, boundOf}
 use Rattle.rules.specs.Tables.{placeIn}
 use Rattle.rules.specs.Questions.{rankingLawful}
+use Rattle.rules.specs.Outcomes.{Outcome, refused, rankedOutcome}
+use Rattle.grid.specs.declared.cells.Cells.{Cells}
 use Rattle.grid.specs.Cells.{regionsIn}
-use Rattle.walk.specs.declared.listing.Listing.{Listing}
-use Rattle.walk.specs.declared.listing.Listing.the-variants as listing
-use Rattle.walk.specs.Listings.{listingIn}
-use Rattle.best.specs.Keys.{keyOf, valueIn, standIn, larger}
+use Rattle.walk.specs.declared.entry.Entry.{Entry}
+use Rattle.walk.specs.declared.entry.EntryRead.{EntryRead}
+use Rattle.walk.specs.declared.entry.EntryRead.the-variants as read
+use Rattle.walk.specs.Entries.{within, entryRead}
+use Rattle.best.specs.Keys.{keyOf, valueIn, standIn, hitOfKey, larger}
 use Rattle.best.specs.Holds.{Holds}
 use Rattle.search.specs.declared.Kept.{Kept}
 use Rattle.search.specs.declared.Kept.the-variants as kept
-use Rattle.search.specs.declared.Entry.{Entry}
 
 -- what a search takes for granted: its callers have tested it
 pub record Asks (g : Grid) (q : Ranking) : Type 0 where
   pub grid : gridLawful g ≡ true
   pub ranking : rankingLawful g q ≡ true
 
+-- and k places in each room
+pub record Searchable (g : Grid) (q : Ranking) (found values : List ℕ) : Type 0 where
+  pub asks : Asks g q
+  pub stands-fit : q .k ≤ length found
+  pub values-fit : q .k ≤ length values
+
+-- with len keys held
+pub record Searching (g : Grid) (q : Ranking) (room : List ℕ) (len : ℕ) : Type 0 where
+  pub asks : Asks g q
+  pub holds : Holds room len (q .k)
+
 -- the parts of a table that are read of a stand
-pub record Columns : Type 0 where
+pub record StandColumns : Type 0 where
   pub east : List ℤ
   pub north : List ℤ
   pub score : List ℕ
 
-abbrev pub columns : List ℤ → List ℤ → List ℕ → Columns
-columns east north score = record { east = east; north = north; score = score }
+abbrev pub standColumns : List ℤ → List ℤ → List ℕ → StandColumns
+standColumns east north score = record { east = east; north = north; score = score }
+
+abbrev pub columnsIn : Lent (List ℤ) → Lent (List ℤ) → Lent (List ℕ) → StandColumns
+columnsIn east north score = standColumns (given east) (given north) (given score)
 
 -- what a search has come to
 pub data Search : Type 0 where
@@ -53,7 +68,7 @@ andThen (keys l) next = next l
 
 -- ---- stands
 
-unfoldable pub readableStand : Columns → Grid → ℕ → Bool
+unfoldable pub readableStand : StandColumns → Grid → ℕ → Bool
 readableStand c g s =
     every
     (ltb s 1024
@@ -64,40 +79,30 @@ readableStand c g s =
     ∷ inGrid g (placeIn (c .east) (c .north) s)
     ∷ [])
 
-abbrev pub hitIn : Columns → Grid → Ranking → ℕ → Hit
+abbrev pub hitIn : StandColumns → Grid → Ranking → ℕ → Hit
 hitIn c g q s = record { stand = s; value = valueOf g (q .weight) (getD (c .score) s 0) (placeIn (c .east) (c .north) s) (q .place) }
 
-unfoldable pub standOffered : Columns → Grid → Ranking → ℕ → List ℕ → Search
+unfoldable pub standOffered : StandColumns → Grid → Ranking → ℕ → List ℕ → Search
 standOffered c g q s held = cond (readableStand c g s) (keys (take (q .k) (insertBy larger (keyOf (hitIn c g q s)) held))) broken
 
-unfoldable pub standsOffered : Columns → Grid → Ranking → List ℕ → List ℕ → Search
+unfoldable pub standsOffered : StandColumns → Grid → Ranking → List ℕ → List ℕ → Search
 standsOffered c g q [] held = keys held
 standsOffered c g q (s ∷ ss) held = andThen (standOffered c g q s held) (λ more. standsOffered c g q ss more)
 
+-- from one place of the order on, short of another
+pub record Run (order : List ℕ) (first past : ℕ) : Type 0 where
+  pub forward : first ≤ past
+  pub inside : past ≤ length order
+
 -- ---- entries
 
--- word k of entry e, counted from 0; 0 outside
-abbrev pub entryWord : List ℕ → ℕ → ℕ → ℕ
-entryWord entries e k = getD entries (e * 4 + k) 0
+-- of an entry that was read
+unfoldable pub usable : List ℕ → Entry → Bool
+usable order x = every (leb (x .score) 1000 ∷ ltb (x .first .0) (x .past .0) ∷ ltb (getD order (x .first .0) 0) 1024 ∷ [])
 
-abbrev pub entryIn : List ℕ → ℕ → Entry
-entryIn entries e =
-    record {
-      region = entryWord entries e 0;
-      score = entryWord entries e 1;
-      first = record { 0 = entryWord entries e 2 };
-      past = record { 0 = entryWord entries e 3 };
-    }
-
-unfoldable pub readableEntry : List ℕ → Entry → Bool
-readableEntry order x =
-    every
-    (ltb (x .region) 64
-    ∷ leb (x .score) 1000
-    ∷ ltb (x .first .0) (x .past .0)
-    ∷ leb (x .past .0) (length order)
-    ∷ ltb (getD order (x .first .0) 0) 1024
-    ∷ [])
+pub record MayTake (order : List ℕ) (x : Entry) : Type 0 where
+  pub inside : within (length order) x ≡ true
+  pub sound : usable order x ≡ true
 
 -- a stand with an entry's bound for its value and the entry's first number
 abbrev pub boundHit : Grid → Ranking → List ℕ → Entry → Hit
@@ -107,26 +112,20 @@ boundHit g q order x = record { stand = getD order (x .first .0) 0; value = boun
 unfoldable pub passedOver : ℕ → List ℕ → ℕ → Bool
 passedOver k held key = leb k (length held) && ltb key (getD held (k - 1) 0)
 
-unfoldable pub entryTaken : Columns → Grid → Ranking → List ℕ → Entry → List ℕ → Search
+unfoldable pub entryTaken : StandColumns → Grid → Ranking → List ℕ → Entry → List ℕ → Search
 entryTaken c g q order x held =
     cond (passedOver (q .k) held (keyOf (boundHit g q order x))) (keys held)
     (standsOffered c g q (slice (x .first .0) (x .past .0) order) held)
 
+abbrev pub readTaken : StandColumns → Grid → Ranking → List ℕ → EntryRead → List ℕ → Search
+readTaken c g q order (read.At x) held = cond (usable order x) (entryTaken c g q order x held) broken
+readTaken c g q order read.Broken held = broken
+
 -- n entries from e on
-unfoldable pub entriesTaken : Columns → Grid → Ranking → List ℕ → List ℕ → ℕ → ℕ → List ℕ → Search
+unfoldable pub entriesTaken : StandColumns → Grid → Ranking → List ℕ → List ℕ → ℕ → ℕ → List ℕ → Search
 entriesTaken c g q order entries zero e held = keys held
 entriesTaken c g q order entries (suc n) e held =
-    cond (ltb e (length entries / 4) && readableEntry order (entryIn entries e))
-    (andThen (entryTaken c g q order (entryIn entries e) held) (λ more. entriesTaken c g q order entries n (suc e) more))
-    broken
-
--- all that a node lists
-abbrev pub listedTaken : Columns → Grid → Ranking → List ℕ → List ℕ → Listing → Search
-listedTaken c g q order entries (listing.Entries regions first) = entriesTaken c g q order entries (length (regionsIn regions)) first []
-listedTaken c g q order entries listing.Broken = broken
-
-abbrev pub bestUnder : Columns → Grid → Ranking → List ℕ → List ℕ → List ℕ → ℕ → Search
-bestUnder c g q order nodes entries j = listedTaken c g q order entries (listingIn nodes j)
+    andThen (readTaken c g q order (entryRead entries (length order) e) held) (λ more. entriesTaken c g q order entries n (suc e) more)
 
 -- ---- what the calls promise
 
@@ -143,11 +142,23 @@ pub record Keeps (s : Search) (k : ℕ) (room : List ℕ) (r : Kept) : Type 0 wh
   pub is : searchOf r room ≡ s
   pub holds : HoldsSome r room k
 
+-- a place in both rooms for each of len keys
+pub record Writable (held : List ℕ) (len : ℕ) (found values : List ℕ) : Type 0 where
+  pub size : length held ≡ 16
+  pub few : len ≤ 16
+  pub stands-fit : len ≤ length found
+  pub values-fit : len ≤ length values
+
 -- the stands and values of these keys are written to the two rooms, and nothing else
-pub record Written (l room values room′ values′ : List ℕ) : Type 0 where
-  pub stands : room′ ≡ written (each standIn l) room
+pub record Written (l found values found′ values′ : List ℕ) : Type 0 where
+  pub stands : found′ ≡ written (each standIn l) found
   pub worths : values′ ≡ written (each valueIn l) values
 
-abbrev pub Answered : Search → ℕ → RankedAnswer → List ℕ → List ℕ → List ℕ → List ℕ → Type 0
-Answered broken k a room values room′ values′ = (rankedNumbers a ≡ refusing 7) × (room′ ≡ room) × (values′ ≡ values)
-Answered (keys l) k a room values room′ values′ = (rankedNumbers a ≡ telling (length l)) × (length l ≤ k) × Written l room values room′ values′
+-- broken words are refused, keys held come to what their hits do
+abbrev pub Answers : Search → ℕ → List (List ℕ) → Outcome → Type 0
+Answers broken k rooms o = o ≡ refused 7 rooms
+Answers (keys l) k rooms o = o ≡ rankedOutcome 0 k (each hitOfKey l) rooms
+
+-- of a listing: an entry for each of its regions
+abbrev pub BestListed : StandColumns → Grid → Ranking → List ℕ → List ℕ → Cells → ℕ → List (List ℕ) → Outcome → Type 0
+BestListed c g q order entries regions first rooms o = Answers (entriesTaken c g q order entries (length (regionsIn regions)) first []) (q .k) rooms o

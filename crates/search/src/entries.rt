@@ -1,66 +1,43 @@
-// A node's entries in their order, each passed over or taken.
+// The listed entries in their order, each passed over or taken.
 // An entry is passed over if k are held and even a stand with its bound and its first number would come after the last of them.
 ghost use mathlib.Core.Path.{_≡_};
 ghost use mathlib.Core.Bool.{true};
 ghost use mathlib.Core.List.{[]};
-ghost use Prim.Native.Nat.{_<_, _/_};
 ghost use lib.ListN.{length, take};
+ghost use Rattle.base.specs.Lent.{given, after};
+ghost use Rattle.walk.specs.Entries.{within};
 ghost use Rattle.best.specs.Holds.{Holds};
-ghost use Rattle.search.specs.Searches.{columns, Asks, entryIn, readableEntry, passedOver, entryTaken, entriesTaken, Keeps};
-use super::Entry;
+ghost use Rattle.search.specs.Searches.{columnsIn, Asks, Searching, usable, MayTake, passedOver, entryTaken, entriesTaken, Keeps};
 use super::Kept;
 use crate::stands::offer_places;
 use best::Held;
 use best::key_of;
 use grid::worth::bound;
 use rules::Grid;
-use rules::OrderPlace;
 use rules::Ranking;
 use rules::Stand;
-use rules::layout::BEST_SCORE;
-use rules::layout::ENTRY_WORDS;
-use rules::layout::FIRST_PLACE;
-use rules::layout::PAST_PLACE;
-use rules::layout::REGION;
+use walk::entry::Entry;
+use walk::entry::EntryRead;
+use walk::entry::entry_at;
 
-fn entry_at(entries: &[u32], e: usize) -> Entry
-    requires { ⌜ e < length (now entries) / 4 ⌝ }
-    ensures { λ r. ⌜ r ≡ entryIn (now (entries .entry)) e ⌝ }
+// Whether an entry can be gone by: a score in its limits, some place, a first stand that a key has room for.
+fn usable(order: &[u32], entry: Entry) -> bool
+    requires { ⌜ within (length (now order)) entry ≡ true ⌝ }
+    ensures { λ r. ⌜ r ≡ usable (given order) entry ⌝ }
 {
-    let at = e * ENTRY_WORDS;
-    Entry {
-        region: entries[at + REGION],
-        score: entries[at + BEST_SCORE],
-        first: OrderPlace(entries[at + FIRST_PLACE]),
-        past: OrderPlace(entries[at + PAST_PLACE]),
-    }
-}
-
-// Whether an entry can be gone by: a region, a score in its limits, places of the order, a first stand that a key has room for.
-fn readable_entry(order: &[u32], entry: Entry) -> bool
-    ensures { λ r. ⌜ r ≡ readableEntry (now (order .entry)) entry ⌝ }
-{
-    if Grid::SIDE * Grid::SIDE <= entry.region {
-        return false;
-    }
     if Stand::SCORE_MOST < entry.score {
         return false;
     }
-    let first = entry.first.0 as usize;
-    let past = entry.past.0 as usize;
-    if past <= first {
+    if entry.past.0 <= entry.first.0 {
         return false;
     }
-    if order.len() < past {
-        return false;
-    }
-    (order[first] as usize) < Stand::MOST
+    (order[entry.first.0 as usize] as usize) < Stand::MOST
 }
 
 // Whether k are held and the last of them goes before this key.
 fn passed_over(held: &Held, len: usize, k: usize, key: u64) -> bool
     requires { ⌜ Holds (now held) len k ⌝ }
-    ensures { λ r. ⌜ r ≡ passedOver k (take len (now (held .entry))) key ⌝ }
+    ensures { λ r. ⌜ r ≡ passedOver k (take len (given held)) key ⌝ }
 {
     if len < k {
         return false;
@@ -80,12 +57,12 @@ fn take_entry(
     held: &mut Held,
     len: usize,
 ) -> Kept
-    requires { ⌜ (Asks grid asked) × (Holds (now held) len (asked .k)) × (readableEntry (now order) entry ≡ true) ⌝ }
-    ensures { λ r. ⌜ Keeps (entryTaken (columns (now (east .entry)) (now (north .entry)) (now (score .entry))) grid asked (now (order .entry)) entry (take len (now (held .entry)))) (asked .k) (now (held .exit)) r ⌝ }
+    requires { ⌜ Searching grid asked (now held) len × MayTake (now order) entry ⌝ }
+    ensures { λ r. ⌜ Keeps (entryTaken (columnsIn east north score) grid asked (given order) entry (take len (given held))) (asked .k) (after held) r ⌝ }
 {
     let most = bound(grid, asked.weight, entry.score, entry.region, asked.place);
     let first = entry.first.0 as usize;
-    let stand = order[first];
+    let stand = Stand(order[first]);
     let key = key_of(most, stand);
     if passed_over(held, len, asked.k as usize, key) {
         return Kept::Held(len);
@@ -118,17 +95,16 @@ pub(crate) fn take_entries(
     held: &mut Held,
 ) -> Kept
     requires { ⌜ (Asks grid asked) × (length (now held) ≡ 16) ⌝ }
-    ensures { λ r. ⌜ Keeps (entriesTaken (columns (now (east .entry)) (now (north .entry)) (now (score .entry))) grid asked (now (order .entry)) (now (entries .entry)) count from []) (asked .k) (now (held .exit)) r ⌝ }
+    ensures { λ r. ⌜ Keeps (entriesTaken (columnsIn east north score) grid asked (given order) (given entries) count from []) (asked .k) (after held) r ⌝ }
 {
     let mut len = 0;
     let mut left = count;
     let mut e = from as usize;
     while 0 < left {
-        if entries.len() / ENTRY_WORDS <= e {
+        let EntryRead::At(entry) = entry_at(entries, e, order.len()) else {
             return Kept::Broken;
-        }
-        let entry = entry_at(entries, e);
-        if !readable_entry(order, entry) {
+        };
+        if !usable(order, entry) {
             return Kept::Broken;
         }
         match take_entry(east, north, score, grid, order, entry, asked, held, len) {

@@ -1,10 +1,9 @@
 // Stands offered to the k best, one by one or all that stand at some places of the order.
 ghost use mathlib.Core.Path.{_≡_};
-ghost use Prim.Native.Nat.{_≤_};
-ghost use lib.ListN.{length, take};
+ghost use lib.ListN.{take};
 ghost use lib.Seq.{slice};
-ghost use Rattle.best.specs.Holds.{Holds};
-ghost use Rattle.search.specs.Searches.{columns, Asks, readableStand, standOffered, standsOffered, Keeps};
+ghost use Rattle.base.specs.Lent.{given, after};
+ghost use Rattle.search.specs.Searches.{columnsIn, Searching, Run, readableStand, standOffered, standsOffered, Keeps};
 use super::Kept;
 use best::Held;
 use best::key_of;
@@ -18,7 +17,7 @@ use rules::Stand;
 
 // Whether a stand can be reckoned with: a number that a key has room for, a place of the grid, a score in its limits.
 fn readable_stand(east: &[i32], north: &[i32], score: &[u32], grid: Grid, s: usize) -> bool
-    ensures { λ r. ⌜ r ≡ readableStand (columns (now (east .entry)) (now (north .entry)) (now (score .entry))) grid s ⌝ }
+    ensures { λ r. ⌜ r ≡ readableStand (columnsIn east north score) grid s ⌝ }
 {
     if Stand::MOST <= s {
         return false;
@@ -55,8 +54,8 @@ fn offer_stand(
     held: &mut Held,
     len: usize,
 ) -> Kept
-    requires { ⌜ (Asks grid asked) × (Holds (now held) len (asked .k)) ⌝ }
-    ensures { λ r. ⌜ Keeps (standOffered (columns (now (east .entry)) (now (north .entry)) (now (score .entry))) grid asked (stand .0) (take len (now (held .entry)))) (asked .k) (now (held .exit)) r ⌝ }
+    requires { ⌜ Searching grid asked (now held) len ⌝ }
+    ensures { λ r. ⌜ Keeps (standOffered (columnsIn east north score) grid asked (stand .0) (take len (given held))) (asked .k) (after held) r ⌝ }
 {
     let s = stand.0 as usize;
     if !readable_stand(east, north, score, grid, s) {
@@ -67,7 +66,7 @@ fn offer_stand(
         north: north[s],
     };
     let worth = value(grid, asked.weight, score[s], place, asked.place);
-    let key = key_of(worth, stand.0);
+    let key = key_of(worth, stand);
     Kept::Held(offer(held, len, asked.k as usize, key))
 }
 
@@ -84,8 +83,8 @@ pub(crate) fn offer_places(
     held: &mut Held,
     len: usize,
 ) -> Kept
-    requires { ⌜ (Asks grid asked) × (Holds (now held) len (asked .k)) × (first .0 ≤ past .0) × (past .0 ≤ length (now order)) ⌝ }
-    ensures { λ r. ⌜ Keeps (standsOffered (columns (now (east .entry)) (now (north .entry)) (now (score .entry))) grid asked (slice (first .0) (past .0) (now (order .entry))) (take len (now (held .entry)))) (asked .k) (now (held .exit)) r ⌝ }
+    requires { ⌜ Searching grid asked (now held) len × Run (now order) (first .0) (past .0) ⌝ }
+    ensures { λ r. ⌜ Keeps (standsOffered (columnsIn east north score) grid asked (slice (first .0) (past .0) (given order)) (take len (given held))) (asked .k) (after held) r ⌝ }
 {
     let mut n = len;
     let mut i = first.0 as usize;

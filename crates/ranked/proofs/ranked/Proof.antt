@@ -1,8 +1,8 @@
--- `ranked::ranked` meets its promise: the text is refused, or the walk along it goes before. Assumes nothing.
+-- `ranked::ranked` meets its promise: the text is refused, or its listing goes before. Assumes nothing.
 use borrow.Author.Needs.{needs}
 use mathlib.Core.Path.{sym, ap, _∙_}
 use Rattle.rules.specs.Numbers.{verdictNumber}
-use Rattle.ranked.proofs.Ways.{text-refused, text-walked}
+use Rattle.ranked.proofs.Ways.{of-refused, of-listed}
 use Rattle.ranked.proofs.ranked.Statement.{statement}
 use Rattle.ranked.proofs.ranked.Tie as tie
 
@@ -13,13 +13,13 @@ enum-known-why : tie.Need-enum-known-why
 enum-known-why c = search needs
 
 returns : tie.Need-returns
-returns c = text-refused _ _ _ _ _ _ _ _ (ap verdictNumber (sym (c .before .why .given .1)) ∙ c .before .before .before .text-verdict .ensures)
+returns c = of-refused _ _ _ _ _ _ _ (c .before .why .given .0 .0) (ap verdictNumber (sym (c .before .why .given .1)) ∙ c .before .before .before .text-verdict .ensures)
 
 enum-told : tie.Need-enum-told
 enum-told c = search needs
 
-node-of-requires : tie.Need-node-of-requires
-node-of-requires c κs = search needs
+listing-of-requires : tie.Need-listing-of-requires
+listing-of-requires c κs = search needs
 
 ranked-from-requires : tie.Need-ranked-from-requires
 ranked-from-requires c κs = search needs
@@ -32,7 +32,7 @@ same-length-2 c = search needs
 
 returns-2 : tie.Need-returns-2
 returns-2 c =
-    text-walked _ _ _ _ _ _ _ _ _ _ _ (sym (c .before .before .before .before .before .before .before .before .before .before .text-verdict .ensures) ∙ ap verdictNumber (c .before .before .before .before .before .before .before .before .enum-told .given .1)) (c .before .before .before .before .before .before .before .node-of .ensures) (c .before .before .before .before .ranked-from .ensures)
+    of-listed _ _ _ _ _ _ _ _ _ (sym (c .before .before .before .before .before .before .before .before .before .before .text-verdict .ensures) ∙ ap verdictNumber (c .before .before .before .before .before .before .before .before .enum-told .given .1)) (c .before .before .before .before .before .before .before .listing-of .ensures) (c .before .before .before .before .ranked-from .ensures)
 
 pub ranked-spec : {M : Type 1} → statement M
 ranked-spec =
@@ -42,7 +42,7 @@ ranked-spec =
     enum-known-why
     returns
     enum-told
-    node-of-requires
+    listing-of-requires
     ranked-from-requires
     same-length
     same-length-2

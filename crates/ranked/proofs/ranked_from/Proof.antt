@@ -1,37 +1,46 @@
 -- `ranked::ranked_from` meets its promise: its ways out are the laws of proofs/Ways.antt. Assumes nothing.
 use borrow.Author.Needs.{needs}
 use Rattle.base.proofs.Tests.{breaks, holds}
-use Rattle.ranked.proofs.Ways.{from-12, from-short-found, from-short-values, from-unlawful, from-broken, from-nowhere, from-node}
+use Rattle.search.specs.Searches.{Searchable}
+use Rattle.ranked.proofs.Ways.{from-12, from-short-found, from-short-values, from-unlawful, from-broken, from-nowhere, from-entries}
 use Rattle.ranked.proofs.ranked_from.Statement.{statement}
 use Rattle.ranked.proofs.ranked_from.Tie as tie
+
+-- past the tests, the search has what it takes for granted
+searchable : (c : tie.Else4) → let a = c .before .before .before .before .before .before .before .before .before .before .before .before .args in Searchable (a .grid) (a .asked) (a .found .now) (a .values .now)
+searchable c =
+    record {
+      asks = record { grid = holds _ _ (c .before .lawful .ensures) (c .if4 .left); ranking = holds _ _ (c .before .before .before .before .before .before .rankable .ensures) (c .before .before .before .before .before .if1 .left) };
+      stands-fit = c .before .before .before .if2 .left;
+      values-fit = c .before .before .if3 .left;
+    }
 
 rankable-requires : tie.Need-rankable-requires
 rankable-requires c κs = search needs
 
 returns : tie.Need-returns
-returns c = from-12 _ _ _ _ _ _ _ (breaks _ _ (c .before .rankable .ensures) (c .if1 .taken))
+returns c = from-12 _ _ _ _ _ _ _ _ (breaks _ _ (c .before .rankable .ensures) (c .if1 .taken))
 
 cast-k : tie.Need-cast-k
 cast-k c = search needs
 
 returns-2 : tie.Need-returns-2
-returns-2 c = from-short-found _ _ _ _ _ _ _ (holds _ _ (c .before .before .before .rankable .ensures) (c .before .before .if1 .left)) (c .if2 .taken)
+returns-2 c = from-short-found _ _ _ _ _ _ _ _ (holds _ _ (c .before .before .before .rankable .ensures) (c .before .before .if1 .left)) (c .if2 .taken)
 
 returns-3 : tie.Need-returns-3
-returns-3 c = from-short-values _ _ _ _ _ _ _ (holds _ _ (c .before .before .before .before .rankable .ensures) (c .before .before .before .if1 .left)) (c .before .if2 .left) (c .if3 .taken)
+returns-3 c = from-short-values _ _ _ _ _ _ _ _ (holds _ _ (c .before .before .before .before .rankable .ensures) (c .before .before .before .if1 .left)) (c .before .if2 .left) (c .if3 .taken)
 
 lawful-requires : tie.Need-lawful-requires
 lawful-requires c κs = search needs
 
 returns-4 : tie.Need-returns-4
-returns-4 c = from-unlawful _ _ _ _ _ _ _ (breaks _ _ (c .before .lawful .ensures) (c .if4 .taken))
+returns-4 c = from-unlawful _ _ _ _ _ _ _ _ (breaks _ _ (c .before .lawful .ensures) (c .if4 .taken))
 
 enum-known-at : tie.Need-enum-known-at
 enum-known-at c = search needs
 
-best-under-requires : tie.Need-best-under-requires
-best-under-requires c κs =
-    (record { grid = holds _ _ (c .before .before .before .before .before .before .lawful .ensures) (c .before .before .before .before .before .if4 .left); ranking = holds _ _ (c .before .before .before .before .before .before .before .before .before .before .before .rankable .ensures) (c .before .before .before .before .before .before .before .before .before .before .if1 .left) }, c .before .before .before .before .before .before .before .before .if2 .left, c .before .before .before .before .before .before .before .if3 .left)
+best-listed-requires : tie.Need-best-listed-requires
+best-listed-requires c κs = searchable (c .before .before .before .before .before)
 
 enum-told : tie.Need-enum-told
 enum-told c = search needs
@@ -46,15 +55,13 @@ same-length-2 : tie.Need-same-length-2
 same-length-2 c = search needs
 
 returns-5 : tie.Need-returns-5
-returns-5 c =
-    from-node _ _ _ _ _ (record { grid = holds _ _ (c .before .before .before .before .before .before .before .before .before .before .before .lawful .ensures) (c .before .before .before .before .before .before .before .before .before .before .if4 .left); ranking = holds _ _ (c .before .before .before .before .before .before .before .before .before .before .before .before .before .before .before .before .rankable .ensures) (c .before .before .before .before .before .before .before .before .before .before .before .before .before .before .before .if1 .left) })
-    _ _ _ _ _ (c .before .before .before .before .before .before .before .before .before .before .before .before .before .if2 .left) (c .before .before .before .before .before .before .before .before .before .before .before .before .if3 .left) _ (c .before .before .before .before .before .before .before .before .at .given .1) (c .before .before .before .before .best-under .ensures)
+returns-5 c = from-entries _ _ _ _ _ _ _ _ (searchable (c .before .before .before .before .before .before .before .before .before .before)) _ _ _ (c .before .before .before .before .before .before .before .before .at .given .1) (c .before .before .before .before .best-listed .ensures)
 
 returns-6 : tie.Need-returns-6
-returns-6 c = from-nowhere _ _ _ _ _ _ _ (holds _ _ (c .before .before .before .before .before .before .before .before .rankable .ensures) (c .before .before .before .before .before .before .before .if1 .left)) (c .before .before .before .before .before .if2 .left) (c .before .before .before .before .if3 .left) (c .enum-told .given .1)
+returns-6 c = from-nowhere _ _ _ _ _ _ _ _ (searchable (c .before .before)) (c .enum-told .given .1)
 
 returns-7 : tie.Need-returns-7
-returns-7 c = from-broken _ _ _ _ _ _ _ (c .enum-told2 .given .1)
+returns-7 c = from-broken _ _ _ _ _ _ _ _ (c .enum-told2 .given .1)
 
 pub ranked-from-spec : {M : Type 1} → statement M
 ranked-from-spec =
@@ -68,7 +75,7 @@ ranked-from-spec =
     lawful-requires
     returns-4
     enum-known-at
-    best-under-requires
+    best-listed-requires
     enum-told
     enum-told-2
     same-length

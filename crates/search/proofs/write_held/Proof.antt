@@ -1,4 +1,4 @@
--- `ranked::write_held` meets its contract: its loop's invariant is `Writing`, whose laws are of proofs/Writing.antt. Assumes nothing.
+-- `search::write_held` meets its contract: its loop's invariant is `Writing`, whose laws are of proofs/Writing.antt. Assumes nothing.
 use borrow.Author.Needs.{needs}
 use native.Mathlib.Omega.{arith}
 use Prim.Native.Nat.{_-_}
@@ -13,7 +13,7 @@ abbrev μ-loop : tie.MeasureT-loop
 μ-loop held len found₀ values₀ i₀ found values i = len - i
 
 loop-holds : tie.Need-loop-holds Inv-loop μ-loop
-loop-holds c = write-begin _ _ _ _ (omega arith) (c .before .before .pre .2) (c .before .before .pre .3)
+loop-holds c = write-begin _ _ _ _ (c .before .before .pre)
 
 mul-key : tie.Need-mul-key Inv-loop μ-loop
 mul-key c = search needs
@@ -30,7 +30,7 @@ mul-found c = search needs
 slice-write-found : tie.Need-slice-write-found Inv-loop μ-loop
 slice-write-found c =
     let w = c .before .before .before .loop .inv in
-    omega (arith, stands-long _ _ _ _ _ _ _ w, w .stands-fit)
+    omega (arith, stands-long _ _ _ _ _ _ _ w, w .fits .stands-fit)
 
 value-of-requires : tie.Need-value-of-requires Inv-loop μ-loop
 value-of-requires c κs = search needs
@@ -41,7 +41,7 @@ mul-values c = search needs
 slice-write-values : tie.Need-slice-write-values Inv-loop μ-loop
 slice-write-values c =
     let w = c .before .before .before .before .loop .inv in
-    omega (arith, values-long _ _ _ _ _ _ _ w, w .values-fit)
+    omega (arith, values-long _ _ _ _ _ _ _ w, w .fits .values-fit)
 
 add-i : tie.Need-add-i Inv-loop μ-loop
 add-i c = search needs

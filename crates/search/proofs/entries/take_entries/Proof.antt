@@ -1,18 +1,19 @@
 -- `entries::take_entries` meets its contract: its loop's invariant is `Taking`, whose laws are of proofs/Taking.antt. Assumes nothing.
 use borrow.Author.Needs.{needs}
 use native.Mathlib.Omega.{arith}
-use mathlib.Core.Path.{refl}
+use mathlib.Core.Path.{refl, sym, _∙_}
 use mathlib.Core.List.{[]}
 use Rattle.base.proofs.Tests.{breaks, holds}
 use Rattle.best.proofs.Streams.{nothing-held}
-use Rattle.search.specs.Searches.{columns, entriesTaken}
+use Rattle.search.specs.Searches.{standColumns, entriesTaken}
 use Rattle.search.proofs.Asking.{some-asked, few-asked}
-use Rattle.search.proofs.Taking.{Taking, take-done, outside, unreadable, take-next, take-stop}
+use Rattle.search.proofs.Reading.{read-facts}
+use Rattle.search.proofs.Taking.{Taking, take-done, unread, unusable, take-next, take-stop}
 use Rattle.search.proofs.entries.take_entries.Statement.{statement}
 use Rattle.search.proofs.entries.take_entries.Tie as tie
 
 abbrev Inv-loop : tie.InvT-loop
-Inv-loop east north score grid order entries from count asked held₀ len₀ left₀ e₀ held len left e = Taking (columns east north score) grid asked order entries (entriesTaken (columns east north score) grid asked order entries count from []) held len left e
+Inv-loop east north score grid order entries from count asked held₀ len₀ left₀ e₀ held len left e = Taking (standColumns east north score) grid asked order entries (entriesTaken (standColumns east north score) grid asked order entries count from []) held len left e
 
 abbrev μ-loop : tie.MeasureT-loop
 μ-loop east north score grid order entries from count asked held₀ len₀ left₀ e₀ held len left e = left
@@ -20,47 +21,54 @@ abbrev μ-loop : tie.MeasureT-loop
 loop-holds : tie.Need-loop-holds Inv-loop μ-loop
 loop-holds c =
     let p = c .before .before .before .pre in
-    record { asks = p .0; holds = nothing-held _ _ (p .1) (some-asked _ _ (p .0)) (few-asked _ _ (p .0)); rest = refl }
-
-returns : tie.Need-returns Inv-loop μ-loop
-returns c = outside _ _ _ _ _ _ _ _ _ _ (c .before .before .loop .inv) (c .before .loop-test .taken) (c .if1 .taken)
+    record { searching = record { asks = p .0; holds = nothing-held _ _ (p .1) (some-asked _ _ (p .0)) (few-asked _ _ (p .0)) }; rest = refl }
 
 entry-at-requires : tie.Need-entry-at-requires Inv-loop μ-loop
 entry-at-requires c κs = search needs
 
-readable-entry-requires : tie.Need-readable-entry-requires Inv-loop μ-loop
-readable-entry-requires c κs = search needs
-
-returns-2 : tie.Need-returns-2 Inv-loop μ-loop
-returns-2 c = unreadable _ _ _ _ _ _ _ _ _ _ (c .before .before .before .before .before .loop .inv) (c .before .before .before .before .loop-test .taken) (c .before .before .before .if1 .left) _ (c .before .before .entry-at .ensures) (breaks _ _ (c .before .readable-entry .ensures) (c .if2 .taken))
-
-take-entry-requires : tie.Need-take-entry-requires Inv-loop μ-loop
-take-entry-requires c κs = (c .before .before .before .before .before .before .loop .inv .asks, c .before .before .before .before .before .before .loop .inv .holds, holds _ _ (c .before .before .readable-entry .ensures) (c .before .if2 .left))
-
-enum-known-more : tie.Need-enum-known-more Inv-loop μ-loop
-enum-known-more c = search needs
+enum-known-entry : tie.Need-enum-known-entry Inv-loop μ-loop
+enum-known-entry c = search needs
 
 enum-told : tie.Need-enum-told Inv-loop μ-loop
 enum-told c = search needs
 
+returns : tie.Need-returns Inv-loop μ-loop
+returns c = unread _ _ _ _ _ _ _ _ _ _ (c .before .before .before .before .loop .inv) (c .before .before .before .loop-test .taken) (sym (c .before .before .entry-at .ensures) ∙ c .enum-told .given .1)
+
+usable-requires : tie.Need-usable-requires Inv-loop μ-loop
+usable-requires c κs = read-facts _ _ _ _ (sym (c .before .before .before .entry-at .ensures) ∙ c .before .entry .given .1) .1
+
+returns-2 : tie.Need-returns-2 Inv-loop μ-loop
+returns-2 c = unusable _ _ _ _ _ _ _ _ _ _ (c .before .before .before .before .before .before .before .loop .inv) (c .before .before .before .before .before .before .loop-test .taken) _ (sym (c .before .before .before .before .before .entry-at .ensures) ∙ c .before .before .before .entry .given .1) (breaks _ _ (c .before .usable .ensures) (c .if1 .taken))
+
+take-entry-requires : tie.Need-take-entry-requires Inv-loop μ-loop
+take-entry-requires c κs =
+    (c .before .before .before .before .before .before .before .before .loop .inv .searching, record { inside = read-facts _ _ _ _ (sym (c .before .before .before .before .before .before .entry-at .ensures) ∙ c .before .before .before .before .entry .given .1) .1; sound = holds _ _ (c .before .before .usable .ensures) (c .before .if1 .left) })
+
+enum-known-more : tie.Need-enum-known-more Inv-loop μ-loop
+enum-known-more c = search needs
+
+enum-told-2 : tie.Need-enum-told-2 Inv-loop μ-loop
+enum-told-2 c = search needs
+
 returns-3 : tie.Need-returns-3 Inv-loop μ-loop
 returns-3 c =
-    take-stop _ _ _ _ _ _ _ _ _ _ (c .before .before .before .before .before .before .before .before .before .loop .inv) (c .before .before .before .before .before .before .before .before .loop-test .taken) (c .before .before .before .before .before .before .before .if1 .left) _ (c .before .before .before .before .before .before .entry-at .ensures) (holds _ _ (c .before .before .before .before .before .readable-entry .ensures) (c .before .before .before .before .if2 .left))
-    _ _ (c .before .before .take-entry .ensures) (c .enum-told .given .1)
+    take-stop _ _ _ _ _ _ _ _ _ _ (c .before .before .before .before .before .before .before .before .before .before .before .loop .inv) (c .before .before .before .before .before .before .before .before .before .before .loop-test .taken) _ (sym (c .before .before .before .before .before .before .before .before .before .entry-at .ensures) ∙ c .before .before .before .before .before .before .before .entry .given .1)
+    (holds _ _ (c .before .before .before .before .before .usable .ensures) (c .before .before .before .before .if1 .left)) _ _ (c .before .before .take-entry .ensures) (c .enum-told2 .given .1)
 
 sub-left : tie.Need-sub-left Inv-loop μ-loop
 sub-left c = search needs
 
 add-e : tie.Need-add-e Inv-loop μ-loop
-add-e c = omega (arith, c .before .before .before .before .before .before .before .before .if1 .left, c .before .before .before .before .before .before .before .before .before .before .before .before .before .before .good .1 .1 .1 .1 .1 .0 .0)
+add-e c = omega (arith, read-facts _ _ _ _ (sym (c .before .before .before .before .before .before .before .before .before .before .entry-at .ensures) ∙ c .before .before .before .before .before .before .before .before .entry .given .1) .0, c .before .before .before .before .before .before .before .before .before .before .before .before .before .before .before .before .good .1 .1 .1 .1 .1 .0 .0)
 
 loop-less : tie.Need-loop-less Inv-loop μ-loop
 loop-less c = search needs
 
 loop-again : tie.Need-loop-again Inv-loop μ-loop
 loop-again c =
-    take-next _ _ _ _ _ _ _ _ _ _ (c .before .before .before .before .before .before .before .before .before .before .loop .inv) (c .before .before .before .before .before .before .before .before .before .loop-test .taken) (c .before .before .before .before .before .before .before .before .if1 .left) _ (c .before .before .before .before .before .before .before .entry-at .ensures) (holds _ _ (c .before .before .before .before .before .before .readable-entry .ensures) (c .before .before .before .before .before .if2 .left))
-    _ _ (c .before .before .before .take-entry .ensures) _ (c .before .more .given .1)
+    take-next _ _ _ _ _ _ _ _ _ _ (c .before .before .before .before .before .before .before .before .before .before .before .before .loop .inv) (c .before .before .before .before .before .before .before .before .before .before .before .loop-test .taken) _ (sym (c .before .before .before .before .before .before .before .before .before .before .entry-at .ensures) ∙ c .before .before .before .before .before .before .before .before .entry .given .1)
+    (holds _ _ (c .before .before .before .before .before .before .usable .ensures) (c .before .before .before .before .before .if1 .left)) _ _ (c .before .before .before .take-entry .ensures) _ (c .before .more .given .1)
 
 returns-4 : tie.Need-returns-4 Inv-loop μ-loop
 returns-4 c = take-done _ _ _ _ _ _ _ _ _ _ (c .before .loop .inv) (c .loop-test .left)
@@ -72,13 +80,15 @@ take-entries-spec =
     Inv-loop
     μ-loop
     loop-holds
-    returns
     entry-at-requires
-    readable-entry-requires
+    enum-known-entry
+    enum-told
+    returns
+    usable-requires
     returns-2
     take-entry-requires
     enum-known-more
-    enum-told
+    enum-told-2
     returns-3
     sub-left
     add-e

@@ -5,6 +5,7 @@ use mathlib.Core.Path.{_≡_, sym, ap, _∙_}
 use Prim.Native.Nat.{ℕ}
 use lib.ListN.{take, getD}
 use Rattle.best.specs.Keys.{keyOf}
+use Rattle.walk.proofs.Spelled.{within-facts}
 use Rattle.search.specs.Searches.{passedOver, boundHit}
 use Rattle.search.proofs.Asking.{asked-inside, weighable, bound-most}
 use Rattle.search.proofs.Reading.{entry-facts}
@@ -26,23 +27,24 @@ decided c =
 bound-requires : tie.Need-bound-requires
 bound-requires c κs =
     let p = c .before .before .pre in
-    let f = entry-facts _ _ (p .2) in
-    (weighable _ _ (p .0) _ (f .scored), asked-inside _ _ (p .0), f .region)
+    (weighable _ _ (p .0 .asks) _ (entry-facts _ _ (p .1 .sound) .scored), asked-inside _ _ (p .0 .asks), within-facts _ _ (p .1 .inside) .0)
 
 cast-first : tie.Need-cast-first
 cast-first c = search needs
 
-mul-stand : tie.Need-mul-stand
-mul-stand c = search needs
+mul-t14 : tie.Need-mul-t14
+mul-t14 c = search needs
 
-shared-slice-read-stand : tie.Need-shared-slice-read-stand
-shared-slice-read-stand c = let f = entry-facts _ _ (c .before .before .before .before .before .pre .2) in omega arith
+shared-slice-read-t16 : tie.Need-shared-slice-read-t16
+shared-slice-read-t16 c =
+    let t = c .before .before .before .before .before .pre .1 in
+    omega (arith, entry-facts _ _ (t .sound) .some, within-facts _ _ (t .inside) .1)
 
 key-of-requires : tie.Need-key-of-requires
 key-of-requires c κs =
     let p = c .before .before .before .before .before .pre in
-    let f = entry-facts _ _ (p .2) in
-    record { small = rw (c .before .before .bound .ensures) (bound-most _ _ (p .0) _ _ (f .scored)); below = f .small }
+    let f = entry-facts _ _ (p .1 .sound) in
+    record { small = rw (c .before .before .bound .ensures) (bound-most _ _ (p .0 .asks) _ _ (f .scored)); below = f .small }
 
 cast-passed-over : tie.Need-cast-passed-over
 cast-passed-over c = search needs
@@ -51,13 +53,12 @@ passed-over-requires : tie.Need-passed-over-requires
 passed-over-requires c κs = search needs
 
 returns : tie.Need-returns
-returns c = passed _ _ _ _ _ _ _ (c .before .before .before .before .before .before .before .before .before .before .pre .1) (sym (decided (c .before)) ∙ c .if1 .taken)
+returns c = passed _ _ _ _ _ _ _ (c .before .before .before .before .before .before .before .before .before .before .pre .0 .holds) (sym (decided (c .before)) ∙ c .if1 .taken)
 
 offer-places-requires : tie.Need-offer-places-requires
 offer-places-requires c κs =
     let p = c .before .before .before .before .before .before .before .before .before .before .before .pre in
-    let f = entry-facts _ _ (p .2) in
-    (p .0, p .1, omega arith, f .inside)
+    (p .0, record { forward = omega (arith, entry-facts _ _ (p .1 .sound) .some); inside = within-facts _ _ (p .1 .inside) .1 })
 
 returns-2 : tie.Need-returns-2
 returns-2 c = not-passed _ _ _ _ _ _ _ _ (sym (decided (c .before .before .before)) ∙ c .before .before .if1 .left) (c .offer-places .ensures)
@@ -68,8 +69,8 @@ take-entry-spec =
     (tie.spec
     bound-requires
     cast-first
-    mul-stand
-    shared-slice-read-stand
+    mul-t14
+    shared-slice-read-t16
     key-of-requires
     cast-passed-over
     passed-over-requires

@@ -4,13 +4,13 @@ use mathlib.Core.Path.{refl}
 use Prim.Native.Nat.{_-_}
 use lib.ListN.{take}
 use lib.Seq.{slice}
-use Rattle.search.specs.Searches.{columns, standsOffered}
+use Rattle.search.specs.Searches.{standColumns, standsOffered}
 use Rattle.search.proofs.Offering.{Offering, offer-next, offer-stop, offer-done}
 use Rattle.search.proofs.stands.offer_places.Statement.{statement}
 use Rattle.search.proofs.stands.offer_places.Tie as tie
 
 abbrev Inv-loop : tie.InvT-loop
-Inv-loop east north score grid order asked held₀ len n₀ i₀ end held n i = Offering (columns east north score) grid asked order end (standsOffered (columns east north score) grid asked (slice i₀ end order) (take n₀ held₀)) held n i
+Inv-loop east north score grid order asked held₀ len n₀ i₀ end held n i = Offering (standColumns east north score) grid asked order end (standsOffered (standColumns east north score) grid asked (slice i₀ end order) (take n₀ held₀)) held n i
 
 abbrev μ-loop : tie.MeasureT-loop
 μ-loop east north score grid order asked held₀ len n₀ i₀ end held n i = end - i
@@ -24,7 +24,7 @@ cast-end c = search needs
 loop-holds : tie.Need-loop-holds Inv-loop μ-loop
 loop-holds c =
     let p = c .before .before .before .before .pre in
-    record { asks = p .0; within = p .2; inside = p .3; holds = p .1; rest = refl }
+    record { searching = p .0; run = p .1; rest = refl }
 
 mul-t17 : tie.Need-mul-t17 Inv-loop μ-loop
 mul-t17 c = search needs

@@ -10,7 +10,7 @@ use Rattle.base.proofs.Machine.{both-arrive}
 use Rattle.rules.specs.Places.{inGrid}
 use Rattle.rules.specs.Worth.{valueOf}
 use Rattle.best.specs.Keys.{keyOf}
-use Rattle.search.specs.Searches.{columns}
+use Rattle.search.specs.Searches.{standColumns}
 use Rattle.search.proofs.Asking.{asked-inside, weighable, value-most}
 use Rattle.search.proofs.Reading.{StandFacts, stand-facts}
 use Rattle.search.proofs.Offering.{unreadable, seen}
@@ -20,7 +20,7 @@ use Rattle.search.proofs.stands.offer_stand.Tie as tie
 -- past the test, the stand can be read
 facts : (c : tie.Else1) →
     let a = c .before .before .before .before .args in
-    StandFacts (columns (a .east .now) (a .north .now) (a .score .now)) (a .grid) (a .stand .0)
+    StandFacts (standColumns (a .east .now) (a .north .now) (a .score .now)) (a .grid) (a .stand .0)
 facts c = stand-facts _ _ _ (holds _ _ (c .before .readable-stand .ensures) (c .if1 .left))
 
 cast-s : tie.Need-cast-s
@@ -56,10 +56,10 @@ value-requires c κs =
     let f = facts (c .before .before .before) in
     let in-grid : ℤ → ℤ → Bool = λ e n. inGrid (a .grid) (record { east = e; north = n }) in
     let inside = both-arrive in-grid (getD (a .east .now) (a .stand .0) (pos 0)) (getD (a .north .now) (a .stand .0) (pos 0)) (search needs) (search needs) ∙ f .inside in
-    (weighable _ _ (c .before .before .before .before .before .before .before .pre .0) _ (f .scored), inside, asked-inside _ _ (c .before .before .before .before .before .before .before .pre .0))
+    (weighable _ _ (c .before .before .before .before .before .before .before .pre .asks) _ (f .scored), inside, asked-inside _ _ (c .before .before .before .before .before .before .before .pre .asks))
 
 key-of-requires : tie.Need-key-of-requires
-key-of-requires c κs = record { small = rw (c .value .ensures) (value-most _ _ (c .before .before .before .before .before .before .before .before .pre .0) _ _ (facts (c .before .before .before .before) .scored)); below = facts (c .before .before .before .before) .small }
+key-of-requires c κs = record { small = rw (c .value .ensures) (value-most _ _ (c .before .before .before .before .before .before .before .before .pre .asks) _ _ (facts (c .before .before .before .before) .scored)); below = facts (c .before .before .before .before) .small }
 
 cast-offer : tie.Need-cast-offer
 cast-offer c = search needs

@@ -1,0 +1,59 @@
+-- `search::best_listed` meets its contract: its ways out are the laws of proofs/Answering.antt. Assumes nothing.
+use borrow.Author.Needs.{needs}
+use native.Mathlib.Omega.{arith}
+use Rattle.search.proofs.Keeping.{held-is}
+use Rattle.search.proofs.Answering.{broken-words, found-best}
+use Rattle.search.proofs.best_listed.Statement.{statement}
+use Rattle.search.proofs.best_listed.Tie as tie
+
+count-requires : tie.Need-count-requires
+count-requires c κs = search needs
+
+take-entries-requires : tie.Need-take-entries-requires
+take-entries-requires c κs = search needs
+
+enum-known-len : tie.Need-enum-known-len
+enum-known-len c = search needs
+
+write-held-requires : tie.Need-write-held-requires
+write-held-requires c κs =
+    let h = held-is _ _ _ _ (c .before .before .before .before .before .before .take-entries .ensures) _ (c .before .before .before .before .len .given .1) .1 in
+    let p = c .before .before .before .before .before .before .before .before .before .before .before .before .before .before .pre in
+    record { size = h .size; few = omega (arith, h .within, h .fits); stands-fit = omega (arith, h .within, p .stands-fit); values-fit = omega (arith, h .within, p .values-fit) }
+
+cast-t24 : tie.Need-cast-t24
+cast-t24 c = let h = held-is _ _ _ _ (c .before .before .before .before .before .before .before .before .before .before .before .take-entries .ensures) _ (c .before .before .before .before .before .before .before .before .before .len .given .1) .1 in omega (arith, h .within, h .fits)
+
+enum-told : tie.Need-enum-told
+enum-told c = search needs
+
+same-length : tie.Need-same-length
+same-length c = search needs
+
+same-length-2 : tie.Need-same-length-2
+same-length-2 c = search needs
+
+returns : tie.Need-returns
+returns c =
+    let p = c .before .before .before .before .before .before .before .before .before .before .before .before .before .before .before .before .before .before .before .pre in
+    rw (c .before .before .before .before .before .before .before .before .before .before .before .before .before .count .ensures) at (found-best _ _ _ _ (c .before .before .before .before .before .before .before .before .before .before .before .take-entries .ensures) _ _ (p .stands-fit) (p .values-fit) _ _ _ (c .before .before .before .before .before .before .before .before .before .len .given .1) (c .before .before .before .before .write-held .ensures))
+
+returns-2 : tie.Need-returns-2
+returns-2 c =
+    let a = c .before .before .before .before .before .before .before .before .before .before .args in
+    rw (c .before .before .before .before .count .ensures) at (broken-words _ _ _ _ (c .before .before .take-entries .ensures) (a .found .now) (a .values .now) (c .enum-told .given .1))
+
+pub best-listed-spec : {M : Type 1} → statement M
+best-listed-spec =
+    tie.close
+    (tie.spec
+    count-requires
+    take-entries-requires
+    enum-known-len
+    write-held-requires
+    cast-t24
+    enum-told
+    same-length
+    same-length-2
+    returns
+    returns-2)
