@@ -1,2 +1,4 @@
--- That any sequence of calls on one session comes out as the rules say.
+-- That any sequence of calls comes out as the rules say; and that only the letters standing count.
 pub mod Runs
+pub mod Afresh
+pub mod Scheme

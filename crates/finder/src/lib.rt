@@ -3,6 +3,8 @@
 pub use grid::locate;
 pub use index::build;
 pub use index::check;
+pub use letters::range_typed;
+pub use letters::ranked_typed;
 pub use range::range;
 pub use ranked::ranked;
 pub use rules::Built;
@@ -21,5 +23,3 @@ pub use rules::Verdict;
 pub use session::rub_out;
 pub use session::type_byte;
 pub use table::names::rest_of_name;
-pub use typed::range_typed;
-pub use typed::ranked_typed;
