@@ -19,8 +19,8 @@ use Rattle.rules.specs.Questions.{regionOfStand}
 use Rattle.rules.proofs.Lawful.{start-inside, name-part}
 use Rattle.rules.proofs.Places.{region-less}
 use Rattle.trie.specs.Adding.{nameBefore, sharedAt}
-use Rattle.node.specs.Columns.{columnsOf, at, Grows, Placed, LawfulColumns}
-use Rattle.index.specs.Columns.{lengthIn, sharedIn, regionIn, lengthsOf, sharedOf, regionsOf, columns, Spelled, Located}
+use Rattle.node.specs.Columns.{indexColumns, at, Grows, Placed, LawfulColumns}
+use Rattle.index.specs.Columns.{lengthIn, sharedIn, regionIn, lengthsIn, sharesIn, regionsOver, lengthsOf, sharedOf, regionsOf, tableColumns, Spelled, Located}
 
 -- ---- what two names share
 
@@ -106,10 +106,10 @@ module _ (t : Table) (g : Grid) (l : LawfulTable t g) where
   pub front-size : (array : List ℕ) → length array ≡ 1024 → stands t ≡ length (take (stands t) array)
   front-size array size = sym (length-take-le (stands t) array (front-fits array size))
 
-  pub columns-are : (long alike region : List ℕ) → take (stands t) long ≡ each (lengthIn (t .text) (t .starts)) (upTo (stands t))
-      → take (stands t) alike ≡ each (sharedIn (t .text) (t .starts)) (upTo (stands t))
-      → take (length (t .east)) region ≡ each (regionIn (t .east) (t .north) g) (upTo (length (t .east)))
-      → columnsOf (t .text) (t .starts) (take (stands t) long) (take (stands t) alike) (take (stands t) region) (t .score) ≡ columns t g
+  pub columns-are : (long alike region : List ℕ) → take (stands t) long ≡ lengthsIn (t .text) (t .starts) (stands t)
+      → take (stands t) alike ≡ sharesIn (t .text) (t .starts) (stands t)
+      → take (length (t .east)) region ≡ regionsOver (t .east) (t .north) g
+      → indexColumns (t .text) (t .starts) (take (stands t) long) (take (stands t) alike) (take (stands t) region) (t .score) ≡ tableColumns t g
   unfolding lengthsOf sharedOf regionsOf
   columns-are long alike region a b c = rw (a, b, rw (l .shaped .easts) at c)
 
@@ -141,7 +141,7 @@ module _ (t : Table) (g : Grid) (l : LawfulTable t g) where
             omega (arith, regions-at g t k i, region-less g (placeOf t k) (l .gridded) (l .placed k i));
       }
 
-  pub columns-lawful : LawfulColumns (columns t g)
+  pub columns-lawful : LawfulColumns (tableColumns t g)
   columns-lawful =
       record {
         grows = grows;

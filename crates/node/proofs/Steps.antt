@@ -14,12 +14,12 @@ use Rattle.base.specs.Lists.{fromOn, eachList}
 use Rattle.base.proofs.Tests.{which, le-or-lt}
 use Rattle.node.specs.Columns.{at, Grows, grownOf}
 use Rattle.node.specs.declared.cursor.Cursor.{Cursor}
-use Rattle.node.specs.Visits.{Visit, visitsAt, newVisits, visitsFrom, nodesBefore, numberAt, placesAt, On, Ways, Stepped, Advanced}
+use Rattle.node.specs.Visits.{Visit, visitsAt, newVisits, visitsFrom, grownBefore, numberAt, placesAt, On, Ways, Stepped, Advanced}
 use Rattle.node.proofs.Ends.{length-short, grown-last}
 
 module _ (lengths shared : List ℕ) where
   -- a node's number, by what a cursor at it has counted
-  pub number-at : (i l n : ℕ) → (0 < i → at shared i < l) → at shared 0 ≡ 0 → n + suc (at shared i) ≡ nodesBefore lengths shared i + l → n ≡ numberAt lengths shared i l
+  pub number-at : (i l n : ℕ) → (0 < i → at shared i < l) → at shared 0 ≡ 0 → n + suc (at shared i) ≡ grownBefore lengths shared i + l → n ≡ numberAt lengths shared i l
   unfolding grownOf
   number-at zero l n new z e = omega (arith, e, z)
   number-at (suc i) l n new z e = let lt = new (omega arith) in rw (lt-ltb (at shared (suc i)) l lt) (omega (arith, e))
@@ -60,7 +60,7 @@ module _ (lengths shared : List ℕ) where
 pub record Here (lengths shared : List ℕ) (i₀ l₀ number i l : ℕ) : Type 0 where
   pub short : l ≤ suc (at lengths i)
   pub new : at shared i < l
-  pub count : number + suc (at shared i) ≡ nodesBefore lengths shared i + l
+  pub count : number + suc (at shared i) ≡ grownBefore lengths shared i + l
   pub above : (k : ℕ) → k < l → (k < l₀) × (numberAt lengths shared i k ≡ numberAt lengths shared i₀ k)
 
 pub record Stepping (lengths shared : List ℕ) (i₀ l₀ number i l : ℕ) : Type 0 where

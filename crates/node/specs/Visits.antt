@@ -28,14 +28,14 @@ unfoldable pub visitsFrom : List ℕ → List ℕ → ℕ → ℕ → List Visit
 visitsFrom lengths shared i l = visitsAt lengths i l ++ eachList (newVisits lengths shared) (fromOn (suc i) (length lengths - suc i))
 
 -- how many nodes the stands before i make, the root with them
-abbrev pub nodesBefore : List ℕ → List ℕ → ℕ → ℕ
-nodesBefore lengths shared i = suc (grownOf lengths shared 0 i)
+abbrev pub grownBefore : List ℕ → List ℕ → ℕ → ℕ
+grownBefore lengths shared i = suc (grownOf lengths shared 0 i)
 
 -- the number of the node of stand i's first l bytes
 abbrev pub numberAt : List ℕ → List ℕ → ℕ → ℕ → ℕ
 numberAt lengths shared zero l = l
 numberAt lengths shared (suc i) l =
-    cond (ltb (at shared (suc i)) l) (nodesBefore lengths shared (suc i) + (l - suc (at shared (suc i)))) (numberAt lengths shared i l)
+    cond (ltb (at shared (suc i)) l) (grownBefore lengths shared (suc i) + (l - suc (at shared (suc i)))) (numberAt lengths shared i l)
 
 -- how many stands lie in regions below r
 unfoldable pub belowOf : List ℕ → ℕ → ℕ
@@ -53,7 +53,7 @@ pub record On (lengths shared : List ℕ) (c : Cursor) : Type 0 where
   pub within : c .stand ≤ length lengths
   pub long : c .length ≤ at lengths (c .stand)
   pub new : 0 < c .stand → at shared (c .stand) < c .length
-  pub count : c .number + suc (at shared (c .stand)) ≡ nodesBefore lengths shared (c .stand) + c .length
+  pub count : c .number + suc (at shared (c .stand)) ≡ grownBefore lengths shared (c .stand) + c .length
 
 -- the path has the number of each node above one of stand i's first l bytes
 abbrev pub Ways : List ℕ → List ℕ → List ℕ → ℕ → ℕ → Type 0

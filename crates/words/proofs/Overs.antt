@@ -14,7 +14,7 @@ use Rattle.base.specs.Lists.{begins}
 use Rattle.rules.specs.Indexes.{Entry, entryRow}
 use Rattle.base.proofs.Members.{length-each, getD-each, eachList-append}
 use Rattle.base.proofs.Begins.{begins-parts}
-use Rattle.node.specs.Columns.{at, Slots, entryFrom, entriesFrom}
+use Rattle.node.specs.Columns.{at, Sized, entryFrom, entriesFrom}
 use Rattle.words.specs.Over.{over}
 use Rattle.words.specs.Words.{entryRows}
 
@@ -186,7 +186,7 @@ module _ (best next places ranked : List ℕ) (held : ℕ) where
   abbrev listed : List Entry
   listed = entriesFrom best next places ranked held
 
-  module _ (size : Slots ranked) (few : held ≤ 64) where
+  module _ (size : Sized ranked) (few : held ≤ 64) where
     pub entries-count : length listed ≡ held
     unfolding entriesFrom
     entries-count = length-each (entryFrom best next places) (take held ranked) ∙ length-take-le held ranked (omega arith)

@@ -9,14 +9,14 @@ use Rattle.node.proofs.last_byte.Tie as tie
 returns : tie.Need-returns
 returns c = simp (eq-eqb _ _ (c .if1 .taken))
 
-mul-p : tie.Need-mul-p
-mul-p c = omega (arith, c .before .before .before .pre .1 (omega arith))
+mul-at : tie.Need-mul-at
+mul-at c = omega (arith, c .before .before .before .pre .inside (omega arith))
 
-shared-slice-read-p : tie.Need-shared-slice-read-p
-shared-slice-read-p c = omega (arith, c .before .before .before .before .pre .1 (omega arith))
+shared-slice-read-at : tie.Need-shared-slice-read-at
+shared-slice-read-at c = omega (arith, c .before .before .before .before .pre .inside (omega arith))
 
-cast-p : tie.Need-cast-p
-cast-p c = omega (arith, c .shared-slice-known3 .given (c .before .before .before .before .args .i))
+cast-at : tie.Need-cast-at
+cast-at c = omega (arith, c .shared-slice-known3 .given (c .before .before .before .before .args .stand))
 
 sub-wide : tie.Need-sub-wide
 sub-wide c = search needs
@@ -24,11 +24,11 @@ sub-wide c = search needs
 wide-requires : tie.Need-wide-requires
 wide-requires c κs = search needs
 
-add-p : tie.Need-add-p
-add-p c = omega (arith, c .before .before .before .before .before .pre .1 (omega arith), c .wide .ensures)
+add-at : tie.Need-add-at
+add-at c = omega (arith, c .before .before .before .before .before .pre .inside (omega arith), c .wide .ensures)
 
 shared-slice-read-word : tie.Need-shared-slice-read-word
-shared-slice-read-word c = omega (arith, c .before .before .before .before .before .before .pre .1 (omega arith), c .before .wide .ensures)
+shared-slice-read-word c = omega (arith, c .before .before .before .before .before .before .pre .inside (omega arith), c .before .wide .ensures)
 
 word-requires : tie.Need-word-requires
 word-requires c κs = search needs
@@ -41,12 +41,12 @@ last-byte-spec =
     tie.close
     (tie.spec
     returns
-    mul-p
-    shared-slice-read-p
-    cast-p
+    mul-at
+    shared-slice-read-at
+    cast-at
     sub-wide
     wide-requires
-    add-p
+    add-at
     shared-slice-read-word
     word-requires
     returns-2)

@@ -13,10 +13,10 @@ sum-fits : (c : tie.After-word2)
 sum-fits c =
     let s = c .before .before .before .before .before .before in
     let a = s .args in
-    let g = s .pre .0 in
-    let old = shared-short _ _ g (a .i) in
-    let grew = grown-small _ _ g (a .i) (a .e) (s .pre .2) in
-    let fits = past-fits _ _ g (a .i) (a .e) (a .l) (s .pre .4) (s .pre .5) in (
+    let g = s .pre .grows in
+    let old = shared-short _ _ g (a .stand) in
+    let grew = grown-small _ _ g (a .stand) (a .past) (s .pre .run .1) in
+    let fits = past-fits _ _ g (a .stand) (a .past) (a .length) (s .pre .long) (s .pre .some) in (
       omega (arith, c .before .before .word .ensures, c .before .before .before .value-at .ensures),
       omega (arith, c .before .grown .ensures),
       omega (arith, c .word2 .ensures, c .before .before .word .ensures, c .before .before .before .value-at .ensures, c .before .grown .ensures),

@@ -9,13 +9,13 @@ use Rattle.node.proofs.cursor.step.Statement.{statement}
 use Rattle.node.proofs.cursor.step.Tie as tie
 
 abbrev Inv-loop : tie.InvT-loop
-Inv-loop lengths shared held i₀ l₀ number entries i l = Stepping lengths shared i₀ l₀ number i l
+Inv-loop lengths shared held stand₀ length₀ number entries stand length = Stepping lengths shared stand₀ length₀ number stand length
 
 abbrev μ-loop : tie.MeasureT-loop
 μ-loop lengths shared held i₀ l₀ number entries i l = length lengths - i
 
-add-l : tie.Need-add-l Inv-loop μ-loop
-add-l c = omega (arith, c .before .before .before .pre .1 .long, length-short _ _ (c .before .before .before .pre .0) (c .before .before .before .args .c .stand))
+add-length : tie.Need-add-length Inv-loop μ-loop
+add-length c = omega (arith, c .before .before .before .pre .on .long, length-short _ _ (c .before .before .before .pre .grows) (c .before .before .before .args .cursor .stand))
 
 add-number : tie.Need-add-number Inv-loop μ-loop
 add-number c = search needs
@@ -24,31 +24,31 @@ add-entries : tie.Need-add-entries Inv-loop μ-loop
 add-entries c = search needs
 
 loop-holds : tie.Need-loop-holds Inv-loop μ-loop
-loop-holds c = stepping _ _ (c .before .before .before .before .before .pre .0) (c .before .before .before .before .before .args .c) (c .before .before .before .before .before .pre .1)
+loop-holds c = stepping _ _ (c .before .before .before .before .before .pre .grows) (c .before .before .before .before .before .args .cursor) (c .before .before .before .before .before .pre .on)
 
 shared-slice-read-if1 : tie.Need-shared-slice-read-if1 Inv-loop μ-loop
 shared-slice-read-if1 c = search needs
 
 returns : tie.Need-returns Inv-loop μ-loop
-returns c = stepped _ _ (c .before .before .before .before .before .before .before .before .before .pre .0) (c .before .before .before .before .before .before .before .before .before .args .c) _ _ _ (c .before .before .before .loop .inv) (λ h. c .if1 .taken)
+returns c = stepped _ _ (c .before .before .before .before .before .before .before .before .before .pre .grows) (c .before .before .before .before .before .before .before .before .before .args .cursor) _ _ _ (c .before .before .before .loop .inv) (λ h. c .if1 .taken)
 
-add-i : tie.Need-add-i Inv-loop μ-loop
-add-i c = search needs
+add-stand : tie.Need-add-stand Inv-loop μ-loop
+add-stand c = search needs
 
 value-at-requires : tie.Need-value-at-requires Inv-loop μ-loop
 value-at-requires c κs = search needs
 
-add-l-2 : tie.Need-add-l-2 Inv-loop μ-loop
-add-l-2 c = omega (arith, shared-short _ _ (c .before .before .before .before .before .before .before .before .before .before .pre .0) (c .before .before .before .before .loop .i + 1), c .value-at .ensures)
+add-length-2 : tie.Need-add-length-2 Inv-loop μ-loop
+add-length-2 c = omega (arith, shared-short _ _ (c .before .before .before .before .before .before .before .before .before .before .pre .grows) (c .before .before .before .before .loop .stand + 1), c .value-at .ensures)
 
 loop-less : tie.Need-loop-less Inv-loop μ-loop
 loop-less c = search needs
 
 loop-again : tie.Need-loop-again Inv-loop μ-loop
-loop-again c = stepping-more _ _ (c .before .before .before .before .before .before .before .before .before .before .pre .0) _ _ _ _ _ _ (c .before .before .before .before .loop .inv) (search needs) (c .before .if1 .left) (c .value-at .ensures)
+loop-again c = stepping-more _ _ (c .before .before .before .before .before .before .before .before .before .before .pre .grows) _ _ _ _ _ _ (c .before .before .before .before .loop .inv) (search needs) (c .before .if1 .left) (c .value-at .ensures)
 
 returns-2 : tie.Need-returns-2 Inv-loop μ-loop
-returns-2 c = stepped _ _ (c .before .before .before .before .before .before .before .pre .0) (c .before .before .before .before .before .before .before .args .c) _ _ _ (c .before .loop .inv) (λ h. absurd (omega arith))
+returns-2 c = stepped _ _ (c .before .before .before .before .before .before .before .pre .grows) (c .before .before .before .before .before .before .before .args .cursor) _ _ _ (c .before .loop .inv) (λ h. absurd (omega arith))
 
 pub step-spec : {M : Type 1} → statement M
 step-spec =
@@ -56,15 +56,15 @@ step-spec =
     (tie.spec
     Inv-loop
     μ-loop
-    add-l
+    add-length
     add-number
     add-entries
     loop-holds
     shared-slice-read-if1
     returns
-    add-i
+    add-stand
     value-at-requires
-    add-l-2
+    add-length-2
     loop-less
     loop-again
     returns-2)

@@ -15,8 +15,8 @@ abbrev μ-loop : tie.MeasureT-loop
 returns : tie.Need-returns Inv-loop μ-loop
 returns c = ended _ _ _ (c .if1 .taken) (search needs)
 
-add-e : tie.Need-add-e Inv-loop μ-loop
-add-e c = search needs
+add-past : tie.Need-add-past Inv-loop μ-loop
+add-past c = search needs
 
 loop-holds : tie.Need-loop-holds Inv-loop μ-loop
 loop-holds c = ending _ _ _ (search needs)
@@ -27,8 +27,8 @@ shared-slice-read-if2 c = search needs
 returns-2 : tie.Need-returns-2 Inv-loop μ-loop
 returns-2 c = ending-here _ _ _ _ (c .before .before .before .loop .inv) (search needs) (c .if2 .taken)
 
-add-e-2 : tie.Need-add-e-2 Inv-loop μ-loop
-add-e-2 c = search needs
+add-past-2 : tie.Need-add-past-2 Inv-loop μ-loop
+add-past-2 c = search needs
 
 loop-less : tie.Need-loop-less Inv-loop μ-loop
 loop-less c = search needs
@@ -46,11 +46,11 @@ end-of-spec =
     Inv-loop
     μ-loop
     returns
-    add-e
+    add-past
     loop-holds
     shared-slice-read-if2
     returns-2
-    add-e-2
+    add-past-2
     loop-less
     loop-again
     returns-3)

@@ -22,7 +22,7 @@ shared-slice-read-word-2 : tie.Need-shared-slice-read-word-2 Inv-loop μ-loop
 shared-slice-read-word-2 c = search needs
 
 sub-word : tie.Need-sub-word Inv-loop μ-loop
-sub-word c = c .before .before .before .before .before .before .pre .0 .part (c .before .before .before .loop .k) (search needs)
+sub-word c = c .before .before .before .before .before .before .pre .0 .part (c .before .before .before .loop .stand) (search needs)
 
 word-requires : tie.Need-word-requires Inv-loop μ-loop
 word-requires c κs = search needs
@@ -34,8 +34,8 @@ add-sum c =
       growing-fits _ _ _ _ _ _ _ (c .before .before .before .before .before .before .before .pre .0) (search needs) (c .before .before .before .before .loop .inv) (search needs) (c .word .ensures),
     )
 
-add-k : tie.Need-add-k Inv-loop μ-loop
-add-k c = search needs
+add-stand : tie.Need-add-stand Inv-loop μ-loop
+add-stand c = search needs
 
 loop-less : tie.Need-loop-less Inv-loop μ-loop
 loop-less c = search needs
@@ -58,7 +58,7 @@ grown-spec =
     sub-word
     word-requires
     add-sum
-    add-k
+    add-stand
     loop-less
     loop-again
     returns)

@@ -11,7 +11,7 @@ wide-requires : tie.Need-wide-requires
 wide-requires c κs = search needs
 
 returns : tie.Need-returns
-returns c = (c .wide .ensures, omega (arith, c .before .before .before .pre .0 .inside (c .before .before .before .args .k) (search needs), c .wide .ensures))
+returns c = (c .wide .ensures, omega (arith, c .before .before .before .pre .0 .inside (c .before .before .before .args .stand) (search needs), c .wide .ensures))
 
 pub region-at-spec : {M : Type 1} → statement M
 region-at-spec = tie.close (tie.spec shared-slice-read-wide wide-requires returns)

@@ -20,8 +20,8 @@ region-at-requires c κs = search needs
 shl-bits : tie.Need-shl-bits Inv-loop μ-loop
 shl-bits c = search needs
 
-add-k : tie.Need-add-k Inv-loop μ-loop
-add-k c = search needs
+add-stand : tie.Need-add-stand Inv-loop μ-loop
+add-stand c = search needs
 
 loop-less : tie.Need-loop-less Inv-loop μ-loop
 loop-less c = search needs
@@ -41,7 +41,7 @@ regions-of-spec =
     loop-holds
     region-at-requires
     shl-bits
-    add-k
+    add-stand
     loop-less
     loop-again
     returns)

@@ -41,7 +41,7 @@ add-places c =
     omega (
       arith,
       place-small _ _ _ _ _ _ _ _ _ _ (c .before .before .before .before .before .loop .inv) (search needs) (c .before .before .before .region-at .ensures .0) (c .before .before .before .region-at .ensures .1) _ (c .chosen .ensures)
-          (c .before .before .before .before .before .before .before .before .pre .4 (c .before .before .before .region-at .result) (c .before .before .before .region-at .ensures .1)) (search needs),
+          (c .before .before .before .before .before .before .before .before .pre .low (c .before .before .before .region-at .result) (c .before .before .before .region-at .ensures .1)) (search needs),
     )
 
 mul-places : tie.Need-mul-places Inv-loop μ-loop
@@ -77,8 +77,8 @@ element-write-best c = search needs
 shl-bits : tie.Need-shl-bits Inv-loop μ-loop
 shl-bits c = search needs
 
-add-k : tie.Need-add-k Inv-loop μ-loop
-add-k c = search needs
+add-stand : tie.Need-add-stand Inv-loop μ-loop
+add-stand c = search needs
 
 loop-less : tie.Need-loop-less Inv-loop μ-loop
 loop-less c = search needs
@@ -117,7 +117,7 @@ tally-spec =
     mul-best
     element-write-best
     shl-bits
-    add-k
+    add-stand
     loop-less
     loop-again
     returns)

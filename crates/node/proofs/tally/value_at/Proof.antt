@@ -6,7 +6,7 @@ use Rattle.node.proofs.tally.value_at.Statement.{statement}
 use Rattle.node.proofs.tally.value_at.Tie as tie
 
 returns : tie.Need-returns
-returns c = sym (List·getD-eq-default (c .before .args .xs .now) 0 (c .if1 .taken))
+returns c = sym (List·getD-eq-default (c .before .args .column .now) 0 (c .if1 .taken))
 
 shared-slice-read-result : tie.Need-shared-slice-read-result
 shared-slice-read-result c = search needs
