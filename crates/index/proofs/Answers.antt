@@ -91,11 +91,7 @@ module _ (t : Table) (g : Grid) (l : LawfulTable t g) (x : Index) where
     where
       step : (tooSmall t g x ≡ true) ⊎ (tooSmall t g x ≡ false) → BuildPromise t g x r y
       step (inl q) = record { told = w .told ∙ rw (small-is, refusal-past, q); buffers = w .buffers ∙ rw (small-is, refusal-past, q) }
-      step (inr q) =
-          record {
-            told = w .told ∙ rw (small-is, refusal-past, q, node-count t g l, entry-count t g l);
-            buffers = w .buffers ∙ rw (small-is, refusal-past, q) over-is;
-          }
+      step (inr q) = record { told = w .told ∙ rw (small-is, refusal-past, q, node-count t g l, entry-count t g l); buffers = w .buffers ∙ rw (small-is, refusal-past, q) over-is }
 
   has-is : hasAll (tableColumns t g) x ≡ setLawful t g x
   unfolding hasAll setLawful every

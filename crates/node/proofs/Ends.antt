@@ -104,12 +104,7 @@ module _ (lengths shared : List ℕ) where
   pub grown-small : Grows lengths shared → (i e : ℕ) → e ≤ length lengths → grownOf lengths shared i e ≤ 24576
   unfolding grownOf
   grown-small g i e h =
-      omega (
-        arith,
-        total-most (growth lengths shared) 24 (span i e) (λ k h. omega (arith, length-short lengths shared g k)),
-        length-from i (e - i),
-        g .few,
-      )
+      omega (arith, total-most (growth lengths shared) 24 (span i e) (λ k h. omega (arith, length-short lengths shared g k)), length-from i (e - i), g .few)
 
 pub record Growing (lengths shared : List ℕ) (i e sum k : ℕ) : Type 0 where
   pub after : i ≤ k

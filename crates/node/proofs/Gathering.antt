@@ -67,7 +67,7 @@ pub gathered : (shared region score next : List ℕ) (i l past bits held : ℕ) 
     → Ends shared i l past
     → Tallied region score next (span i past) places best bits
     → Ranks best (keep (bitAt bits) (upTo regions)) ranked held
-    → Gathers shared region score next i l places best ranked (record { past = past; bits = bits; held = held })
+    → Gathers shared region score next i l places best ranked (record { past = record { 0 = past }; bits = bits; held = held })
 gathered shared region score next i l past bits held places best ranked e t k =
     record {
       past = e .end;
@@ -110,20 +110,20 @@ module _ (lengths shared : List ℕ) (g : Grows lengths shared) where
 
   module _ (c : Cursor) (o : On lengths shared c) where
     pub length-fits : c .length ≤ 24
-    length-fits = omega (arith, o .long, length-short lengths shared g (c .stand))
+    length-fits = omega (arith, o .long, length-short lengths shared g (c .stand .0))
 
-    pub spelt-at : (text starts : List ℕ) → Spelt text starts lengths → 0 < c .length → (c .stand < length starts) × (at starts (c .stand) + c .length ≤ length text)
+    pub spelt-at : (text starts : List ℕ) → Spelt text starts lengths → 0 < c .length → (c .stand .0 < length starts) × (at starts (c .stand .0) + c .length ≤ length text)
     spelt-at text starts w h =
         ⊎-elim
-        (λ (q : length lengths ≤ c .stand). let z : at lengths (c .stand) ≡ 0 = List·getD-eq-default lengths 0 q in absurd (omega (arith, o .long)))
-        (λ (q : c .stand < length lengths). (omega (arith, w .begun), omega (arith, w .inside (c .stand) q, o .long)))
-        (le-or-lt (length lengths) (c .stand))
+        (λ (q : length lengths ≤ c .stand .0). let z : at lengths (c .stand .0) ≡ 0 = List·getD-eq-default lengths 0 q in absurd (omega (arith, o .long)))
+        (λ (q : c .stand .0 < length lengths). (omega (arith, w .begun), omega (arith, w .inside (c .stand .0) q, o .long)))
+        (le-or-lt (length lengths) (c .stand .0))
 
-    pub parent-is : (path : List ℕ) → Ways lengths shared path (c .stand) (c .length)
-        → aboveIn path (c .length) ≡ parentOf lengths shared (c .stand) (c .length)
+    pub parent-is : (path : List ℕ) → Ways lengths shared path (c .stand .0) (c .length)
+        → aboveIn path (c .length) ≡ parentOf lengths shared (c .stand .0) (c .length)
     parent-is path w = step (which (eqb (c .length) 0))
       where
-        step : (eqb (c .length) 0 ≡ true) ⊎ (eqb (c .length) 0 ≡ false) → aboveIn path (c .length) ≡ parentOf lengths shared (c .stand) (c .length)
+        step : (eqb (c .length) 0 ≡ true) ⊎ (eqb (c .length) 0 ≡ false) → aboveIn path (c .length) ≡ parentOf lengths shared (c .stand .0) (c .length)
         step (inl q) = rw q
         step (inr q) = let n = eqb-false (c .length) 0 q in rw q (w (c .length - 1) (omega arith))
 

@@ -133,10 +133,7 @@ module _ (region score next : List ℕ) (i e : ℕ) where
   pub tallying : (places best : List ℕ) → i ≤ e → Sized places → Sized best → Tallying region score next i e places best 0 i
   tallying places best h p b =
       let m = marking region i e h in
-      record {
-        marks = m;
-        so-far = record { word = m .word; past = λ r lt q. none r q; most = λ r lt q. none r q; places-size = p; best-size = b };
-      }
+      record { marks = m; so-far = record { word = m .word; past = λ r lt q. none r q; most = λ r lt q. none r q; places-size = p; best-size = b } }
     where
       none : {A : Type 0} (r : ℕ) → heldAmong region (span i i) r ≡ true → A
       none r q = never (heldAmong region (span i i) r) q (ap (λ (s : List ℕ). heldAmong region s r) (span-none i) ∙ held-none region r)

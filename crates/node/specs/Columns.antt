@@ -82,8 +82,8 @@ pub record Ends (shared : List ℕ) (i l e : ℕ) : Type 0 where
   pub within : e ≤ length shared
 
 -- the stands i .. e - 1 have a row in the column
-abbrev pub Run : List ℕ → ℕ → ℕ → Type 0
-Run column i e = (i ≤ e) × (e ≤ length column)
+abbrev pub InColumn : List ℕ → ℕ → ℕ → Type 0
+InColumn column i e = (i ≤ e) × (e ≤ length column)
 
 -- i, i + 1, .. e - 1
 abbrev pub span : ℕ → ℕ → List ℕ

@@ -50,7 +50,7 @@ abbrev pub Rowed : List ℕ → List ℕ → List ℕ → List ℕ → Cursor �
 Rowed text starts lengths shared c g row =
     (test : ℕ → Bool)
     → g .bits ≡ wordOf test 0 64
-    → row ≡ rowWith text starts lengths shared (c .number) (c .entries) (c .stand) (c .length) (g .past) (wordOf test 0 32) (wordOf test 32 32)
+    → row ≡ rowWith text starts lengths shared (c .number .0) (c .entries) (c .stand .0) (c .length) (g .past .0) (wordOf test 0 32) (wordOf test 32 32)
 
 unfoldable pub rowAt : IndexColumns → ℕ → ℕ → ℕ → ℕ → ℕ → List ℕ
 rowAt t j n i l e =
@@ -61,8 +61,8 @@ rowOf t j n v = rowAt t j n (v .stand) (v .length) (endOf (t .shared) (v .stand)
 
 -- what is gathered at stand i and length l, and left in the slots
 pub record Gathers (shared region score next : List ℕ) (i l : ℕ) (places best ranked : List ℕ) (g : Gathered) : Type 0 where
-  pub past : g .past ≡ endOf shared i l
-  pub within : g .past ≤ length shared
+  pub past : g .past .0 ≡ endOf shared i l
+  pub within : g .past .0 ≤ length shared
   pub word : g .bits ≡ bitsAmong region (span i (endOf shared i l))
   pub entries : entriesFrom best next places ranked (g .held) ≡ entriesAmong region score next (span i (endOf shared i l))
   pub count : g .held ≡ length (entriesAmong region score next (span i (endOf shared i l)))

@@ -5,26 +5,28 @@ use crate::Slots;
 use crate::tally::region_at;
 use crate::tally::value_at;
 use crate::tally::wide;
+use rules::Node;
+use rules::Stand;
 ghost use mathlib.Core.Path.{_≡_};
 ghost use Rattle.base.specs.Lent.{given, after};
-ghost use Rattle.node.specs.Visits.{placesAt, Stepped, Advanced};
+ghost use Rattle.node.specs.Visits.{rootCursor, placesAt, Stepped, Advanced};
 ghost use Rattle.node.specs.Asks.{StepAsks, PassAsks, AdvanceAsks};
 
 // The node of a stand's first length bytes, its number, and how many entries the nodes before it have.
 pub struct Cursor {
-    pub stand: usize,
+    pub stand: Stand,
     pub length: u8,
-    pub number: u32,
+    pub number: Node,
     pub entries: u32,
 }
 
 pub fn root() -> Cursor
-    ensures { λ r. ⌜ r ≡ record { stand = 0; length = 0; number = 0; entries = 0 } ⌝ }
+    ensures { λ r. ⌜ r ≡ rootCursor ⌝ }
 {
     Cursor {
-        stand: 0,
+        stand: Stand(0),
         length: 0,
-        number: 0,
+        number: Node(0),
         entries: 0,
     }
 }
@@ -34,24 +36,17 @@ pub fn step(lengths: &[u8], shared: &[u8], cursor: Cursor, held: u32) -> Cursor
     requires { ⌜ StepAsks (now lengths) (now shared) cursor held ⌝ }
     ensures { λ r. ⌜ Stepped (given lengths) (given shared) cursor held r ⌝ }
 {
-    let mut stand = cursor.stand;
-    let mut length = cursor.length + 1;
-    let number = cursor.number + 1;
+    let number = Node(cursor.number.0 + 1);
     let entries = cursor.entries + held;
-    while stand < lengths.len() {
-        if length <= lengths[stand] {
-            return Cursor {
-                stand,
-                length,
-                number,
-                entries,
-            };
-        }
+    let stands = lengths.len() as u32;
+    let mut stand = cursor.stand.0;
+    let mut length = cursor.length + 1;
+    while stand < stands && lengths[stand as usize] < length {
         stand += 1;
-        length = value_at(shared, stand) + 1;
+        length = value_at(shared, Stand(stand)) + 1;
     }
     Cursor {
-        stand,
+        stand: Stand(stand),
         length,
         number,
         entries,
@@ -59,13 +54,15 @@ pub fn step(lengths: &[u8], shared: &[u8], cursor: Cursor, held: u32) -> Cursor
 }
 
 // The next places moved on over the stands that were passed.
-fn pass(region: &[u8], next: &mut Slots, from: usize, to: usize)
-    requires { ⌜ PassAsks (now region) (now next) from to ⌝ }
-    ensures { λ _. ⌜ after next ≡ placesAt (given region) to ⌝ }
+fn pass(region: &[u8], next: &mut Slots, from: Stand, to: Stand)
+    requires { ⌜ PassAsks (now region) (now next) (from .0) (to .0) ⌝ }
+    ensures { λ _. ⌜ after next ≡ placesAt (given region) (to .0) ⌝ }
 {
-    let mut stand = from;
-    while stand < to {
-        let slot = region_at(region, stand);
+    let first = from.0;
+    let end = to.0;
+    let mut stand = first;
+    while stand < end {
+        let slot = region_at(region, Stand(stand));
         next[slot] += 1;
         stand += 1;
     }
@@ -85,7 +82,7 @@ pub fn advance(
     ensures { λ r. ⌜ Advanced (given lengths) (given shared) (given region) cursor held (after next) (after path) r ⌝ }
 {
     let above = wide(cursor.length);
-    path[above] = cursor.number;
+    path[above] = cursor.number.0;
     let further = step(lengths, shared, cursor, held);
     let from = cursor.stand;
     let to = further.stand;

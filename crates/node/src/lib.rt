@@ -7,7 +7,9 @@ pub mod tally;
 use cursor::Cursor;
 use ranks::ranks;
 use rules::Grid;
+use rules::Node;
 use rules::Session;
+use rules::Stand;
 use rules::layout::NODE_WORDS;
 use tally::end_of;
 use tally::grown;
@@ -29,7 +31,7 @@ pub type Path = [u32; Session::PATH];
 
 // The stand past a node's last, its regions as bits, and how many regions and so entries it has.
 pub struct Gathered {
-    pub past: usize,
+    pub past: Stand,
     pub bits: u64,
     pub held: usize,
 }
@@ -39,15 +41,15 @@ pub fn gather(
     shared: &[u8],
     region: &[u8],
     score: &[u32],
-    stand: usize,
+    stand: Stand,
     length: u8,
     next: &Slots,
     places: &mut Slots,
     best: &mut Slots,
     ranked: &mut Slots,
 ) -> Gathered
-    requires { ⌜ GatherAsks (now shared) (now region) (now score) stand (now next) (now places) (now best) (now ranked) ⌝ }
-    ensures { λ g. ⌜ Gathers (given shared) (given region) (given score) (given next) stand length (after places) (after best) (after ranked) g ⌝ }
+    requires { ⌜ GatherAsks (now shared) (now region) (now score) (stand .0) (now next) (now places) (now best) (now ranked) ⌝ }
+    ensures { λ g. ⌜ Gathers (given shared) (given region) (given score) (given next) (stand .0) length (after places) (after best) (after ranked) g ⌝ }
 {
     let past = end_of(shared, stand, length);
     let bits = tally(region, score, stand, past, next, places, best);
@@ -56,44 +58,44 @@ pub fn gather(
 }
 
 // The last byte of a node, 0 for the root.
-fn last_byte(text: &[u8], starts: &[u32], stand: usize, length: u8) -> u32
-    requires { ⌜ LastAsks (now text) (now starts) stand length ⌝ }
-    ensures { λ r. ⌜ r ≡ lastOf (given text) (given starts) stand length ⌝ }
+fn last_byte(text: &[u8], starts: &[u32], stand: Stand, length: u8) -> u32
+    requires { ⌜ LastAsks (now text) (now starts) (stand .0) length ⌝ }
+    ensures { λ r. ⌜ r ≡ lastOf (given text) (given starts) (stand .0) length ⌝ }
 {
     if length == 0 {
         return 0;
     }
-    let at = starts[stand] as usize + wide(length - 1);
+    let at = starts[stand.0 as usize] as usize + wide(length - 1);
     word(text[at])
 }
 
 // The parent of a node, 0 for the root.
-fn parent(path: &Path, length: u8) -> u32
+fn parent(path: &Path, length: u8) -> Node
     requires { ⌜ length ≤ 24 ⌝ }
-    ensures { λ r. ⌜ r ≡ aboveIn (given path) length ⌝ }
+    ensures { λ r. ⌜ r .0 ≡ aboveIn (given path) length ⌝ }
 {
     if length == 0 {
-        return 0;
+        return Node(0);
     }
-    path[wide(length - 1)]
+    Node(path[wide(length - 1)])
 }
 
 // The number past a node's subtree.
 fn past_number(
     lengths: &[u8],
     shared: &[u8],
-    stand: usize,
+    stand: Stand,
     length: u8,
-    past: usize,
-    number: u32,
-) -> u32
-    requires { ⌜ PastAsks (now lengths) (now shared) stand length past number ⌝ }
-    ensures { λ r. ⌜ r ≡ pastNumber (given lengths) (given shared) stand length past number ⌝ }
+    past: Stand,
+    number: Node,
+) -> Node
+    requires { ⌜ PastAsks (now lengths) (now shared) (stand .0) length (past .0) (number .0) ⌝ }
+    ensures { λ r. ⌜ r .0 ≡ pastNumber (given lengths) (given shared) (stand .0) length (past .0) (number .0) ⌝ }
 {
     let old = word(value_at(shared, stand));
     let grew = grown(lengths, shared, stand, past);
     let less = word(length);
-    number + old + 1 + grew - less
+    Node(number.0 + old + 1 + grew - less)
 }
 
 // The bits of regions 0 to 31, and of 32 to 63.
@@ -131,11 +133,11 @@ pub fn row(
     let low_regions = low_word(gathered.bits);
     let high_regions = high_word(gathered.bits);
     [
-        parent,
+        parent.0,
         last_byte,
-        stand as u32,
-        past as u32,
-        past_node,
+        stand.0,
+        past.0,
+        past_node.0,
         low_regions,
         high_regions,
         cursor.entries,

@@ -1,12 +1,13 @@
 // What lies under a node: where its stands end, how many nodes they make, and what each region holds of them.
 use crate::Slots;
+use rules::Stand;
 ghost use mathlib.Core.Path.{_≡_};
 ghost use mathlib.Core.Bool.{cond};
 ghost use Prim.Native.Nat.{_≤_, _<_};
 ghost use lib.Dec.{ltb};
 ghost use lib.ListN.{length};
 ghost use Rattle.base.specs.Lent.{given, after};
-ghost use Rattle.node.specs.Columns.{at, Grows, Placed, Run, Ends, span, grownOf, bitsAmong, RegionAt, Tallied};
+ghost use Rattle.node.specs.Columns.{at, Grows, Placed, InColumn, Ends, span, grownOf, bitsAmong, RegionAt, Tallied};
 ghost use Rattle.node.specs.Asks.{TallyAsks};
 
 // A byte of a column as a place, and as a word of the index.
@@ -23,64 +24,66 @@ pub fn word(byte: u8) -> u32
 }
 
 // What a column has of a stand, 0 past the end: the root of an empty table has no stand.
-pub fn value_at(column: &[u8], stand: usize) -> u8
-    ensures { λ r. ⌜ r ≡ at (given column) stand ⌝ }
+pub fn value_at(column: &[u8], stand: Stand) -> u8
+    ensures { λ r. ⌜ r ≡ at (given column) (stand .0) ⌝ }
 {
-    if column.len() <= stand {
+    let row = stand.0 as usize;
+    if column.len() <= row {
         return 0;
     }
-    column[stand]
+    column[row]
 }
 
 // The region of a stand.
-pub fn region_at(region: &[u8], stand: usize) -> usize
-    requires { ⌜ (Placed (now region)) × (stand < length (now region)) ⌝ }
-    ensures { λ r. ⌜ RegionAt (given region) stand r ⌝ }
+pub fn region_at(region: &[u8], stand: Stand) -> usize
+    requires { ⌜ (Placed (now region)) × (stand .0 < length (now region)) ⌝ }
+    ensures { λ r. ⌜ RegionAt (given region) (stand .0) r ⌝ }
 {
-    wide(region[stand])
+    wide(region[stand.0 as usize])
 }
 
 // The first stand past this one that shares less than so many bytes with the one before; this one itself past the end.
-pub fn end_of(shared: &[u8], stand: usize, bytes: u8) -> usize
-    requires { ⌜ stand ≤ length (now shared) ⌝ }
-    ensures { λ r. ⌜ Ends (given shared) stand bytes r ⌝ }
+pub fn end_of(shared: &[u8], stand: Stand, bytes: u8) -> Stand
+    requires { ⌜ (stand .0 ≤ length (now shared)) × (length (now shared) ≤ 1024) ⌝ }
+    ensures { λ r. ⌜ Ends (given shared) (stand .0) bytes (r .0) ⌝ }
 {
-    if shared.len() <= stand {
+    let first = stand.0 as usize;
+    if shared.len() <= first {
         return stand;
     }
-    let mut past = stand + 1;
-    while past < shared.len() {
-        if shared[past] < bytes {
-            return past;
-        }
+    let mut past = first + 1;
+    while past < shared.len() && bytes <= shared[past] {
         past += 1;
     }
-    past
+    Stand(past as u32)
 }
 
 // How many nodes the stands from first on make, past not among them.
-pub fn grown(lengths: &[u8], shared: &[u8], first: usize, past: usize) -> u32
-    requires { ⌜ (Grows (now lengths) (now shared)) × (Run (now lengths) first past) ⌝ }
-    ensures { λ r. ⌜ r ≡ grownOf (given lengths) (given shared) first past ⌝ }
+pub fn grown(lengths: &[u8], shared: &[u8], first: Stand, past: Stand) -> u32
+    requires { ⌜ (Grows (now lengths) (now shared)) × (InColumn (now lengths) (first .0) (past .0)) ⌝ }
+    ensures { λ r. ⌜ r ≡ grownOf (given lengths) (given shared) (first .0) (past .0) ⌝ }
 {
     let mut sum: u32 = 0;
-    let mut stand = first;
-    while stand < past {
-        sum += word(lengths[stand] - shared[stand]);
+    let end = past.0;
+    let mut stand = first.0;
+    while stand < end {
+        let row = stand as usize;
+        sum += word(lengths[row] - shared[row]);
         stand += 1;
     }
     sum
 }
 
 // The regions of those stands, a bit for each.
-pub fn regions_of(region: &[u8], first: usize, past: usize) -> u64
-    requires { ⌜ (Placed (now region)) × (Run (now region) first past) ⌝ }
-    ensures { λ r. ⌜ r ≡ bitsAmong (given region) (span first past) ⌝ }
+pub fn regions_of(region: &[u8], first: Stand, past: Stand) -> u64
+    requires { ⌜ (Placed (now region)) × (InColumn (now region) (first .0) (past .0)) ⌝ }
+    ensures { λ r. ⌜ r ≡ bitsAmong (given region) (span (first .0) (past .0)) ⌝ }
 {
     let mut bits: u64 = 0;
-    let mut stand = first;
-    while stand < past {
-        bits |= 1u64 << region_at(region, stand);
+    let end = past.0;
+    let mut stand = first.0;
+    while stand < end {
+        bits |= 1u64 << region_at(region, Stand(stand));
         stand += 1;
     }
     bits
@@ -103,22 +106,23 @@ fn larger(one: u32, other: u32) -> u32
 pub fn tally(
     region: &[u8],
     score: &[u32],
-    first: usize,
-    past: usize,
+    first: Stand,
+    past: Stand,
     next: &Slots,
     places: &mut Slots,
     best: &mut Slots,
 ) -> u64
-    requires { ⌜ TallyAsks (now region) (now score) first past (now next) (now places) (now best) ⌝ }
-    ensures { λ r. ⌜ Tallied (given region) (given score) (given next) (span first past) (after places) (after best) r ⌝ }
+    requires { ⌜ TallyAsks (now region) (now score) (first .0) (past .0) (now next) (now places) (now best) ⌝ }
+    ensures { λ r. ⌜ Tallied (given region) (given score) (given next) (span (first .0) (past .0)) (after places) (after best) r ⌝ }
 {
     let mut bits: u64 = 0;
-    let mut stand = first;
-    while stand < past {
-        let slot = region_at(region, stand);
+    let end = past.0;
+    let mut stand = first.0;
+    while stand < end {
+        let slot = region_at(region, Stand(stand));
         let known = (bits >> slot) % 2 == 1;
         places[slot] = chosen(known, places[slot], next[slot]) + 1;
-        best[slot] = larger(chosen(known, best[slot], 0), score[stand]);
+        best[slot] = larger(chosen(known, best[slot], 0), score[stand as usize]);
         bits |= 1u64 << slot;
         stand += 1;
     }

@@ -7,12 +7,12 @@ use native.Mathlib.Omega.{arith}
 use lib.ListN.{length, length-append}
 use Rattle.node.specs.declared.cursor.Cursor.{Cursor}
 use Rattle.node.specs.Columns.{IndexColumns}
-use Rattle.node.specs.Visits.{Visit, visitsFrom}
+use Rattle.node.specs.Visits.{Visit, visitsFrom, rootCursor}
 use Rattle.node.specs.Rows.{entriesAt, rowOf}
 use Rattle.words.specs.Over.{over}
 use Rattle.words.specs.Words.{entryRows, rowsFrom, entryWordsFrom, nodeCountOf, entryCountOf, nodeWordsOf, entryWordsOf, visitsOf, visitOf, Work, Room, PutTurn, WriteAsks, WroteAll}
 use Rattle.words.proofs.Overs.{over-none, over-over, length-over, length-rows}
-use Rattle.words.proofs.Walks.{restOf, rootCursor, Carrying, carrying-more, rows-next, entries-next, going-first, going-end, length-row, entries-length}
+use Rattle.words.proofs.Walks.{restOf, Carrying, carrying-more, rows-next, entries-next, going-first, going-end, length-row, entries-length}
 
 -- of all these words, the first are in the room, and the rest is still to come
 pub record Filled (all-words d room rest : List ℕ) (size : ℕ) : Type 0 where
@@ -48,18 +48,13 @@ module _ {all-words d : List ℕ} where
 
 pub record Writing (t : IndexColumns) (all : ℕ) (n₀ e₀ : List ℕ) (w : Work) (nodes entries : List ℕ) (c : Cursor) : Type 0 where
   pub carried : Carrying t all c w
-  pub rows : Filled (nodeWordsOf t) n₀ nodes (rowsFrom t (c .number) (c .entries) (restOf (t .lengths) (t .shared) c)) (c .number * 8)
+  pub rows : Filled (nodeWordsOf t) n₀ nodes (rowsFrom t (c .number .0) (c .entries) (restOf (t .lengths) (t .shared) c)) (c .number .0 * 8)
   pub own : Filled (entryWordsOf t) e₀ entries (entryWordsFrom t (restOf (t .lengths) (t .shared) c)) (c .entries * 4)
 
 rows-length : (t : IndexColumns) (j n : ℕ) (vs : List Visit) → length (rowsFrom t j n vs) ≡ length vs * 8
 rows-length t j n [] = refl
 rows-length t j n (v ∷ vs) =
-    omega (
-      arith,
-      length-append (rowOf t j n v) (rowsFrom t (suc j) (n + length (entriesAt t v)) vs),
-      length-row t j n v,
-      rows-length t (suc j) (n + length (entriesAt t v)) vs,
-    )
+    omega (arith, length-append (rowOf t j n v) (rowsFrom t (suc j) (n + length (entriesAt t v)) vs), length-row t j n v, rows-length t (suc j) (n + length (entriesAt t v)) vs)
 
 nodes-fit : (t : IndexColumns) (n : ℕ) → nodeCountOf t * 8 ≤ n → length (nodeWordsOf t) ≤ n
 nodes-fit t n h = omega (arith, rows-length t 0 0 (visitsOf t))
@@ -78,19 +73,14 @@ module _ {t : IndexColumns} {all : ℕ} {n₀ e₀ : List ℕ} {w : Work} {c : C
     pub writing-entries : entryCountOf t * 4 ≤ length e₀ → length entries ≡ length e₀
     writing-entries fits = filled-length (s .own) (entries-fit t (length e₀) fits)
 
-    module _ (lt : c .number < all) where
+    module _ (lt : c .number .0 < all) where
       pub writing-room : WriteAsks t all n₀ e₀ → Room t c nodes entries
       writing-room a =
           let first = going-first (s .carried .way) lt in
-          let after = visitsFrom (t .lengths) (t .shared) (c .stand) (suc (c .length)) in
+          let after = visitsFrom (t .lengths) (t .shared) (c .stand .0) (suc (c .length)) in
           record {
             row-room =
-                omega (
-                  arith,
-                  filled-room (s .rows) (nodes-fit t (length n₀) (a .row-room)),
-                  rows-length t (c .number) (c .entries) (restOf (t .lengths) (t .shared) c),
-                  ap length first,
-                );
+                omega (arith, filled-room (s .rows) (nodes-fit t (length n₀) (a .row-room)), rows-length t (c .number .0) (c .entries) (restOf (t .lengths) (t .shared) c), ap length first);
             entry-room =
                 omega (
                   arith,
@@ -106,14 +96,14 @@ module _ {t : IndexColumns} {all : ℕ} {n₀ e₀ : List ℕ} {w : Work} {c : C
           record {
             carried = carrying-more (s .carried) lt (m .moved);
             rows =
-                filled-more (s .rows) (rowOf t (c .number) (c .entries) (visitOf c)) (rows-next (s .carried) lt (m .moved)) refl (m .wrote .row-now)
-                (omega (arith, m .moved .stepped .number, length-row t (c .number) (c .entries) (visitOf c)));
+                filled-more (s .rows) (rowOf t (c .number .0) (c .entries) (visitOf c)) (rows-next (s .carried) lt (m .moved)) refl (m .wrote .row-now)
+                (omega (arith, m .moved .stepped .number, length-row t (c .number .0) (c .entries) (visitOf c)));
             own =
                 filled-more (s .own) (entryRows (entriesAt t (visitOf c))) (entries-next (s .carried) lt (m .moved)) refl (m .wrote .entries-now)
                 (omega (arith, m .moved .stepped .entries, length-rows (entriesAt t (visitOf c))));
           }
 
-    pub writing-end : all ≤ c .number → WroteAll t n₀ e₀ nodes entries
+    pub writing-end : all ≤ c .number .0 → WroteAll t n₀ e₀ nodes entries
     writing-end h =
         let none = going-end (s .carried .way) h in
-        record { rows-now = filled-end (s .rows) (ap (rowsFrom t (c .number) (c .entries)) none); entries-now = filled-end (s .own) (ap (entryWordsFrom t) none) }
+        record { rows-now = filled-end (s .rows) (ap (rowsFrom t (c .number .0) (c .entries)) none); entries-now = filled-end (s .own) (ap (entryWordsFrom t) none) }

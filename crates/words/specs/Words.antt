@@ -81,7 +81,7 @@ pub record HeldAsks (ranked : List ℕ) (held : ℕ) : Type 0 where
 -- ---- a turn at a node
 
 abbrev pub visitOf : Cursor → Visit
-visitOf c = record { stand = c .stand; length = c .length }
+visitOf c = record { stand = c .stand .0; length = c .length }
 
 -- what a turn works in: each region's next place, the path above the node, and a slot for each region's place, score and rank
 pub record Work : Type 0 where
@@ -110,10 +110,10 @@ pub record Scratch (w : Work) : Type 0 where
 -- the cursor is at a node, and what is lent beside it is right for it
 pub record Standing (t : IndexColumns) (c : Cursor) (w : Work) : Type 0 where
   pub on : On (t .lengths) (t .shared) c
-  pub low : c .number < 24577
-  pub few : c .entries ≤ 64 * c .number
-  pub next-is : w .next ≡ placesAt (t .region) (c .stand)
-  pub ways : Ways (t .lengths) (t .shared) (w .path) (c .stand) (c .length)
+  pub low : c .number .0 < 24577
+  pub few : c .entries ≤ 64 * c .number .0
+  pub next-is : w .next ≡ placesAt (t .region) (c .stand .0)
+  pub ways : Ways (t .lengths) (t .shared) (w .path) (c .stand .0) (c .length)
   pub scratch : Scratch w
 
 pub record TurnAsks (t : IndexColumns) (c : Cursor) (w : Work) : Type 0 where
@@ -123,18 +123,18 @@ pub record TurnAsks (t : IndexColumns) (c : Cursor) (w : Work) : Type 0 where
 -- r is the cursor past c, and what is lent beside it is right for r
 pub record Moved (t : IndexColumns) (c r : Cursor) (w : Work) : Type 0 where
   pub stepped : Stepped (t .lengths) (t .shared) c (length (entriesAt t (visitOf c))) r
-  pub next-is : w .next ≡ placesAt (t .region) (r .stand)
-  pub ways : r .stand < length (t .lengths) → Ways (t .lengths) (t .shared) (w .path) (r .stand) (r .length)
+  pub next-is : w .next ≡ placesAt (t .region) (r .stand .0)
+  pub ways : r .stand .0 < length (t .lengths) → Ways (t .lengths) (t .shared) (w .path) (r .stand .0) (r .length)
   pub scratch : Scratch w
 
 -- the rooms have place for the node's words
 pub record Room (t : IndexColumns) (c : Cursor) (nodes entries : List ℕ) : Type 0 where
-  pub row-room : c .number * 8 + 8 ≤ length nodes
+  pub row-room : c .number .0 * 8 + 8 ≤ length nodes
   pub entry-room : c .entries * 4 + length (entriesAt t (visitOf c)) * 4 ≤ length entries
 
 -- and have them afterwards
 pub record Wrote (t : IndexColumns) (c : Cursor) (nodes entries nodes′ entries′ : List ℕ) : Type 0 where
-  pub row-now : nodes′ ≡ over nodes (c .number * 8) (rowOf t (c .number) (c .entries) (visitOf c))
+  pub row-now : nodes′ ≡ over nodes (c .number .0 * 8) (rowOf t (c .number .0) (c .entries) (visitOf c))
   pub entries-now : entries′ ≡ over entries (c .entries * 4) (entryRows (entriesAt t (visitOf c)))
 
 -- what writing a node asks, and what it leaves
@@ -148,7 +148,7 @@ pub record PutTurn (t : IndexColumns) (c r : Cursor) (w : Work) (nodes entries n
 
 -- whether the rooms have the node's words
 abbrev pub hasRow : IndexColumns → Cursor → List ℕ → Bool
-hasRow t c nodes = begins (rowOf t (c .number) (c .entries) (visitOf c)) (drop (c .number * 8) nodes)
+hasRow t c nodes = begins (rowOf t (c .number .0) (c .entries) (visitOf c)) (drop (c .number .0 * 8) nodes)
 
 abbrev pub hasEntries : IndexColumns → Cursor → List ℕ → Bool
 hasEntries t c entries = begins (entryRows (entriesAt t (visitOf c))) (drop (c .entries * 4) entries)

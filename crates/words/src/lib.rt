@@ -14,6 +14,7 @@ use order::places_of;
 pub use order::put_order;
 use rules::Grid;
 use rules::Session;
+use rules::Stand;
 use turn::Compared;
 use turn::check_node;
 use turn::write_node;
@@ -29,7 +30,7 @@ pub fn count_nodes(lengths: &[u8], shared: &[u8]) -> u32
     requires { ⌜ Grows (now lengths) (now shared) ⌝ }
     ensures { λ r. ⌜ r ≡ length (visitsFrom (given lengths) (given shared) 0 0) ⌝ }
 {
-    grown(lengths, shared, 0, lengths.len()) + 1
+    grown(lengths, shared, Stand(0), Stand(lengths.len() as u32)) + 1
 }
 
 // How many entries, of all nodes.
@@ -38,7 +39,7 @@ pub fn count_entries(lengths: &[u8], shared: &[u8], region: &[u8], all: u32) -> 
     ensures { λ r. ⌜ r ≡ countFrom (given shared) (given region) (visitsFrom (given lengths) (given shared) 0 0) ⌝ }
 {
     let mut cursor = root();
-    while cursor.number < all {
+    while cursor.number.0 < all {
         let past = end_of(shared, cursor.stand, cursor.length);
         let bits = regions_of(region, cursor.stand, past);
         cursor = step(lengths, shared, cursor, u64::count_ones(bits));
@@ -67,7 +68,7 @@ pub fn write(
     let mut best = [0u32; Grid::REGIONS];
     let mut ranked = [0u32; Grid::REGIONS];
     let mut cursor = root();
-    while cursor.number < all {
+    while cursor.number.0 < all {
         cursor = write_node(
             text,
             starts,
@@ -108,7 +109,7 @@ pub fn check(
     let mut best = [0u32; Grid::REGIONS];
     let mut ranked = [0u32; Grid::REGIONS];
     let mut here = root();
-    while here.number < all {
+    while here.number.0 < all {
         let Compared::Same(further) = check_node(
             text,
             starts,

@@ -48,7 +48,7 @@ pub fn write_node(
         ranked,
     );
     let words = row(text, starts, lengths, shared, path, cursor, gathered);
-    put_words(nodes, cursor.number as usize * NODE_WORDS, &words);
+    put_words(nodes, cursor.number.0 as usize * NODE_WORDS, &words);
     put_entries(
         entries,
         cursor.entries as usize * ENTRY_WORDS,
@@ -106,7 +106,7 @@ pub fn check_node(
         ranked,
     );
     let words = row(text, starts, lengths, shared, path, cursor, gathered);
-    if !has_words(nodes, cursor.number as usize * NODE_WORDS, &words) {
+    if !has_words(nodes, cursor.number.0 as usize * NODE_WORDS, &words) {
         return Compared::Different;
     }
     if !has_entries(

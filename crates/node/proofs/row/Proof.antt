@@ -7,16 +7,17 @@ use Rattle.node.proofs.row.Statement.{statement}
 use Rattle.node.proofs.row.Tie as tie
 
 parent-requires : tie.Need-parent-requires
-parent-requires c κs = let s = c .before .before .before .before in length-fits _ _ (s .pre .grows) (s .args .cursor) (s .pre .on)
+parent-requires c κs = let s = c .before .before .before .before .before .before in length-fits _ _ (s .pre .grows) (s .args .cursor) (s .pre .on)
 
 last-byte-requires : tie.Need-last-byte-requires
 last-byte-requires c κs =
-    let s = c .before .before .before .before .before in
-    record { short = length-fits _ _ (s .pre .grows) (s .args .cursor) (s .pre .on); inside = spelt-at _ _ (s .pre .grows) (s .args .cursor) (s .pre .on) _ _ (s .pre .spelt) }
+    let s = c .before .before .before .before .before .before .before in
+    let p = s .pre in
+    record { short = length-fits _ _ (p .grows) (s .args .cursor) (p .on); inside = spelt-at _ _ (p .grows) (s .args .cursor) (p .on) _ _ (p .spelt) }
 
 past-number-requires : tie.Need-past-number-requires
 past-number-requires c κs =
-    let p = c .before .before .before .before .before .before .pre in
+    let p = c .before .before .before .before .before .before .before .before .pre in
     let after = past-after _ _ (p .grows) _ _ _ (p .past) in
     record { grows = p .grows; run = (after .0, p .within); low = p .low; long = p .on .long; some = after .1 }
 
@@ -26,19 +27,13 @@ low-word-requires c κs = search needs
 high-word-requires : tie.Need-high-word-requires
 high-word-requires c κs = search needs
 
-cast-t16 : tie.Need-cast-t16
-cast-t16 c = let p = c .before .before .before .before .before .before .before .before .before .pre in omega (arith, p .on .within, p .grows .few)
-
-cast-t17 : tie.Need-cast-t17
-cast-t17 c = let p = c .before .before .before .before .before .before .before .before .before .pre in omega (arith, p .within, p .grows .few)
-
 returns : tie.Need-returns
 returns c =
     λ test e.
-    let s = c .before .before .before .before .before .before .before .before .before in
+    let s = c .before .before .before .before .before .before .before .before .before .before .before in
     let a = s .args in
     let p = s .pre in
-    row-is (a .text .now) (a .starts .now) (a .lengths .now) (a .shared .now) (a .cursor .number) (a .cursor .entries) (a .cursor .stand) (a .cursor .length) (a .gathered .past) _ _ _ _ _ _ _
+    row-is (a .text .now) (a .starts .now) (a .lengths .now) (a .shared .now) (a .cursor .number .0) (a .cursor .entries) (a .cursor .stand .0) (a .cursor .length) (a .gathered .past .0) _ _ _ _ _ _ _
     (c .before .before .before .before .parent .ensures ∙ parent-is _ _ (p .grows) (a .cursor) (p .on) (a .path .now) (p .ways)) (c .before .before .before .last-byte .ensures) (c .before .before .past-number .ensures) (c .before .low-word .ensures test e) (c .high-word .ensures test e)
 
 pub row-spec : {M : Type 1} → statement M
@@ -50,6 +45,4 @@ row-spec =
     past-number-requires
     low-word-requires
     high-word-requires
-    cast-t16
-    cast-t17
     returns)

@@ -15,7 +15,7 @@ Inv-loop text starts lengths shared region score all nodes entries next₀ path�
     Checking (indexColumns text starts lengths shared region score) all nodes entries (workOf next path places best ranked) here
 
 abbrev μ-loop : tie.MeasureT-loop
-μ-loop text starts lengths shared region score all nodes entries next₀ path₀ places₀ best₀ ranked₀ here₀ next path places best ranked here = all - here .number
+μ-loop text starts lengths shared region score all nodes entries next₀ path₀ places₀ best₀ ranked₀ here₀ next path places best ranked here = all - here .number .0
 
 places-of-requires : tie.Need-places-of-requires Inv-loop μ-loop
 places-of-requires c κs = c .before .before .before .before .before .before .before .before .pre .lawful .placed

@@ -12,7 +12,7 @@ abbrev Inv-loop : tie.InvT-loop
 Inv-loop lengths shared region all cursor₀ cursor = Counting lengths shared region all cursor
 
 abbrev μ-loop : tie.MeasureT-loop
-μ-loop lengths shared region all cursor₀ cursor = all - cursor .number
+μ-loop lengths shared region all cursor₀ cursor = all - cursor .number .0
 
 root-requires : tie.Need-root-requires Inv-loop μ-loop
 root-requires c κs = search needs

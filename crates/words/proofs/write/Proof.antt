@@ -15,7 +15,7 @@ Inv-loop text starts lengths shared region score all nodes₀ entries₀ next₀
     Writing (indexColumns text starts lengths shared region score) all nodes₀ entries₀ (workOf next path places best ranked) nodes entries cursor
 
 abbrev μ-loop : tie.MeasureT-loop
-μ-loop text starts lengths shared region score all nodes₀ entries₀ next₀ path₀ places₀ best₀ ranked₀ cursor₀ nodes entries next path places best ranked cursor = all - cursor .number
+μ-loop text starts lengths shared region score all nodes₀ entries₀ next₀ path₀ places₀ best₀ ranked₀ cursor₀ nodes entries next path places best ranked cursor = all - cursor .number .0
 
 places-of-requires : tie.Need-places-of-requires Inv-loop μ-loop
 places-of-requires c κs = c .before .before .before .before .before .before .before .before .pre .lawful .placed

@@ -8,8 +8,9 @@ use Rattle.node.proofs.cursor.advance.Statement.{statement}
 use Rattle.node.proofs.cursor.advance.Tie as tie
 
 -- a name's length is a place of the path
+
 length-room : (c : tie.After-wide) → c .wide .result < 25
-length-room c = let s = c .before .before .before .before in omega (arith, s .pre .step .on .long, length-short _ _ (s .pre .step .grows) (s .args .cursor .stand), c .wide .ensures)
+length-room c = let s = c .before .before .before .before in omega (arith, s .pre .step .on .long, length-short _ _ (s .pre .step .grows) (s .args .cursor .stand .0), c .wide .ensures)
 
 wide-requires : tie.Need-wide-requires
 wide-requires c κs = search needs
@@ -25,14 +26,15 @@ step-requires c κs = c .before .before .before .before .pre .step
 
 pass-requires : tie.Need-pass-requires
 pass-requires c κs =
-    let p = c .before .before .before .before .before .before .pre in
-    record { placed = p .placed; run = (c .before .step .ensures .after, omega (arith, c .before .step .ensures .within, p .same)); places = p .places }
+    let p = c .before .before .before .before .before .before .before .before .pre in
+    let s = c .before .before .before .step .ensures in
+    record { placed = p .placed; run = (s .after, omega (arith, s .within, p .same)); places = p .places }
 
 returns : tie.Need-returns
 returns c =
-    let s = c .before .before .before .before .before .before .before in
+    let s = c .before .before .before .before .before .before .before .before .before in
     let p = s .pre in
-    advanced _ _ (p .step .grows) _ _ (s .args .path .now) (s .args .cursor) _ _ _ (p .step .on) (p .ways) (p .size) (c .before .before .before .wide .ensures) (c .before .before .step .ensures) (c .pass .ensures)
+    advanced _ _ (p .step .grows) _ _ (s .args .path .now) (s .args .cursor) _ _ _ (p .step .on) (p .ways) (p .size) (c .before .before .before .before .before .wide .ensures) (c .before .before .before .before .step .ensures) (c .pass .ensures)
 
 pub advance-spec : {M : Type 1} → statement M
 advance-spec =

@@ -7,10 +7,10 @@ use Rattle.node.proofs.cursor.pass.Statement.{statement}
 use Rattle.node.proofs.cursor.pass.Tie as tie
 
 abbrev Inv-loop : tie.InvT-loop
-Inv-loop region next₀ from to stand₀ next stand = Passing region from to next stand
+Inv-loop region next₀ first end stand₀ next stand = Passing region stand₀ end next stand
 
 abbrev μ-loop : tie.MeasureT-loop
-μ-loop region next₀ from to stand₀ next stand = to - stand
+μ-loop region next₀ first end stand₀ next stand = end - stand
 
 loop-holds : tie.Need-loop-holds Inv-loop μ-loop
 loop-holds c = passing _ _ _ _ (search needs) (search needs)

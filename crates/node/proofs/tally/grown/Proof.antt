@@ -7,13 +7,16 @@ use Rattle.node.proofs.tally.grown.Statement.{statement}
 use Rattle.node.proofs.tally.grown.Tie as tie
 
 abbrev Inv-loop : tie.InvT-loop
-Inv-loop lengths shared i e sum₀ k₀ sum k = Growing lengths shared i e sum k
+Inv-loop lengths shared sum₀ end stand₀ sum stand = Growing lengths shared stand₀ end sum stand
 
 abbrev μ-loop : tie.MeasureT-loop
-μ-loop lengths shared i e sum₀ k₀ sum k = e - k
+μ-loop lengths shared sum₀ end stand₀ sum stand = end - stand
 
 loop-holds : tie.Need-loop-holds Inv-loop μ-loop
 loop-holds c = growing _ _ _ _ (search needs)
+
+cast-row : tie.Need-cast-row Inv-loop μ-loop
+cast-row c = search needs
 
 shared-slice-read-word : tie.Need-shared-slice-read-word Inv-loop μ-loop
 shared-slice-read-word c = search needs
@@ -53,6 +56,7 @@ grown-spec =
     Inv-loop
     μ-loop
     loop-holds
+    cast-row
     shared-slice-read-word
     shared-slice-read-word-2
     sub-word

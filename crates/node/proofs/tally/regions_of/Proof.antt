@@ -6,10 +6,10 @@ use Rattle.node.proofs.tally.regions_of.Statement.{statement}
 use Rattle.node.proofs.tally.regions_of.Tie as tie
 
 abbrev Inv-loop : tie.InvT-loop
-Inv-loop region i e bits₀ k₀ bits k = Marking region i e bits k
+Inv-loop region bits₀ end stand₀ bits stand = Marking region stand₀ end bits stand
 
 abbrev μ-loop : tie.MeasureT-loop
-μ-loop region i e bits₀ k₀ bits k = e - k
+μ-loop region bits₀ end stand₀ bits stand = end - stand
 
 loop-holds : tie.Need-loop-holds Inv-loop μ-loop
 loop-holds c = marking _ _ _ (search needs)
