@@ -5,9 +5,9 @@ ghost use mathlib.Core.Bool.{true, false};
 ghost use Prim.Native.Nat.{_≤_, _<_};
 ghost use lib.ListN.{length, drop};
 ghost use Rattle.base.specs.Lists.{isEmpty, firstOf};
-ghost use Rattle.base.specs.Bits.{wordOf, bitAt};
+ghost use Rattle.base.specs.Bits.{wordOf};
 ghost use Rattle.rules.specs.Places.{gridLawful};
-ghost use Rattle.grid.specs.Cells.{clip, spanOf, edgesSpan, inSpan, laid, cellsOf, hasCell, bothCells, regionsIn};
+ghost use Rattle.grid.specs.Cells.{clip, spanOf, edgesSpan, inSpan, laid, cellsOf, bothCells, regionsIn};
 use super::metres::edge_strip;
 use rules::Grid;
 use rules::Rect;
@@ -19,17 +19,6 @@ pub struct Cells {
 }
 
 impl Cells {
-    pub fn has(self, region: u32) -> bool
-        requires { ⌜ region < 64 ⌝ }
-        ensures { λ r. ⌜ r ≡ hasCell self region ⌝ }
-    {
-        if region < 32 {
-            bit_at(self.low, region)
-        } else {
-            bit_at(self.high, region - 32)
-        }
-    }
-
     // The regions of both.
     pub fn both(self, other: Cells) -> Cells
         ensures { λ r. ⌜ r ≡ bothCells self other ⌝ }
@@ -86,14 +75,6 @@ impl Cells {
             high: high & (high - 1),
         }
     }
-}
-
-// Whether bit i is 1.
-fn bit_at(word: u32, i: u32) -> bool
-    requires { ⌜ i < 32 ⌝ }
-    ensures { λ r. ⌜ r ≡ bitAt word i ⌝ }
-{
-    (word >> i) % 2 == 1
 }
 
 // The grid's last column, and its last row.

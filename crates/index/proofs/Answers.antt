@@ -26,10 +26,10 @@ use Rattle.rules.specs.Indexes.{Index, indexOf, orderWords, nodeWords, entryWor
 use Rattle.rules.proofs.Lawful.{taken}
 use Rattle.rules.proofs.Refusals.{first-given}
 use Rattle.rules.proofs.Numbers.{refusal-some}
-use Rattle.node.specs.Columns.{Columns}
+use Rattle.node.specs.Columns.{IndexColumns}
 use Rattle.words.specs.Over.{over, orderOf}
 use Rattle.words.specs.Words.{nodeCountOf, entryCountOf, nodeWordsOf, entryWordsOf}
-use Rattle.index.specs.Columns.{columns}
+use Rattle.index.specs.Columns.{tableColumns}
 use Rattle.index.specs.Promises.{BuildPromise}
 use Rattle.index.specs.Written.{tooSmallFor, overAll, BuiltFrom, hasAll, CheckedFrom}
 use Rattle.index.proofs.ByStand.{regions-length}
@@ -65,11 +65,11 @@ unfolding over
 over-written words room = rw (zero-add (length words))
 
 module _ (t : Table) (g : Grid) (l : LawfulTable t g) (x : Index) where
-  small-is : tooSmallFor (columns t g) x ≡ tooSmall t g x
+  small-is : tooSmallFor (tableColumns t g) x ≡ tooSmall t g x
   unfolding tooSmallFor tooSmall
   small-is = rw (regions-length g t, node-count t g l, entry-count t g l)
 
-  over-is : overAll (columns t g) x ≡ record { order = written (orderWords t g) (x .order); nodes = written (nodeWords t g) (x .nodes); entries = written (entryWords t g) (x .entries) }
+  over-is : overAll (tableColumns t g) x ≡ record { order = written (orderWords t g) (x .order); nodes = written (nodeWords t g) (x .nodes); entries = written (entryWords t g) (x .entries) }
   unfolding overAll
   over-is =
       rw (
@@ -85,36 +85,32 @@ module _ (t : Table) (g : Grid) (l : LawfulTable t g) (x : Index) where
   unfolding buildRefusal
   refusal-past = rw (taken t g l)
 
-  pub wrote-built : (r : Built) (y : Index) → BuiltFrom (columns t g) x r y → BuildPromise t g x r y
+  pub wrote-built : (r : Built) (y : Index) → BuiltFrom (tableColumns t g) x r y → BuildPromise t g x r y
   unfolding buildTold indexAfter
   wrote-built r y w = step (which (tooSmall t g x))
     where
       step : (tooSmall t g x ≡ true) ⊎ (tooSmall t g x ≡ false) → BuildPromise t g x r y
       step (inl q) = record { told = w .told ∙ rw (small-is, refusal-past, q); buffers = w .buffers ∙ rw (small-is, refusal-past, q) }
-      step (inr q) =
-          record {
-            told = w .told ∙ rw (small-is, refusal-past, q, node-count t g l, entry-count t g l);
-            buffers = w .buffers ∙ rw (small-is, refusal-past, q) over-is;
-          }
+      step (inr q) = record { told = w .told ∙ rw (small-is, refusal-past, q, node-count t g l, entry-count t g l); buffers = w .buffers ∙ rw (small-is, refusal-past, q) over-is }
 
-  has-is : hasAll (columns t g) x ≡ setLawful t g x
+  has-is : hasAll (tableColumns t g) x ≡ setLawful t g x
   unfolding hasAll setLawful every
   has-is = rw (order-words g t, node-words t g l, entry-words t g l, taken t g l)
 
-  pub compared-checked : (r : Checked) → CheckedFrom (columns t g) x r → checkedNumbers r ≡ checkTold t g x
+  pub compared-checked : (r : Checked) → CheckedFrom (tableColumns t g) x r → checkedNumbers r ≡ checkTold t g x
   unfolding checkTold
   compared-checked r w = w .told ∙ rw (has-is, node-count t g l, entry-count t g l)
 
 -- ---- the ways out past those
 
 -- the buffers are long enough
-pub record Roomy (c : Columns) (x : Index) : Type 0 where
+pub record Roomy (c : IndexColumns) (x : Index) : Type 0 where
   pub for-order : length (c .region) ≤ length (x .order)
   pub for-nodes : nodeCountOf c * 8 ≤ length (x .nodes)
   pub for-entries : entryCountOf c * 4 ≤ length (x .entries)
 
 -- by the counts and by the test of the buffers' lengths
-module _ (c : Columns) (x : Index) (n e : ℕ) (nodes : n ≡ nodeCountOf c) (entries : e ≡ entryCountOf c) (small : Bool)
+module _ (c : IndexColumns) (x : Index) (n e : ℕ) (nodes : n ≡ nodeCountOf c) (entries : e ≡ entryCountOf c) (small : Bool)
     (tested : small ≡ ltb (length (x .order)) (length (c .region)) || ltb (length (x .nodes)) (8 * n) || ltb (length (x .entries)) (4 * e)) where
   small-test : tooSmallFor c x ≡ small
   unfolding tooSmallFor
@@ -140,7 +136,7 @@ module _ (c : Columns) (x : Index) (n e : ℕ) (nodes : n ≡ nodeCountOf c) (en
   wrote q order′ nodes′ entries′ o p r = record { told = rw (small-test, q, nodes, entries); buffers = rw (small-test, q, o, p, r) }
 
 -- by the order and by the nodes with their entries, which are compared one after the other
-module _ (c : Columns) (x : Index) (ordered : Bool) (tested : ordered ≡ begins (orderOf (c .region)) (x .order)) where
+module _ (c : IndexColumns) (x : Index) (ordered : Bool) (tested : ordered ≡ begins (orderOf (c .region)) (x .order)) where
   pub other-order : ordered ≡ false → CheckedFrom c x checked.Unlawful
   unfolding hasAll
   other-order q = record { told = rw (every-not (begins (orderOf (c .region)) (x .order) ∷ begins (nodeWordsOf c) (x .nodes) ∷ begins (entryWordsOf c) (x .entries) ∷ []) 0 (sym tested ∙ q)) }

@@ -11,7 +11,7 @@ use lib.ListN.{length, drop, length-drop}
 use lib.Seq.{drop-cons, getD-drop}
 use borrow.Author.Tests.{ltb-true, ltb-false}
 use Rattle.base.proofs.Tests.{which, le-or-lt}
-use Rattle.node.specs.Columns.{at, runOf, blockOf, endOf}
+use Rattle.node.specs.Columns.{at, frontRun, blockOf, endOf}
 
 -- the run at the front of a column that is l or more
 pub record Run (l : ℕ) (column : List ℕ) (n : ℕ) : Type 0 where
@@ -19,15 +19,15 @@ pub record Run (l : ℕ) (column : List ℕ) (n : ℕ) : Type 0 where
   pub inside : (k : ℕ) → k < n → l ≤ at column k
   pub stops : n < length column → at column n < l
 
-run : (l : ℕ) (column : List ℕ) → Run l column (runOf l column)
+run : (l : ℕ) (column : List ℕ) → Run l column (frontRun l column)
 run l [] = record { within = omega arith; inside = λ k h. absurd (omega arith); stops = λ h. absurd (omega arith) }
 run l (c ∷ cs) = step (which (ltb c l)) (run l cs)
   where
-    more : ltb c l ≡ false → (k : ℕ) → Run l cs (runOf l cs) → k < suc (runOf l cs) → l ≤ at (c ∷ cs) k
+    more : ltb c l ≡ false → (k : ℕ) → Run l cs (frontRun l cs) → k < suc (frontRun l cs) → l ≤ at (c ∷ cs) k
     more q zero r h = ltb-false c l q
     more q (suc k) r h = r .inside k (omega arith)
 
-    step : (ltb c l ≡ true) ⊎ (ltb c l ≡ false) → Run l cs (runOf l cs) → Run l (c ∷ cs) (runOf l (c ∷ cs))
+    step : (ltb c l ≡ true) ⊎ (ltb c l ≡ false) → Run l cs (frontRun l cs) → Run l (c ∷ cs) (frontRun l (c ∷ cs))
     step (inl q) r = rw q (record { within = omega arith; inside = λ k h. absurd (omega arith); stops = λ h. ltb-true c l q })
     step (inr q) r = rw q (record { within = omega (arith, r .within); inside = λ k h. more q k r h; stops = λ h. r .stops (omega arith) })
 
@@ -43,7 +43,7 @@ unfolding endOf
 block shared i l h =
     let rest : List ℕ = drop (suc i) shared in
     let size : length rest ≡ length shared - suc i = length-drop (suc i) shared in
-    let e : i + blockOf l (drop i shared) ≡ suc i + runOf l rest = rw (drop-cons shared i 0 h) (omega arith) in
+    let e : i + blockOf l (drop i shared) ≡ suc i + frontRun l rest = rw (drop-cons shared i 0 h) (omega arith) in
     let r = run l rest in
     rw e record {
       after = omega arith;
@@ -51,7 +51,7 @@ block shared i l h =
       inside = λ k u v.
           let q : suc i + (k - suc i) ≡ k = omega arith in
           omega (arith, r .inside (k - suc i) (omega arith), getD-drop (suc i) shared (k - suc i) 0 ∙ ap (at shared) q);
-      stops = λ u. omega (arith, r .stops (omega arith), getD-drop (suc i) shared (runOf l rest) 0);
+      stops = λ u. omega (arith, r .stops (omega arith), getD-drop (suc i) shared (frontRun l rest) 0);
     }
 
 -- with nothing to fall short of, the block is all the rest

@@ -19,8 +19,9 @@ use Rattle.rules.specs.Questions.{regionOfStand}
 use Rattle.rules.proofs.Lawful.{start-inside, name-part}
 use Rattle.rules.proofs.Places.{region-less}
 use Rattle.trie.specs.Adding.{nameBefore, sharedAt}
-use Rattle.node.specs.Columns.{columnsOf, at, Grows, Placed, LawfulColumns}
-use Rattle.index.specs.Columns.{lengthIn, sharedIn, regionIn, lengthsOf, sharedOf, regionsOf, columns, Spelled, Located}
+use Rattle.trie.proofs.Sizes.{name-length}
+use Rattle.node.specs.Columns.{indexColumns, at, Grows, Placed, LawfulColumns}
+use Rattle.index.specs.Columns.{lengthIn, sharedIn, regionIn, lengthsIn, sharesIn, regionsOver, lengthsOf, sharedOf, regionsOf, tableColumns, Spelled, Located}
 
 -- ---- what two names share
 
@@ -77,16 +78,10 @@ module _ (g : Grid) (t : Table) where
 
 module _ (t : Table) (g : Grid) (l : LawfulTable t g) where
   -- where a name lies in the text
-  pub name-length : (i : ℕ) → i < stands t → length (nameOf t i) ≡ startOf t (i + 1) - startOf t i
-  name-length i h =
-      let whole : startOf t (i + 1) ≤ length (t .text) = start-inside t g l (i + 1) (omega arith) in
-      ap length (name-part t g l i h)
-      ∙ length-take-le (startOf t (i + 1) - startOf t i) (drop (startOf t i) (t .text)) (rw (length-drop (startOf t i) (t .text)) (omega arith))
-
   pub name-byte : (i k : ℕ) → i < stands t → k < length (nameOf t i) → getD (nameOf t i) k 0 ≡ at (t .text) (startOf t i + k)
   name-byte i k h u =
       ap (λ (n : List ℕ). getD n k 0) (name-part t g l i h)
-      ∙ getD-take (startOf t (i + 1) - startOf t i) (drop (startOf t i) (t .text)) k 0 (omega (arith, name-length i h))
+      ∙ getD-take (startOf t (i + 1) - startOf t i) (drop (startOf t i) (t .text)) k 0 (omega (arith, name-length t g l i h))
       ∙ getD-drop (startOf t i) (t .text) k 0
 
   -- ---- what the code asks
@@ -106,10 +101,10 @@ module _ (t : Table) (g : Grid) (l : LawfulTable t g) where
   pub front-size : (array : List ℕ) → length array ≡ 1024 → stands t ≡ length (take (stands t) array)
   front-size array size = sym (length-take-le (stands t) array (front-fits array size))
 
-  pub columns-are : (long alike region : List ℕ) → take (stands t) long ≡ each (lengthIn (t .text) (t .starts)) (upTo (stands t))
-      → take (stands t) alike ≡ each (sharedIn (t .text) (t .starts)) (upTo (stands t))
-      → take (length (t .east)) region ≡ each (regionIn (t .east) (t .north) g) (upTo (length (t .east)))
-      → columnsOf (t .text) (t .starts) (take (stands t) long) (take (stands t) alike) (take (stands t) region) (t .score) ≡ columns t g
+  pub columns-are : (long alike region : List ℕ) → take (stands t) long ≡ lengthsIn (t .text) (t .starts) (stands t)
+      → take (stands t) alike ≡ sharesIn (t .text) (t .starts) (stands t)
+      → take (length (t .east)) region ≡ regionsOver (t .east) (t .north) g
+      → indexColumns (t .text) (t .starts) (take (stands t) long) (take (stands t) alike) (take (stands t) region) (t .score) ≡ tableColumns t g
   unfolding lengthsOf sharedOf regionsOf
   columns-are long alike region a b c = rw (a, b, rw (l .shaped .easts) at c)
 
@@ -141,7 +136,7 @@ module _ (t : Table) (g : Grid) (l : LawfulTable t g) where
             omega (arith, regions-at g t k i, region-less g (placeOf t k) (l .gridded) (l .placed k i));
       }
 
-  pub columns-lawful : LawfulColumns (columns t g)
+  pub columns-lawful : LawfulColumns (tableColumns t g)
   columns-lawful =
       record {
         grows = grows;
@@ -152,6 +147,6 @@ module _ (t : Table) (g : Grid) (l : LawfulTable t g) where
           begun = omega (arith, lengths-length t, l .shaped .bounds);
           inside = λ k h.
               let i : k < stands t = omega (arith, lengths-length t) in
-              omega (arith, lengths-at t k i, name-length k i, l .shaped .forward k i, start-inside t g l (k + 1) (omega arith));
+              omega (arith, lengths-at t k i, name-length t g l k i, l .shaped .forward k i, start-inside t g l (k + 1) (omega arith));
         };
       }

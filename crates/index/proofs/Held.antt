@@ -18,7 +18,7 @@ use Rattle.rules.specs.Tables.{Table, stands}
 use Rattle.rules.specs.Questions.{under, regionOfStand, inRegion}
 use Rattle.rules.specs.Indexes.{orderWords, occupied, regionsUnder, entryOf, ahead, entriesOf}
 use Rattle.trie.proofs.Regions.{before, region-place}
-use Rattle.node.specs.Columns.{at, span, standsIn, heldIn, regionsIn, entryIn, entriesIn}
+use Rattle.node.specs.Columns.{at, span, standsIn, heldAmong, regionsAmong, entryAmong, entriesAmong}
 use Rattle.node.specs.Visits.{placeAt, placesAt}
 use Rattle.words.specs.Over.{regionOrder, orderOf}
 use Rattle.words.proofs.Orders.{firsts, firsts-below}
@@ -56,15 +56,15 @@ module _ (g : Grid) (t : Table) where
     stands-here : (r : ℕ) → standsIn region r (span i e) ≡ keep (inRegion g t r) (under t p)
     stands-here r = stands-same r (span i e) (of-run i e inside) ∙ ap (keep (inRegion g t r)) (sym run)
 
-    held-here : (r : ℕ) → heldIn region (span i e) r ≡ occupied t g p r
-    unfolding heldIn
+    held-here : (r : ℕ) → heldAmong region (span i e) r ≡ occupied t g p r
+    unfolding heldAmong
     held-here r = ap (λ (l : List ℕ). not (isEmpty l)) (stands-here r)
 
-    pub bits-here : (base : ℕ) → wordOf (heldIn region (span i e)) base 32 ≡ wordOf (occupied t g p) base 32
-    bits-here base = word-same (heldIn region (span i e)) (occupied t g p) base base 32 (λ k h. held-here (base + k))
+    pub bits-here : (base : ℕ) → wordOf (heldAmong region (span i e)) base 32 ≡ wordOf (occupied t g p) base 32
+    bits-here base = word-same (heldAmong region (span i e)) (occupied t g p) base base 32 (λ k h. held-here (base + k))
 
-    pub regions-here : regionsIn region (span i e) ≡ regionsUnder t g p
-    regions-here = keep-same (heldIn region (span i e)) (occupied t g p) (upTo regions) (λ r u. held-here r)
+    pub regions-here : regionsAmong region (span i e) ≡ regionsUnder t g p
+    regions-here = keep-same (heldAmong region (span i e)) (occupied t g p) (upTo regions) (λ r u. held-here r)
 
     -- where a region's stands begin in the order
     first-here : (r x : ℕ) (s : List ℕ) → r < regions → keep (inRegion g t r) (under t p) ≡ x ∷ s → placeAt region i r ≡ positionIn x (orderWords t g)
@@ -81,21 +81,21 @@ module _ (g : Grid) (t : Table) where
           length-append those (keep (inRegion g t r) (upTo i)),
         )
 
-    entry-here : (r : ℕ) → r < regions → occupied t g p r ≡ true → entryIn region (t .score) (placesAt region i) (span i e) r ≡ entryOf t g p r
-    unfolding entryIn
+    entry-here : (r : ℕ) → r < regions → occupied t g p r ≡ true → entryAmong region (t .score) (placesAt region i) (span i e) r ≡ entryOf t g p r
+    unfolding entryAmong
     entry-here r lt o = go (keep (inRegion g t r) (under t p)) refl
       where
-        go : (l : List ℕ) → keep (inRegion g t r) (under t p) ≡ l → entryIn region (t .score) (placesAt region i) (span i e) r ≡ entryOf t g p r
+        go : (l : List ℕ) → keep (inRegion g t r) (under t p) ≡ l → entryAmong region (t .score) (placesAt region i) (span i e) r ≡ entryOf t g p r
         go [] q = absurd (false≢true (sym (ap (λ (l : List ℕ). not (isEmpty l)) q) ∙ o))
         go (x ∷ s) q =
             let first : at (placesAt region i) r ≡ positionIn (firstOf (keep (inRegion g t r) (under t p))) (orderWords t g) =
             place-at region i r (omega (arith, regions-are)) ∙ first-here r x s lt q ∙ ap (λ (l : List ℕ). positionIn (firstOf l) (orderWords t g)) (sym q) in
             rw (stands-here r, first)
 
-    pub entries-here : entriesIn region (t .score) (placesAt region i) (span i e) ≡ entriesOf t g p
-    unfolding entriesIn
+    pub entries-here : entriesAmong region (t .score) (placesAt region i) (span i e) ≡ entriesOf t g p
+    unfolding entriesAmong
     entries-here =
-        let entry = entryIn region (t .score) (placesAt region i) (span i e) in
+        let entry = entryAmong region (t .score) (placesAt region i) (span i e) in
         ap (sortBy ahead)
         (ap (each entry) regions-here
         ∙ each-same entry (entryOf t g p) (regionsUnder t g p)

@@ -25,7 +25,7 @@ use Rattle.trie.specs.Adding.{sharedAt}
 use Rattle.trie.proofs.Tables.{under-all, under-run, past-root}
 use Rattle.trie.proofs.Adding.{nodes-step, nodes-all, node-number, first-stand, past-stand, past-node, last-take, but-last-take}
 use Rattle.node.specs.Columns.{at, endOf, span, growth, grownOf}
-use Rattle.node.specs.Visits.{nodesBefore, numberAt}
+use Rattle.node.specs.Visits.{grownBefore, numberAt}
 use Rattle.node.specs.Rows.{lastOf, parentOf, pastNumber}
 use Rattle.node.proofs.Ends.{upTo-part, grown-last}
 use Rattle.index.specs.Columns.{lengthsOf, sharedOf}
@@ -54,7 +54,7 @@ number-root t = refl
 
 module _ (t : Table) (g : Grid) (l : LawfulTable t g) where
   -- before stand e
-  nodes-same : (e : ℕ) → e ≤ stands t → added.nodesBefore t e ≡ nodesBefore (lengthsOf t) (sharedOf t) e
+  nodes-same : (e : ℕ) → e ≤ stands t → added.nodesBefore t e ≡ grownBefore (lengthsOf t) (sharedOf t) e
   nodes-same zero h = omega (arith, grown-none (lengthsOf t) (sharedOf t))
   nodes-same (suc e) h =
       omega (

@@ -19,12 +19,12 @@ use Rattle.trie.proofs.Tree.{number-at}
 use Rattle.trie.proofs.Tables.{beginnings-tree}
 use Rattle.trie.proofs.Adding.{new-takes}
 use Rattle.trie.proofs.Words.{entries-length}
-use Rattle.node.specs.Columns.{Columns, at, endOf, regionsIn}
+use Rattle.node.specs.Columns.{IndexColumns, at, endOf, regionsAmong}
 use Rattle.node.specs.Visits.{Visit, visitsAt, newVisits, visitsFrom}
 use Rattle.node.specs.Rows.{standsAt, entriesAt, rowAt, rowOf}
 use Rattle.words.specs.Words.{rowsFrom, visitsOf, nodeCountOf, entryCountOf, nodeWordsOf, entryWordsOf}
 use Rattle.node.proofs.Steps.{visits-first, visits-done}
-use Rattle.index.specs.Columns.{lengthsOf, sharedOf, regionsOf, columns}
+use Rattle.index.specs.Columns.{lengthsOf, sharedOf, regionsOf, tableColumns}
 use Rattle.index.proofs.ByStand.{lengths-length, lengths-at, shared-at, columns-lawful}
 use Rattle.index.proofs.Numbers.{Meant, meant-root, meant-new}
 use Rattle.index.proofs.Held.{bits-here, regions-here, entries-here}
@@ -37,8 +37,8 @@ root : Visit
 root = record { stand = 0; length = 0 }
 
 module _ (t : Table) (g : Grid) (l : LawfulTable t g) where
-  abbrev C : Columns
-  C = columns t g
+  abbrev C : IndexColumns
+  C = tableColumns t g
 
   abbrev B : List (List ℕ)
   B = beginnings t
@@ -111,7 +111,7 @@ module _ (t : Table) (g : Grid) (l : LawfulTable t g) where
   unfolding entriesAt
   entries-at v u = let m = meant v u in entries-here g t (textAt v) (v .stand) (endOf (sharedOf t) (v .stand) (v .length)) (m .after) (m .within) (m .run)
 
-  regions-at-node : (v : Visit) → In v (visitsOf C) → length (regionsIn (regionsOf g t) (standsAt (sharedOf t) v)) ≡ length (entriesOf t g (textAt v))
+  regions-at-node : (v : Visit) → In v (visitsOf C) → length (regionsAmong (regionsOf g t) (standsAt (sharedOf t) v)) ≡ length (entriesOf t g (textAt v))
   regions-at-node v u =
       let m = meant v u in
       ap length (regions-here g t (textAt v) (v .stand) (endOf (sharedOf t) (v .stand) (v .length)) (m .after) (m .within) (m .run))
@@ -129,7 +129,7 @@ module _ (t : Table) (g : Grid) (l : LawfulTable t g) where
   entry-count =
       let many : List ℕ → ℕ = λ p. length (entriesOf t g p) in
       ap total
-      (each-same (λ v. length (regionsIn (regionsOf g t) (standsAt (sharedOf t) v))) (λ v. many (textAt v)) (visitsOf C) regions-at-node
+      (each-same (λ v. length (regionsAmong (regionsOf g t) (standsAt (sharedOf t) v))) (λ v. many (textAt v)) (visitsOf C) regions-at-node
       ∙ sym (each-each many textAt (visitsOf C))
       ∙ ap (each many) texts)
 

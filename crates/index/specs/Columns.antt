@@ -10,7 +10,7 @@ use Rattle.rules.specs.declared.Grid.{Grid}
 use Rattle.rules.specs.Places.{gridLawful, inGrid, regionOf}
 use Rattle.rules.specs.Names.{name}
 use Rattle.rules.specs.Tables.{Table, stands, placeIn}
-use Rattle.node.specs.Columns.{Columns, columnsOf}
+use Rattle.node.specs.Columns.{IndexColumns, indexColumns}
 
 -- ---- one stand's row
 
@@ -27,17 +27,26 @@ regionIn east north g i = regionOf g (placeIn east north i)
 
 -- ---- the columns
 
+abbrev pub lengthsIn : List ℕ → List ℕ → ℕ → List ℕ
+lengthsIn text starts n = each (lengthIn text starts) (upTo n)
+
+abbrev pub sharesIn : List ℕ → List ℕ → ℕ → List ℕ
+sharesIn text starts n = each (sharedIn text starts) (upTo n)
+
+abbrev pub regionsOver : List ℤ → List ℤ → Grid → List ℕ
+regionsOver east north g = each (regionIn east north g) (upTo (length east))
+
 unfoldable pub lengthsOf : Table → List ℕ
-lengthsOf t = each (lengthIn (t .text) (t .starts)) (upTo (stands t))
+lengthsOf t = lengthsIn (t .text) (t .starts) (stands t)
 
 unfoldable pub sharedOf : Table → List ℕ
-sharedOf t = each (sharedIn (t .text) (t .starts)) (upTo (stands t))
+sharedOf t = sharesIn (t .text) (t .starts) (stands t)
 
 unfoldable pub regionsOf : Grid → Table → List ℕ
 regionsOf g t = each (regionIn (t .east) (t .north) g) (upTo (stands t))
 
-abbrev pub columns : Table → Grid → Columns
-columns t g = columnsOf (t .text) (t .starts) (lengthsOf t) (sharedOf t) (regionsOf g t) (t .score)
+abbrev pub tableColumns : Table → Grid → IndexColumns
+tableColumns t g = indexColumns (t .text) (t .starts) (lengthsOf t) (sharedOf t) (regionsOf g t) (t .score)
 
 -- ---- what the code asks, so that a row fits a byte and a column its array
 

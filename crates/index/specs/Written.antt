@@ -10,27 +10,27 @@ use Rattle.rules.specs.declared.Built.{Built}
 use Rattle.rules.specs.declared.Checked.{Checked}
 use Rattle.rules.specs.Numbers.{builtNumbers, checkedNumbers}
 use Rattle.rules.specs.Indexes.{Index}
-use Rattle.node.specs.Columns.{Columns}
+use Rattle.node.specs.Columns.{IndexColumns}
 use Rattle.words.specs.Over.{over, orderOf}
 use Rattle.words.specs.Words.{nodeCountOf, entryCountOf, nodeWordsOf, entryWordsOf}
 
 -- a buffer is too small
-unfoldable pub tooSmallFor : Columns → Index → Bool
+unfoldable pub tooSmallFor : IndexColumns → Index → Bool
 tooSmallFor c x =
     ltb (length (x .order)) (length (c .region)) || ltb (length (x .nodes)) (8 * nodeCountOf c) || ltb (length (x .entries)) (4 * entryCountOf c)
 
 -- what is written
-unfoldable pub overAll : Columns → Index → Index
+unfoldable pub overAll : IndexColumns → Index → Index
 overAll c x =
     record { order = over (x .order) 0 (orderOf (c .region)); nodes = over (x .nodes) 0 (nodeWordsOf c); entries = over (x .entries) 0 (entryWordsOf c) }
 
-pub record BuiltFrom (c : Columns) (x : Index) (r : Built) (y : Index) : Type 0 where
+pub record BuiltFrom (c : IndexColumns) (x : Index) (r : Built) (y : Index) : Type 0 where
   pub told : builtNumbers r ≡ cond (tooSmallFor c x) (record { refusal = 6; nodes = 0; entries = 0 }) (record { refusal = 0; nodes = nodeCountOf c; entries = entryCountOf c })
   pub buffers : y ≡ cond (tooSmallFor c x) x (overAll c x)
 
 -- whether each buffer begins with its words
-unfoldable pub hasAll : Columns → Index → Bool
+unfoldable pub hasAll : IndexColumns → Index → Bool
 hasAll c x = every (begins (orderOf (c .region)) (x .order) ∷ begins (nodeWordsOf c) (x .nodes) ∷ begins (entryWordsOf c) (x .entries) ∷ [])
 
-pub record CheckedFrom (c : Columns) (x : Index) (r : Checked) : Type 0 where
+pub record CheckedFrom (c : IndexColumns) (x : Index) (r : Checked) : Type 0 where
   pub told : checkedNumbers r ≡ cond (hasAll c x) (record { lawful = 1; nodes = nodeCountOf c; entries = entryCountOf c }) (record { lawful = 0; nodes = 0; entries = 0 })

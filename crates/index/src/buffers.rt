@@ -2,6 +2,8 @@
 use rules::Built;
 use rules::Checked;
 use rules::Refusal;
+use rules::layout::ENTRY_WORDS;
+use rules::layout::NODE_WORDS;
 use words::count_entries;
 use words::count_nodes;
 use words::has_order;
@@ -10,8 +12,9 @@ ghost use mathlib.Core.Path.{_≡_};
 ghost use mathlib.Core.Bool.{_||_};
 ghost use Prim.Native.Nat.{_*_};
 ghost use lib.Dec.{ltb};
-ghost use Rattle.rules.specs.Indexes.{indexOf};
-ghost use Rattle.node.specs.Columns.{columnsOf, LawfulColumns};
+ghost use Rattle.base.specs.Lent.{after};
+ghost use Rattle.rules.specs.Indexes.{indexOf, indexIn};
+ghost use Rattle.node.specs.Columns.{columnsNow, columnsIn, LawfulColumns};
 ghost use Rattle.index.specs.Written.{BuiltFrom, CheckedFrom};
 
 // How many nodes and entries an index has.
@@ -27,10 +30,10 @@ fn too_small(order: usize, nodes: usize, entries: usize, stands: usize, counts: 
     if order < stands {
         return true;
     }
-    if nodes < 8 * (counts.nodes as usize) {
+    if nodes < NODE_WORDS * (counts.nodes as usize) {
         return true;
     }
-    entries < 4 * (counts.entries as usize)
+    entries < ENTRY_WORDS * (counts.entries as usize)
 }
 
 // The index of the table with these columns, in the buffers. Whether they have room is known before the first word is written.
@@ -45,8 +48,8 @@ pub fn put_index(
     nodes: &mut [u32],
     entries: &mut [u32],
 ) -> Built
-    requires { ⌜ LawfulColumns (columnsOf (now text) (now starts) (now lengths) (now shared) (now region) (now score)) ⌝ }
-    ensures { λ r. ⌜ BuiltFrom (columnsOf (now (text .entry)) (now (starts .entry)) (now (lengths .entry)) (now (shared .entry)) (now (region .entry)) (now (score .entry))) (indexOf (now (order .entry)) (now (nodes .entry)) (now (entries .entry))) r (indexOf (now (order .exit)) (now (nodes .exit)) (now (entries .exit))) ⌝ }
+    requires { ⌜ LawfulColumns (columnsNow text starts lengths shared region score) ⌝ }
+    ensures { λ r. ⌜ BuiltFrom (columnsIn text starts lengths shared region score) (indexIn order nodes entries) r (indexOf (after order) (after nodes) (after entries)) ⌝ }
 {
     let all = count_nodes(lengths, shared);
     let held = count_entries(lengths, shared, region, all);
@@ -93,8 +96,8 @@ pub fn has_index(
     nodes: &[u32],
     entries: &[u32],
 ) -> Checked
-    requires { ⌜ LawfulColumns (columnsOf (now text) (now starts) (now lengths) (now shared) (now region) (now score)) ⌝ }
-    ensures { λ r. ⌜ CheckedFrom (columnsOf (now (text .entry)) (now (starts .entry)) (now (lengths .entry)) (now (shared .entry)) (now (region .entry)) (now (score .entry))) (indexOf (now (order .entry)) (now (nodes .entry)) (now (entries .entry))) r ⌝ }
+    requires { ⌜ LawfulColumns (columnsNow text starts lengths shared region score) ⌝ }
+    ensures { λ r. ⌜ CheckedFrom (columnsIn text starts lengths shared region score) (indexIn order nodes entries) r ⌝ }
 {
     if !has_order(region, order) {
         return Checked::Unlawful;

@@ -14,8 +14,9 @@ use rules::Verdict;
 use table::table_refusal;
 ghost use mathlib.Core.Path.{_≡_};
 ghost use Rattle.rules.specs.Numbers.{checkedNumbers};
-ghost use Rattle.rules.specs.Tables.{tableOf};
-ghost use Rattle.rules.specs.Indexes.{indexOf, checkTold};
+ghost use Rattle.base.specs.Lent.{after};
+ghost use Rattle.rules.specs.Tables.{tableIn};
+ghost use Rattle.rules.specs.Indexes.{indexOf, indexIn, checkTold};
 ghost use Rattle.index.specs.Promises.{BuildPromise};
 
 // Writes the index of a table to three buffers and answers how many nodes and entries it has; or the first of refusals 1 to 6, and the
@@ -31,7 +32,7 @@ pub fn build(
     nodes: &mut [u32],
     entries: &mut [u32],
 ) -> Built
-    ensures { λ r. ⌜ BuildPromise (tableOf (now (text .entry)) (now (starts .entry)) (now (east .entry)) (now (north .entry)) (now (score .entry))) grid (indexOf (now (order .entry)) (now (nodes .entry)) (now (entries .entry))) r (indexOf (now (order .exit)) (now (nodes .exit)) (now (entries .exit))) ⌝ }
+    ensures { λ r. ⌜ BuildPromise (tableIn text starts east north score) grid (indexIn order nodes entries) r (indexOf (after order) (after nodes) (after entries)) ⌝ }
 {
     let verdict = table_refusal(text, starts, east, north, score, grid);
     if let Verdict::Refused(why) = verdict {
@@ -66,7 +67,7 @@ pub fn check(
     nodes: &[u32],
     entries: &[u32],
 ) -> Checked
-    ensures { λ r. ⌜ checkedNumbers r ≡ checkTold (tableOf (now (text .entry)) (now (starts .entry)) (now (east .entry)) (now (north .entry)) (now (score .entry))) grid (indexOf (now (order .entry)) (now (nodes .entry)) (now (entries .entry))) ⌝ }
+    ensures { λ r. ⌜ checkedNumbers r ≡ checkTold (tableIn text starts east north score) grid (indexIn order nodes entries) ⌝ }
 {
     let verdict = table_refusal(text, starts, east, north, score, grid);
     let Verdict::Passed = verdict else {

@@ -14,7 +14,7 @@ use Rattle.base.proofs.Tests.{le-or-lt}
 use Rattle.base.proofs.Members.{each-append}
 use Rattle.base.proofs.Runs.{from-split, length-from}
 use Rattle.base.proofs.Sums.{total-append, total-most}
-use Rattle.node.specs.Columns.{at, Grows, runOf, blockOf, endOf, span, growth, grownOf}
+use Rattle.node.specs.Columns.{at, Grows, frontRun, blockOf, endOf, Ends, span, growth, grownOf}
 
 -- ---- runs of stands
 
@@ -38,36 +38,33 @@ upTo-part i e h =
 pub record Ending (shared : List ℕ) (i l e : ℕ) : Type 0 where
   pub after : i < e
   pub within : e ≤ length shared
-  pub rest : endOf shared i l ≡ e + runOf l (drop e shared)
+  pub rest : endOf shared i l ≡ e + frontRun l (drop e shared)
 
 module _ (shared : List ℕ) (i l : ℕ) where
-  abbrev pub Ends : ℕ → Type 0
-  Ends e = (e ≡ endOf shared i l) × (i ≤ e) × (e ≤ length shared)
-
   pub ending : i < length shared → Ending shared i l (i + 1)
   unfolding endOf
   ending h = record { after = omega arith; within = omega arith; rest = rw (drop-cons shared i 0 h, add-one) (omega arith) }
 
-  pub ended : length shared ≤ i → i ≤ length shared → Ends i
+  pub ended : length shared ≤ i → i ≤ length shared → Ends shared i l i
   unfolding endOf
   ended h k =
       let q : blockOf l (drop i shared) ≡ 0 = rw (drop-of-length-le shared h) in
-      (omega (arith, q), omega arith, k)
+      record { end = omega (arith, q); after = omega arith; within = k }
 
   pub ending-more : (e : ℕ) → Ending shared i l e → e < length shared → l ≤ at shared e → Ending shared i l (e + 1)
   ending-more e s h k =
-      let q : runOf l (drop e shared) ≡ suc (runOf l (drop (suc e) shared)) = rw (drop-cons shared e 0 h, le-ltb (at shared e) l k) in
+      let q : frontRun l (drop e shared) ≡ suc (frontRun l (drop (suc e) shared)) = rw (drop-cons shared e 0 h, le-ltb (at shared e) l k) in
       record { after = omega (arith, s .after); within = omega arith; rest = s .rest ∙ rw (q, add-one) (omega arith) }
 
-  pub ending-here : (e : ℕ) → Ending shared i l e → e < length shared → at shared e < l → Ends e
+  pub ending-here : (e : ℕ) → Ending shared i l e → e < length shared → at shared e < l → Ends shared i l e
   ending-here e s h k =
-      let q : runOf l (drop e shared) ≡ 0 = rw (drop-cons shared e 0 h, lt-ltb (at shared e) l k) in
-      (omega (arith, s .rest), omega (arith, s .after), s .within)
+      let q : frontRun l (drop e shared) ≡ 0 = rw (drop-cons shared e 0 h, lt-ltb (at shared e) l k) in
+      record { end = omega (arith, s .rest); after = omega (arith, s .after); within = s .within }
 
-  pub ending-last : (e : ℕ) → Ending shared i l e → length shared ≤ e → Ends e
+  pub ending-last : (e : ℕ) → Ending shared i l e → length shared ≤ e → Ends shared i l e
   ending-last e s h =
-      let q : runOf l (drop e shared) ≡ 0 = rw (drop-of-length-le shared h) in
-      (omega (arith, s .rest), omega (arith, s .after), s .within)
+      let q : frontRun l (drop e shared) ≡ 0 = rw (drop-of-length-le shared h) in
+      record { end = omega (arith, s .rest); after = omega (arith, s .after); within = s .within }
 
   pub end-from : i ≤ endOf shared i l
   unfolding endOf
@@ -107,12 +104,7 @@ module _ (lengths shared : List ℕ) where
   pub grown-small : Grows lengths shared → (i e : ℕ) → e ≤ length lengths → grownOf lengths shared i e ≤ 24576
   unfolding grownOf
   grown-small g i e h =
-      omega (
-        arith,
-        total-most (growth lengths shared) 24 (span i e) (λ k h. omega (arith, length-short lengths shared g k)),
-        length-from i (e - i),
-        g .few,
-      )
+      omega (arith, total-most (growth lengths shared) 24 (span i e) (λ k h. omega (arith, length-short lengths shared g k)), length-from i (e - i), g .few)
 
 pub record Growing (lengths shared : List ℕ) (i e sum k : ℕ) : Type 0 where
   pub after : i ≤ k

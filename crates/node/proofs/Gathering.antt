@@ -21,60 +21,60 @@ use Rattle.base.proofs.Runs.{in-from}
 use Rattle.base.proofs.Words.{bit-asks, word-split, word-less}
 use Rattle.base.proofs.Sorts.{each-sort, length-sort}
 use Rattle.node.specs.declared.cursor.Cursor.{Cursor}
-use Rattle.node.specs.Columns.{at, Grows, Spelt, endOf, span, grownOf, heldIn, regionsIn, bitsIn, entryIn, entriesIn, entryFrom, entriesFrom, byBest, Tallied, Ranks}
+use Rattle.node.specs.Columns.{at, Grows, Spelt, Ends, endOf, span, grownOf, heldAmong, regionsAmong, bitsAmong, entryAmong, entriesAmong, entryFrom, entriesFrom, byBest, Tallied, Ranks}
 use Rattle.node.specs.Visits.{On, Ways}
-use Rattle.node.specs.Rows.{lastOf, parentOf, pastNumber, rowWith, Gathers}
+use Rattle.node.specs.Rows.{lastOf, aboveIn, parentOf, pastNumber, rowWith, Gathers}
 use Rattle.node.proofs.Ends.{length-short, end-from, end-after}
 use Rattle.node.proofs.Placing.{regions-are}
 
 -- ---- its entries
 
-pub entries-held : (region score next s : List ℕ) → length (entriesIn region score next s) ≡ length (regionsIn region s)
-unfolding entriesIn
-entries-held region score next s = length-sort ahead (each (entryIn region score next s) (regionsIn region s)) ∙ length-each (entryIn region score next s) (regionsIn region s)
+pub entries-held : (region score next s : List ℕ) → length (entriesAmong region score next s) ≡ length (regionsAmong region s)
+unfolding entriesAmong
+entries-held region score next s = length-sort ahead (each (entryAmong region score next s) (regionsAmong region s)) ∙ length-each (entryAmong region score next s) (regionsAmong region s)
 
 module _ (region score next s places best : List ℕ) (bits : ℕ) (t : Tallied region score next s places best bits) where
   -- the set bits are the regions that hold a stand
-  ranked-are : keep (bitAt bits) (upTo regions) ≡ regionsIn region s
-  ranked-are = keep-same (bitAt bits) (heldIn region s) (upTo regions) asks
+  ranked-are : keep (bitAt bits) (upTo regions) ≡ regionsAmong region s
+  ranked-are = keep-same (bitAt bits) (heldAmong region s) (upTo regions) asks
     where
-      asks : (r : ℕ) → In r (upTo regions) → bitAt bits r ≡ heldIn region s r
+      asks : (r : ℕ) → In r (upTo regions) → bitAt bits r ≡ heldAmong region s r
       asks r k =
           ap (λ (w : ℕ). bitAt w r) (t .word)
-          ∙ bit-asks (heldIn region s) 0 64 r (omega (arith, in-from 0 regions r k .1, regions-are))
-          ∙ ap (heldIn region s) (zero-add r)
+          ∙ bit-asks (heldAmong region s) 0 64 r (omega (arith, in-from 0 regions r k .1, regions-are))
+          ∙ ap (heldAmong region s) (zero-add r)
 
-  entry-is : (r : ℕ) → In r (regionsIn region s) → entryFrom best next places r ≡ entryIn region score next s r
-  unfolding entryIn
+  entry-is : (r : ℕ) → In r (regionsAmong region s) → entryFrom best next places r ≡ entryAmong region score next s r
+  unfolding entryAmong
   entry-is r k =
-      let i = keep-in (heldIn region s) (upTo regions) r k in
+      let i = keep-in (heldAmong region s) (upTo regions) r k in
       let lt : r < 64 = omega (arith, in-from 0 regions r (i .0) .1, regions-are) in
       rw (t .most r lt (i .1), t .past r lt (i .1))
 
   module _ (ranked : List ℕ) (held : ℕ) (k : Ranks best (keep (bitAt bits) (upTo regions)) ranked held) where
-    entries-are : entriesFrom best next places ranked held ≡ entriesIn region score next s
-    unfolding entriesFrom entriesIn
+    entries-are : entriesFrom best next places ranked held ≡ entriesAmong region score next s
+    unfolding entriesFrom entriesAmong
     entries-are =
         ap (each (entryFrom best next places)) (k .order)
         ∙ each-sort (entryFrom best next places) (byBest best) ahead (keep (bitAt bits) (upTo regions)) (λ x y h k. refl)
         ∙ ap (λ (l : List ℕ). sortBy ahead (each (entryFrom best next places) l)) ranked-are
-        ∙ ap (sortBy ahead) (each-same (entryFrom best next places) (entryIn region score next s) (regionsIn region s) entry-is)
+        ∙ ap (sortBy ahead) (each-same (entryFrom best next places) (entryAmong region score next s) (regionsAmong region s) entry-is)
 
-    count-is : held ≡ length (entriesIn region score next s)
+    count-is : held ≡ length (entriesAmong region score next s)
     count-is = k .count ∙ ap length ranked-are ∙ sym (entries-held region score next s)
 
 pub gathered : (shared region score next : List ℕ) (i l past bits held : ℕ) (places best ranked : List ℕ)
-    → (past ≡ endOf shared i l) × (i ≤ past) × (past ≤ length shared)
+    → Ends shared i l past
     → Tallied region score next (span i past) places best bits
     → Ranks best (keep (bitAt bits) (upTo regions)) ranked held
-    → Gathers shared region score next i l places best ranked (record { past = past; bits = bits; held = held })
+    → Gathers shared region score next i l places best ranked (record { past = record { 0 = past }; bits = bits; held = held })
 gathered shared region score next i l past bits held places best ranked e t k =
     record {
-      past = e .0;
-      within = e .2;
-      word = t .word ∙ ap (λ (x : ℕ). bitsIn region (span i x)) (e .0);
-      entries = entries-are region score next (span i past) places best bits t ranked held k ∙ ap (λ (x : ℕ). entriesIn region score next (span i x)) (e .0);
-      count = count-is region score next (span i past) places best bits t ranked held k ∙ ap (λ (x : ℕ). length (entriesIn region score next (span i x))) (e .0);
+      past = e .end;
+      within = e .within;
+      word = t .word ∙ ap (λ (x : ℕ). bitsAmong region (span i x)) (e .end);
+      entries = entries-are region score next (span i past) places best bits t ranked held k ∙ ap (λ (x : ℕ). entriesAmong region score next (span i x)) (e .end);
+      count = count-is region score next (span i past) places best bits t ranked held k ∙ ap (λ (x : ℕ). length (entriesAmong region score next (span i x))) (e .end);
       few = k .few;
       small = k .small;
       places-size = t .places-size;
@@ -110,20 +110,20 @@ module _ (lengths shared : List ℕ) (g : Grows lengths shared) where
 
   module _ (c : Cursor) (o : On lengths shared c) where
     pub length-fits : c .length ≤ 24
-    length-fits = omega (arith, o .long, length-short lengths shared g (c .stand))
+    length-fits = omega (arith, o .long, length-short lengths shared g (c .stand .0))
 
-    pub spelt-at : (text starts : List ℕ) → Spelt text starts lengths → 0 < c .length → (c .stand < length starts) × (at starts (c .stand) + c .length ≤ length text)
+    pub spelt-at : (text starts : List ℕ) → Spelt text starts lengths → 0 < c .length → (c .stand .0 < length starts) × (at starts (c .stand .0) + c .length ≤ length text)
     spelt-at text starts w h =
         ⊎-elim
-        (λ (q : length lengths ≤ c .stand). let z : at lengths (c .stand) ≡ 0 = List·getD-eq-default lengths 0 q in absurd (omega (arith, o .long)))
-        (λ (q : c .stand < length lengths). (omega (arith, w .begun), omega (arith, w .inside (c .stand) q, o .long)))
-        (le-or-lt (length lengths) (c .stand))
+        (λ (q : length lengths ≤ c .stand .0). let z : at lengths (c .stand .0) ≡ 0 = List·getD-eq-default lengths 0 q in absurd (omega (arith, o .long)))
+        (λ (q : c .stand .0 < length lengths). (omega (arith, w .begun), omega (arith, w .inside (c .stand .0) q, o .long)))
+        (le-or-lt (length lengths) (c .stand .0))
 
-    pub parent-is : (path : List ℕ) → Ways lengths shared path (c .stand) (c .length)
-        → cond (eqb (c .length) 0) 0 (at path (c .length - 1)) ≡ parentOf lengths shared (c .stand) (c .length)
+    pub parent-is : (path : List ℕ) → Ways lengths shared path (c .stand .0) (c .length)
+        → aboveIn path (c .length) ≡ parentOf lengths shared (c .stand .0) (c .length)
     parent-is path w = step (which (eqb (c .length) 0))
       where
-        step : (eqb (c .length) 0 ≡ true) ⊎ (eqb (c .length) 0 ≡ false) → cond (eqb (c .length) 0) 0 (at path (c .length - 1)) ≡ parentOf lengths shared (c .stand) (c .length)
+        step : (eqb (c .length) 0 ≡ true) ⊎ (eqb (c .length) 0 ≡ false) → aboveIn path (c .length) ≡ parentOf lengths shared (c .stand .0) (c .length)
         step (inl q) = rw q
         step (inr q) = let n = eqb-false (c .length) 0 q in rw q (w (c .length - 1) (omega arith))
 

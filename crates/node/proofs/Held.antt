@@ -19,7 +19,7 @@ use Rattle.base.proofs.Members.{keep-append, empty-of, length-keep, each-append
 use Rattle.base.proofs.Runs.{length-from}
 use Rattle.base.proofs.Words.{words-or, word-one, word-same, word-none, one-shifted, bit-asks}
 use Rattle.base.proofs.Sums.{largest-last}
-use Rattle.node.specs.Columns.{at, span, standsIn, heldIn, bitsIn, Slots, Tallied}
+use Rattle.node.specs.Columns.{at, span, standsIn, heldAmong, bitsAmong, Sized, Tallied}
 use Rattle.node.proofs.Ends.{span-none, span-last}
 
 module _ (region s : List ℕ) where
@@ -35,20 +35,20 @@ module _ (region s : List ℕ) where
     stands-there e =
         keep-append (λ i. eqb (at region i) r) s (k ∷ []) ∙ rw (ne-eqb (at region k) r e) (append-nil (keep (λ i. eqb (at region i) r) s))
 
-    held-here : at region k ≡ r → heldIn region (s ++ (k ∷ [])) r ≡ true
-    unfolding heldIn
+    held-here : at region k ≡ r → heldAmong region (s ++ (k ∷ [])) r ≡ true
+    unfolding heldAmong
     held-here e = rw (stands-here e) (some (standsIn region r s))
       where
         some : (l : List ℕ) → not (isEmpty (l ++ (k ∷ []))) ≡ true
         some [] = refl
         some (x ∷ l) = refl
 
-    held-there : (at region k ≡ r → ⊥) → heldIn region (s ++ (k ∷ [])) r ≡ heldIn region s r
-    unfolding heldIn
+    held-there : (at region k ≡ r → ⊥) → heldAmong region (s ++ (k ∷ [])) r ≡ heldAmong region s r
+    unfolding heldAmong
     held-there e = rw (stands-there e)
 
-  pub stands-none : (r : ℕ) → heldIn region s r ≡ false → standsIn region r s ≡ []
-  unfolding heldIn
+  pub stands-none : (r : ℕ) → heldAmong region s r ≡ false → standsIn region r s ≡ []
+  unfolding heldAmong
   stands-none r e = empty-of (standsIn region r s) e
 
   pub stands-few : (r : ℕ) → length (standsIn region r s) ≤ length s
@@ -56,41 +56,41 @@ module _ (region s : List ℕ) where
   stands-few r = length-keep (λ i. eqb (at region i) r) s
 
   -- its region's bit joins the others
-  held-more : (k x : ℕ) → (heldIn region s x || eqb x (at region k)) ≡ heldIn region (s ++ (k ∷ [])) x
+  held-more : (k x : ℕ) → (heldAmong region s x || eqb x (at region k)) ≡ heldAmong region (s ++ (k ∷ [])) x
   held-more k x = step (which (eqb x (at region k)))
     where
       all-true : (b : Bool) → (b || true) ≡ true
       all-true true = refl
       all-true false = refl
 
-      step : (eqb x (at region k) ≡ true) ⊎ (eqb x (at region k) ≡ false) → (heldIn region s x || eqb x (at region k)) ≡ heldIn region (s ++ (k ∷ [])) x
-      step (inl q) = rw q (all-true (heldIn region s x) ∙ sym (held-here k x (sym (eqb-true x (at region k) q))))
-      step (inr q) = rw q (or-false (heldIn region s x) ∙ sym (held-there k x (λ e. eqb-false x (at region k) q (sym e))))
+      step : (eqb x (at region k) ≡ true) ⊎ (eqb x (at region k) ≡ false) → (heldAmong region s x || eqb x (at region k)) ≡ heldAmong region (s ++ (k ∷ [])) x
+      step (inl q) = rw q (all-true (heldAmong region s x) ∙ sym (held-here k x (sym (eqb-true x (at region k) q))))
+      step (inr q) = rw q (or-false (heldAmong region s x) ∙ sym (held-there k x (λ e. eqb-false x (at region k) q (sym e))))
 
-  pub bits-more : (k r : ℕ) → r ≡ at region k → r < 64 → bitOr (bitsIn region s) (1 * 2 ^ r % 2 ^ 64) ≡ bitsIn region (s ++ (k ∷ []))
+  pub bits-more : (k r : ℕ) → r ≡ at region k → r < 64 → bitOr (bitsAmong region s) (1 * 2 ^ r % 2 ^ 64) ≡ bitsAmong region (s ++ (k ∷ []))
   bits-more k r e h =
       let one : 1 * 2 ^ r % 2 ^ 64 ≡ wordOf (λ x. eqb x (0 + r)) 0 64 = one-shifted 64 r h ∙ sym (word-one 0 r 64 h) in
-      ap (bitOr (bitsIn region s)) one
-      ∙ words-or (heldIn region s) (λ x. eqb x (0 + r)) 0 64
-      ∙ word-same (λ x. heldIn region s x || eqb x (0 + r)) (heldIn region (s ++ (k ∷ []))) 0 0 64 (λ x l. rw (zero-add r, e) (held-more k (0 + x)))
+      ap (bitOr (bitsAmong region s)) one
+      ∙ words-or (heldAmong region s) (λ x. eqb x (0 + r)) 0 64
+      ∙ word-same (λ x. heldAmong region s x || eqb x (0 + r)) (heldAmong region (s ++ (k ∷ []))) 0 0 64 (λ x l. rw (zero-add r, e) (held-more k (0 + x)))
 
-held-none : (region : List ℕ) (r : ℕ) → heldIn region [] r ≡ false
-unfolding heldIn standsIn
+held-none : (region : List ℕ) (r : ℕ) → heldAmong region [] r ≡ false
+unfolding heldAmong standsIn
 held-none region r = refl
 
-bits-none : (region : List ℕ) → bitsIn region [] ≡ 0
-bits-none region = word-same (heldIn region []) (λ k. false) 0 0 64 (λ k h. held-none region (0 + k)) ∙ word-none 0 64
+bits-none : (region : List ℕ) → bitsAmong region [] ≡ 0
+bits-none region = word-same (heldAmong region []) (λ k. false) 0 0 64 (λ k h. held-none region (0 + k)) ∙ word-none 0 64
 
 -- ---- the regions of a run
 
 pub record Marking (region : List ℕ) (i e bits k : ℕ) : Type 0 where
   pub after : i ≤ k
   pub within : k ≤ e
-  pub word : bits ≡ bitsIn region (span i k)
+  pub word : bits ≡ bitsAmong region (span i k)
 
 module _ (region : List ℕ) (i e : ℕ) where
   pub marking : i ≤ e → Marking region i e 0 i
-  marking h = record { after = omega arith; within = h; word = sym (ap (bitsIn region) (span-none i) ∙ bits-none region) }
+  marking h = record { after = omega arith; within = h; word = sym (ap (bitsAmong region) (span-none i) ∙ bits-none region) }
 
   pub marking-more : (bits k r : ℕ) → Marking region i e bits k → k < e → r ≡ at region k → r < 64 → Marking region i e (bitOr bits (1 * 2 ^ r % 2 ^ 64)) (k + 1)
   marking-more bits k r s h q lt =
@@ -100,20 +100,20 @@ module _ (region : List ℕ) (i e : ℕ) where
         word =
             ap (λ (w : ℕ). bitOr w (1 * 2 ^ r % 2 ^ 64)) (s .word)
             ∙ bits-more region (span i k) k r q lt
-            ∙ ap (bitsIn region) (sym (span-last i k (s .after)));
+            ∙ ap (bitsAmong region) (sym (span-last i k (s .after)));
       }
 
-  pub marking-end : (bits k : ℕ) → Marking region i e bits k → e ≤ k → bits ≡ bitsIn region (span i e)
-  marking-end bits k s h = let q : k ≡ e = omega (arith, s .within) in s .word ∙ ap (λ (x : ℕ). bitsIn region (span i x)) q
+  pub marking-end : (bits k : ℕ) → Marking region i e bits k → e ≤ k → bits ≡ bitsAmong region (span i e)
+  marking-end bits k s h = let q : k ≡ e = omega (arith, s .within) in s .word ∙ ap (λ (x : ℕ). bitsAmong region (span i x)) q
 
 -- ---- the tally
 
 -- slots that say f of each region that holds one of the stands say it of one stand more, once its region's is stored
 module _ (region s : List ℕ) (k r : ℕ) (q : r ≡ at region k) where
-  stored : (slots : List ℕ) (f : ℕ → List ℕ → ℕ) (v : ℕ) → Slots slots → r < 64
-      → ((x : ℕ) → x < 64 → heldIn region s x ≡ true → at slots x ≡ f x (standsIn region x s))
+  stored : (slots : List ℕ) (f : ℕ → List ℕ → ℕ) (v : ℕ) → Sized slots → r < 64
+      → ((x : ℕ) → x < 64 → heldAmong region s x ≡ true → at slots x ≡ f x (standsIn region x s))
       → v ≡ f r (standsIn region r s ++ (k ∷ []))
-      → (x : ℕ) → x < 64 → heldIn region (s ++ (k ∷ [])) x ≡ true → at (set slots r v) x ≡ f x (standsIn region x (s ++ (k ∷ [])))
+      → (x : ℕ) → x < 64 → heldAmong region (s ++ (k ∷ [])) x ≡ true → at (set slots r v) x ≡ f x (standsIn region x (s ++ (k ∷ [])))
   stored slots f v size lt old new x l u = step (which (eqb x r))
     where
       step : (eqb x r ≡ true) ⊎ (eqb x r ≡ false) → at (set slots r v) x ≡ f x (standsIn region x (s ++ (k ∷ [])))
@@ -130,27 +130,24 @@ pub record Tallying (region score next : List ℕ) (i e : ℕ) (places best : Li
   pub so-far : Tallied region score next (span i k) places best bits
 
 module _ (region score next : List ℕ) (i e : ℕ) where
-  pub tallying : (places best : List ℕ) → i ≤ e → Slots places → Slots best → Tallying region score next i e places best 0 i
+  pub tallying : (places best : List ℕ) → i ≤ e → Sized places → Sized best → Tallying region score next i e places best 0 i
   tallying places best h p b =
       let m = marking region i e h in
-      record {
-        marks = m;
-        so-far = record { word = m .word; past = λ r lt q. none r q; most = λ r lt q. none r q; places-size = p; best-size = b };
-      }
+      record { marks = m; so-far = record { word = m .word; past = λ r lt q. none r q; most = λ r lt q. none r q; places-size = p; best-size = b } }
     where
-      none : {A : Type 0} (r : ℕ) → heldIn region (span i i) r ≡ true → A
-      none r q = never (heldIn region (span i i) r) q (ap (λ (s : List ℕ). heldIn region s r) (span-none i) ∙ held-none region r)
+      none : {A : Type 0} (r : ℕ) → heldAmong region (span i i) r ≡ true → A
+      none r q = never (heldAmong region (span i i) r) q (ap (λ (s : List ℕ). heldAmong region s r) (span-none i) ∙ held-none region r)
 
   module _ (places best : List ℕ) (bits k r : ℕ) (s : Tallying region score next i e places best bits k) (h : k < e) (q : r ≡ at region k) (lt : r < 64) where
     -- what a slot of the region stands for so far, by its bit
-    slot : (f : List ℕ → ℕ) (here fresh a : ℕ) → (heldIn region (span i k) r ≡ true → here ≡ f (standsIn region r (span i k))) → fresh ≡ f []
+    slot : (f : List ℕ → ℕ) (here fresh a : ℕ) → (heldAmong region (span i k) r ≡ true → here ≡ f (standsIn region r (span i k))) → fresh ≡ f []
         → a ≡ cond (bitAt bits r) here fresh → a ≡ f (standsIn region r (span i k))
     slot f here fresh a full none e =
         e
         ∙ ap (λ (w : ℕ). cond (bitAt w r) here fresh) (s .so-far .word)
-        ∙ rw (bit-asks (heldIn region (span i k)) 0 64 r lt, zero-add r) (step (which (heldIn region (span i k) r)))
+        ∙ rw (bit-asks (heldAmong region (span i k)) 0 64 r lt, zero-add r) (step (which (heldAmong region (span i k) r)))
       where
-        step : (heldIn region (span i k) r ≡ true) ⊎ (heldIn region (span i k) r ≡ false) → cond (heldIn region (span i k) r) here fresh ≡ f (standsIn region r (span i k))
+        step : (heldAmong region (span i k) r ≡ true) ⊎ (heldAmong region (span i k) r ≡ false) → cond (heldAmong region (span i k) r) here fresh ≡ f (standsIn region r (span i k))
         step (inl w) = rw w (full w)
         step (inr w) = rw w (none ∙ ap f (sym (stands-none region (span i k) r w)))
 

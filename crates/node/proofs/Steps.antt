@@ -14,12 +14,12 @@ use Rattle.base.specs.Lists.{fromOn, eachList}
 use Rattle.base.proofs.Tests.{which, le-or-lt}
 use Rattle.node.specs.Columns.{at, Grows, grownOf}
 use Rattle.node.specs.declared.cursor.Cursor.{Cursor}
-use Rattle.node.specs.Visits.{Visit, visitsAt, newVisits, visitsFrom, nodesBefore, numberAt, placesAt, On, Ways, Stepped, Advanced}
+use Rattle.node.specs.Visits.{Visit, visitsAt, newVisits, visitsFrom, grownBefore, numberAt, placesAt, On, Ways, Stepped, Advanced}
 use Rattle.node.proofs.Ends.{length-short, grown-last}
 
 module _ (lengths shared : List ℕ) where
   -- a node's number, by what a cursor at it has counted
-  pub number-at : (i l n : ℕ) → (0 < i → at shared i < l) → at shared 0 ≡ 0 → n + suc (at shared i) ≡ nodesBefore lengths shared i + l → n ≡ numberAt lengths shared i l
+  pub number-at : (i l n : ℕ) → (0 < i → at shared i < l) → at shared 0 ≡ 0 → n + suc (at shared i) ≡ grownBefore lengths shared i + l → n ≡ numberAt lengths shared i l
   unfolding grownOf
   number-at zero l n new z e = omega (arith, e, z)
   number-at (suc i) l n new z e = let lt = new (omega arith) in rw (lt-ltb (at shared (suc i)) l lt) (omega (arith, e))
@@ -60,7 +60,7 @@ module _ (lengths shared : List ℕ) where
 pub record Here (lengths shared : List ℕ) (i₀ l₀ number i l : ℕ) : Type 0 where
   pub short : l ≤ suc (at lengths i)
   pub new : at shared i < l
-  pub count : number + suc (at shared i) ≡ nodesBefore lengths shared i + l
+  pub count : number + suc (at shared i) ≡ grownBefore lengths shared i + l
   pub above : (k : ℕ) → k < l → (k < l₀) × (numberAt lengths shared i k ≡ numberAt lengths shared i₀ k)
 
 pub record Stepping (lengths shared : List ℕ) (i₀ l₀ number i l : ℕ) : Type 0 where
@@ -71,19 +71,14 @@ pub record Stepping (lengths shared : List ℕ) (i₀ l₀ number i l : ℕ) : T
   pub here : i < length lengths → Here lengths shared i₀ l₀ number i l
 
 module _ (lengths shared : List ℕ) (g : Grows lengths shared) where
-  pub stepping : (c : Cursor) → On lengths shared c → Stepping lengths shared (c .stand) (c .length + 1) (c .number + 1) (c .stand) (c .length + 1)
+  pub stepping : (c : Cursor) → On lengths shared c → Stepping lengths shared (c .stand .0) (c .length + 1) (c .number .0 + 1) (c .stand .0) (c .length + 1)
   stepping c o =
       record {
         after = omega arith;
         within = o .within;
         some = omega arith;
         visits = refl;
-        here = λ h. record {
-          short = omega (arith, o .long);
-          new = new (c .stand) (o .new);
-          count = omega (arith, o .count);
-          above = λ k lt. (lt, refl);
-        };
+        here = λ h. record { short = omega (arith, o .long); new = new (c .stand .0) (o .new); count = omega (arith, o .count); above = λ k lt. (lt, refl) };
       }
     where
       new : (i : ℕ) → (0 < i → at shared i < c .length) → at shared i < c .length + 1
@@ -115,12 +110,12 @@ module _ (lengths shared : List ℕ) (g : Grows lengths shared) where
           };
         }
 
-  pub stepped : (c : Cursor) (held i l : ℕ) → Stepping lengths shared (c .stand) (c .length + 1) (c .number + 1) i l → (i < length lengths → l ≤ at lengths i)
-      → Stepped lengths shared c held (record { stand = i; length = l; number = c .number + 1; entries = c .entries + held })
+  pub stepped : (c : Cursor) (held i l : ℕ) → Stepping lengths shared (c .stand .0) (c .length + 1) (c .number .0 + 1) i l → (i < length lengths → l ≤ at lengths i)
+      → Stepped lengths shared c held (record { stand = record { 0 = i }; length = l; number = record { 0 = c .number .0 + 1 }; entries = c .entries + held })
   stepped c held i l s f =
       record {
-        visits = s .visits ∙ ap (visitsFrom lengths shared (c .stand)) (add-one (c .length));
-        number = add-one (c .number);
+        visits = s .visits ∙ ap (visitsFrom lengths shared (c .stand .0)) (add-one (c .length));
+        number = add-one (c .number .0);
         entries = refl;
         after = s .after;
         within = s .within;
@@ -130,28 +125,23 @@ module _ (lengths shared : List ℕ) (g : Grows lengths shared) where
       }
 
   -- the path with the cursor's own number
-  ways-more : (c : Cursor) (path : List ℕ) (above : ℕ) → On lengths shared c → Ways lengths shared path (c .stand) (c .length) → length path ≡ 25 → above ≡ c .length
-      → Ways lengths shared (set path above (c .number)) (c .stand) (suc (c .length))
+  ways-more : (c : Cursor) (path : List ℕ) (above : ℕ) → On lengths shared c → Ways lengths shared path (c .stand .0) (c .length) → length path ≡ 25 → above ≡ c .length
+      → Ways lengths shared (set path above (c .number .0)) (c .stand .0) (suc (c .length))
   ways-more c path above o old size e k lt = step (which (eqb k (c .length)))
     where
-      step : (eqb k (c .length) ≡ true) ⊎ (eqb k (c .length) ≡ false) → at (set path above (c .number)) k ≡ numberAt lengths shared (c .stand) k
+      step : (eqb k (c .length) ≡ true) ⊎ (eqb k (c .length) ≡ false) → at (set path above (c .number .0)) k ≡ numberAt lengths shared (c .stand .0) k
       step (inl q) =
           let w = eqb-true k (c .length) q in
-          ap (at (set path above (c .number))) (w ∙ sym e)
-          ∙ getD-set-same path above (c .number) 0 (omega (arith, o .long, length-short lengths shared g (c .stand)))
-          ∙ number-at lengths shared (c .stand) (c .length) (c .number) (o .new) (g .first) (o .count)
-          ∙ ap (numberAt lengths shared (c .stand)) (sym w)
+          ap (at (set path above (c .number .0))) (w ∙ sym e)
+          ∙ getD-set-same path above (c .number .0) 0 (omega (arith, o .long, length-short lengths shared g (c .stand .0)))
+          ∙ number-at lengths shared (c .stand .0) (c .length) (c .number .0) (o .new) (g .first) (o .count)
+          ∙ ap (numberAt lengths shared (c .stand .0)) (sym w)
       step (inr q) =
           let w = eqb-false k (c .length) q in
-          getD-set-other path above k (c .number) 0 (λ v. w (v ∙ e)) ∙ old k (omega arith)
+          getD-set-other path above k (c .number .0) 0 (λ v. w (v ∙ e)) ∙ old k (omega arith)
 
-  pub advanced : (region next path : List ℕ) (c : Cursor) (held above : ℕ) (r : Cursor) → On lengths shared c → Ways lengths shared path (c .stand) (c .length)
+  pub advanced : (region next path : List ℕ) (c : Cursor) (held above : ℕ) (r : Cursor) → On lengths shared c → Ways lengths shared path (c .stand .0) (c .length)
       → length path ≡ 25 → above ≡ c .length
-      → Stepped lengths shared c held r → next ≡ placesAt region (r .stand) → Advanced lengths shared region c held next (set path above (c .number)) r
+      → Stepped lengths shared c held r → next ≡ placesAt region (r .stand .0) → Advanced lengths shared region c held next (set path above (c .number .0)) r
   advanced region next path c held above r o old size e t p =
-      record {
-        stepped = t;
-        places = p;
-        ways = t .ways (set path above (c .number)) (ways-more c path above o old size e);
-        size = length-set path above (c .number) ∙ size;
-      }
+      record { stepped = t; places = p; ways = t .ways (set path above (c .number .0)) (ways-more c path above o old size e); size = length-set path above (c .number .0) ∙ size }

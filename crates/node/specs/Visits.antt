@@ -28,14 +28,14 @@ unfoldable pub visitsFrom : List ℕ → List ℕ → ℕ → ℕ → List Visit
 visitsFrom lengths shared i l = visitsAt lengths i l ++ eachList (newVisits lengths shared) (fromOn (suc i) (length lengths - suc i))
 
 -- how many nodes the stands before i make, the root with them
-abbrev pub nodesBefore : List ℕ → List ℕ → ℕ → ℕ
-nodesBefore lengths shared i = suc (grownOf lengths shared 0 i)
+abbrev pub grownBefore : List ℕ → List ℕ → ℕ → ℕ
+grownBefore lengths shared i = suc (grownOf lengths shared 0 i)
 
 -- the number of the node of stand i's first l bytes
 abbrev pub numberAt : List ℕ → List ℕ → ℕ → ℕ → ℕ
 numberAt lengths shared zero l = l
 numberAt lengths shared (suc i) l =
-    cond (ltb (at shared (suc i)) l) (nodesBefore lengths shared (suc i) + (l - suc (at shared (suc i)))) (numberAt lengths shared i l)
+    cond (ltb (at shared (suc i)) l) (grownBefore lengths shared (suc i) + (l - suc (at shared (suc i)))) (numberAt lengths shared i l)
 
 -- how many stands lie in regions below r
 unfoldable pub belowOf : List ℕ → ℕ → ℕ
@@ -48,12 +48,15 @@ placeAt region i r = belowOf region r + length (standsIn region r (upTo i))
 unfoldable pub placesAt : List ℕ → ℕ → List ℕ
 placesAt region i = each (placeAt region i) (upTo regions)
 
+abbrev pub rootCursor : Cursor
+rootCursor = record { stand = record { 0 = 0 }; length = 0; number = record { 0 = 0 }; entries = 0 }
+
 -- the cursor is at a node
 pub record On (lengths shared : List ℕ) (c : Cursor) : Type 0 where
-  pub within : c .stand ≤ length lengths
-  pub long : c .length ≤ at lengths (c .stand)
-  pub new : 0 < c .stand → at shared (c .stand) < c .length
-  pub count : c .number + suc (at shared (c .stand)) ≡ nodesBefore lengths shared (c .stand) + c .length
+  pub within : c .stand .0 ≤ length lengths
+  pub long : c .length ≤ at lengths (c .stand .0)
+  pub new : 0 < c .stand .0 → at shared (c .stand .0) < c .length
+  pub count : c .number .0 + suc (at shared (c .stand .0)) ≡ grownBefore lengths shared (c .stand .0) + c .length
 
 -- the path has the number of each node above one of stand i's first l bytes
 abbrev pub Ways : List ℕ → List ℕ → List ℕ → ℕ → ℕ → Type 0
@@ -61,18 +64,18 @@ Ways lengths shared path i l = (k : ℕ) → k < l → at path k ≡ numberAt le
 
 -- r is the cursor past c, whose node has so many entries
 pub record Stepped (lengths shared : List ℕ) (c : Cursor) (held : ℕ) (r : Cursor) : Type 0 where
-  pub visits : visitsFrom lengths shared (r .stand) (r .length) ≡ visitsFrom lengths shared (c .stand) (suc (c .length))
-  pub number : r .number ≡ suc (c .number)
+  pub visits : visitsFrom lengths shared (r .stand .0) (r .length) ≡ visitsFrom lengths shared (c .stand .0) (suc (c .length))
+  pub number : r .number .0 ≡ suc (c .number .0)
   pub entries : r .entries ≡ c .entries + held
-  pub after : c .stand ≤ r .stand
-  pub within : r .stand ≤ length lengths
+  pub after : c .stand .0 ≤ r .stand .0
+  pub within : r .stand .0 ≤ length lengths
   pub some : 0 < r .length
-  pub on : r .stand < length lengths → On lengths shared r
-  pub ways : (path : List ℕ) → Ways lengths shared path (c .stand) (suc (c .length)) → r .stand < length lengths → Ways lengths shared path (r .stand) (r .length)
+  pub on : r .stand .0 < length lengths → On lengths shared r
+  pub ways : (path : List ℕ) → Ways lengths shared path (c .stand .0) (suc (c .length)) → r .stand .0 < length lengths → Ways lengths shared path (r .stand .0) (r .length)
 
 -- the same with what is lent beside the cursor
 pub record Advanced (lengths shared region : List ℕ) (c : Cursor) (held : ℕ) (next path : List ℕ) (r : Cursor) : Type 0 where
   pub stepped : Stepped lengths shared c held r
-  pub places : next ≡ placesAt region (r .stand)
-  pub ways : r .stand < length lengths → Ways lengths shared path (r .stand) (r .length)
+  pub places : next ≡ placesAt region (r .stand .0)
+  pub ways : r .stand .0 < length lengths → Ways lengths shared path (r .stand .0) (r .length)
   pub size : length path ≡ 25

@@ -1,92 +1,90 @@
 // The walk through the nodes in pre-order. A cursor is four numbers by value; what grows with it, the path of node numbers above it
 // and each region's next place in the stand order, is lent beside it, so that counting carries neither.
+use crate::Path;
+use crate::Slots;
 use crate::tally::region_at;
 use crate::tally::value_at;
 use crate::tally::wide;
+use rules::Node;
+use rules::Stand;
 ghost use mathlib.Core.Path.{_≡_};
-ghost use Prim.Native.Nat.{_+_, _≤_, _<_};
-ghost use lib.ListN.{length};
-ghost use Rattle.node.specs.Columns.{Grows, Placed};
-ghost use Rattle.node.specs.Visits.{placesAt, On, Ways, Stepped, Advanced};
+ghost use Rattle.base.specs.Lent.{given, after};
+ghost use Rattle.node.specs.Visits.{rootCursor, placesAt, Stepped, Advanced};
+ghost use Rattle.node.specs.Asks.{StepAsks, PassAsks, AdvanceAsks};
 
 // The node of a stand's first length bytes, its number, and how many entries the nodes before it have.
 pub struct Cursor {
-    pub stand: usize,
+    pub stand: Stand,
     pub length: u8,
-    pub number: u32,
+    pub number: Node,
     pub entries: u32,
 }
 
 pub fn root() -> Cursor
-    ensures { λ r. ⌜ r ≡ record { stand = 0; length = 0; number = 0; entries = 0 } ⌝ }
+    ensures { λ r. ⌜ r ≡ rootCursor ⌝ }
 {
     Cursor {
-        stand: 0,
+        stand: Stand(0),
         length: 0,
-        number: 0,
+        number: Node(0),
         entries: 0,
     }
 }
 
-// The next node after c, whose node has so many entries.
-pub fn step(lengths: &[u8], shared: &[u8], c: Cursor, held: u32) -> Cursor
-    requires { ⌜ (Grows (now lengths) (now shared)) × (On (now lengths) (now shared) c) × (c .number < 100000) × (c .entries + held < 4294967296) ⌝ }
-    ensures { λ r. ⌜ Stepped (now (lengths .entry)) (now (shared .entry)) c held r ⌝ }
+// The next node after the cursor's, which has so many entries.
+pub fn step(lengths: &[u8], shared: &[u8], cursor: Cursor, held: u32) -> Cursor
+    requires { ⌜ StepAsks (now lengths) (now shared) cursor held ⌝ }
+    ensures { λ r. ⌜ Stepped (given lengths) (given shared) cursor held r ⌝ }
 {
-    let mut i = c.stand;
-    let mut l = c.length + 1;
-    let number = c.number + 1;
-    let entries = c.entries + held;
-    while i < lengths.len() {
-        if l <= lengths[i] {
-            return Cursor {
-                stand: i,
-                length: l,
-                number,
-                entries,
-            };
-        }
-        i += 1;
-        l = value_at(shared, i) + 1;
+    let number = Node(cursor.number.0 + 1);
+    let entries = cursor.entries + held;
+    let stands = lengths.len() as u32;
+    let mut stand = cursor.stand.0;
+    let mut length = cursor.length + 1;
+    while stand < stands && lengths[stand as usize] < length {
+        stand += 1;
+        length = value_at(shared, Stand(stand)) + 1;
     }
     Cursor {
-        stand: i,
-        length: l,
+        stand: Stand(stand),
+        length,
         number,
         entries,
     }
 }
 
 // The next places moved on over the stands that were passed.
-fn pass(region: &[u8], next: &mut [u32; 64], from: usize, to: usize)
-    requires { ⌜ (Placed (now region)) × (from ≤ to) × (to ≤ length (now region)) × (now next ≡ placesAt (now region) from) ⌝ }
-    ensures { λ _. ⌜ now (next .exit) ≡ placesAt (now (region .entry)) to ⌝ }
+fn pass(region: &[u8], next: &mut Slots, from: Stand, to: Stand)
+    requires { ⌜ PassAsks (now region) (now next) (from .0) (to .0) ⌝ }
+    ensures { λ _. ⌜ after next ≡ placesAt (given region) (to .0) ⌝ }
 {
-    let mut k = from;
-    while k < to {
-        let r = region_at(region, k);
-        next[r] += 1;
-        k += 1;
+    let first = from.0;
+    let end = to.0;
+    let mut stand = first;
+    while stand < end {
+        let slot = region_at(region, Stand(stand));
+        next[slot] += 1;
+        stand += 1;
     }
 }
 
-// The next node after c, with path and next places brought along.
+// The next node after the cursor's, with path and next places brought along.
 pub fn advance(
     lengths: &[u8],
     shared: &[u8],
     region: &[u8],
-    c: Cursor,
+    cursor: Cursor,
     held: u32,
-    next: &mut [u32; 64],
-    path: &mut [u32; 25],
+    next: &mut Slots,
+    path: &mut Path,
 ) -> Cursor
-    requires { ⌜ (Grows (now lengths) (now shared)) × (Placed (now region)) × (length (now region) ≡ length (now lengths)) × (On (now lengths) (now shared) c) × (c .number < 100000) × (c .entries + held < 4294967296) × (now next ≡ placesAt (now region) (c .stand)) × (Ways (now lengths) (now shared) (now path) (c .stand) (c .length)) × (length (now path) ≡ 25) ⌝ }
-    ensures { λ r. ⌜ Advanced (now (lengths .entry)) (now (shared .entry)) (now (region .entry)) c held (now (next .exit)) (now (path .exit)) r ⌝ }
+    requires { ⌜ AdvanceAsks (now lengths) (now shared) (now region) cursor held (now next) (now path) ⌝ }
+    ensures { λ r. ⌜ Advanced (given lengths) (given shared) (given region) cursor held (after next) (after path) r ⌝ }
 {
-    let above = wide(c.length);
-    path[above] = c.number;
-    let further = step(lengths, shared, c, held);
-    let from = c.stand;
+    let above = wide(cursor.length);
+    path[above] = cursor.number.0;
+    let further = step(lengths, shared, cursor, held);
+    let from = cursor.stand;
     let to = further.stand;
     pass(region, next, from, to);
     further

@@ -1,84 +1,90 @@
 // What lies under a node: where its stands end, how many nodes they make, and what each region holds of them.
+use crate::Slots;
+use rules::Stand;
 ghost use mathlib.Core.Path.{_≡_};
 ghost use mathlib.Core.Bool.{cond};
-ghost use Prim.Native.Nat.{ℕ, _+_, _≤_, _<_};
+ghost use Prim.Native.Nat.{_≤_, _<_};
 ghost use lib.Dec.{ltb};
 ghost use lib.ListN.{length};
-ghost use Rattle.node.specs.Columns.{at, Grows, Placed, endOf, span, grownOf, bitsIn, Slots, Tallied};
+ghost use Rattle.base.specs.Lent.{given, after};
+ghost use Rattle.node.specs.Columns.{at, Grows, Placed, InColumn, Ends, span, grownOf, bitsAmong, RegionAt, Tallied};
+ghost use Rattle.node.specs.Asks.{TallyAsks};
 
 // A byte of a column as a place, and as a word of the index.
-pub fn wide(b: u8) -> usize
-    ensures { λ r. ⌜ r ≡ b ⌝ }
+pub fn wide(byte: u8) -> usize
+    ensures { λ r. ⌜ r ≡ byte ⌝ }
 {
-    b as usize
+    byte as usize
 }
 
-pub fn word(b: u8) -> u32
-    ensures { λ r. ⌜ r ≡ b ⌝ }
+pub fn word(byte: u8) -> u32
+    ensures { λ r. ⌜ r ≡ byte ⌝ }
 {
-    b as u32
+    byte as u32
 }
 
-// What stands at i, 0 past the end: the root of an empty table has no stand.
-pub fn value_at(xs: &[u8], i: usize) -> u8
-    ensures { λ r. ⌜ r ≡ at (now (xs .entry)) i ⌝ }
+// What a column has of a stand, 0 past the end: the root of an empty table has no stand.
+pub fn value_at(column: &[u8], stand: Stand) -> u8
+    ensures { λ r. ⌜ r ≡ at (given column) (stand .0) ⌝ }
 {
-    if xs.len() <= i {
+    let row = stand.0 as usize;
+    if column.len() <= row {
         return 0;
     }
-    xs[i]
+    column[row]
 }
 
-// The region of stand k.
-pub fn region_at(region: &[u8], k: usize) -> usize
-    requires { ⌜ (Placed (now region)) × (k < length (now region)) ⌝ }
-    ensures { λ r. ⌜ (r ≡ at (now (region .entry)) k) × (r < 64) ⌝ }
+// The region of a stand.
+pub fn region_at(region: &[u8], stand: Stand) -> usize
+    requires { ⌜ (Placed (now region)) × (stand .0 < length (now region)) ⌝ }
+    ensures { λ r. ⌜ RegionAt (given region) (stand .0) r ⌝ }
 {
-    wide(region[k])
+    wide(region[stand.0 as usize])
 }
 
-// The first stand past i that shares less than l bytes with the one before; i itself past the end.
-pub fn end_of(shared: &[u8], i: usize, l: u8) -> usize
-    requires { ⌜ i ≤ length (now shared) ⌝ }
-    ensures { λ r. ⌜ (r ≡ endOf (now (shared .entry)) i l) × (i ≤ r) × (r ≤ length (now (shared .entry))) ⌝ }
+// The first stand past this one that shares less than so many bytes with the one before; this one itself past the end.
+pub fn end_of(shared: &[u8], stand: Stand, bytes: u8) -> Stand
+    requires { ⌜ (stand .0 ≤ length (now shared)) × (length (now shared) ≤ 1024) ⌝ }
+    ensures { λ r. ⌜ Ends (given shared) (stand .0) bytes (r .0) ⌝ }
 {
-    if shared.len() <= i {
-        return i;
+    let first = stand.0 as usize;
+    if shared.len() <= first {
+        return stand;
     }
-    let mut e = i + 1;
-    while e < shared.len() {
-        if shared[e] < l {
-            return e;
-        }
-        e += 1;
+    let mut past = first + 1;
+    while past < shared.len() && bytes <= shared[past] {
+        past += 1;
     }
-    e
+    Stand(past as u32)
 }
 
-// How many nodes the stands i to e - 1 make.
-pub fn grown(lengths: &[u8], shared: &[u8], i: usize, e: usize) -> u32
-    requires { ⌜ (Grows (now lengths) (now shared)) × (i ≤ e) × (e ≤ length (now lengths)) ⌝ }
-    ensures { λ r. ⌜ r ≡ grownOf (now (lengths .entry)) (now (shared .entry)) i e ⌝ }
+// How many nodes the stands from first on make, past not among them.
+pub fn grown(lengths: &[u8], shared: &[u8], first: Stand, past: Stand) -> u32
+    requires { ⌜ (Grows (now lengths) (now shared)) × (InColumn (now lengths) (first .0) (past .0)) ⌝ }
+    ensures { λ r. ⌜ r ≡ grownOf (given lengths) (given shared) (first .0) (past .0) ⌝ }
 {
     let mut sum: u32 = 0;
-    let mut k = i;
-    while k < e {
-        sum += word(lengths[k] - shared[k]);
-        k += 1;
+    let end = past.0;
+    let mut stand = first.0;
+    while stand < end {
+        let row = stand as usize;
+        sum += word(lengths[row] - shared[row]);
+        stand += 1;
     }
     sum
 }
 
-// The regions of the stands i to e - 1, a bit for each.
-pub fn regions_of(region: &[u8], i: usize, e: usize) -> u64
-    requires { ⌜ (Placed (now region)) × (i ≤ e) × (e ≤ length (now region)) ⌝ }
-    ensures { λ r. ⌜ r ≡ bitsIn (now (region .entry)) (span i e) ⌝ }
+// The regions of those stands, a bit for each.
+pub fn regions_of(region: &[u8], first: Stand, past: Stand) -> u64
+    requires { ⌜ (Placed (now region)) × (InColumn (now region) (first .0) (past .0)) ⌝ }
+    ensures { λ r. ⌜ r ≡ bitsAmong (given region) (span (first .0) (past .0)) ⌝ }
 {
     let mut bits: u64 = 0;
-    let mut k = i;
-    while k < e {
-        bits |= 1u64 << region_at(region, k);
-        k += 1;
+    let end = past.0;
+    let mut stand = first.0;
+    while stand < end {
+        bits |= 1u64 << region_at(region, Stand(stand));
+        stand += 1;
     }
     bits
 }
@@ -89,35 +95,36 @@ fn chosen(known: bool, here: u32, fresh: u32) -> u32
     if known { here } else { fresh }
 }
 
-fn larger(a: u32, b: u32) -> u32
-    ensures { λ r. ⌜ r ≡ cond (ltb a b) b a ⌝ }
+fn larger(one: u32, other: u32) -> u32
+    ensures { λ r. ⌜ r ≡ cond (ltb one other) other one ⌝ }
 {
-    if a < b { b } else { a }
+    if one < other { other } else { one }
 }
 
-// One walk over the stands i to e - 1: their regions as bits, and for each of those regions the largest score and the place past
-// its last stand. A region's slots count only once its bit is set, so nothing is cleared.
+// One walk over those stands: their regions as bits, and for each of those regions the largest score and the place past its last stand.
+// A region's slots count only once its bit is set, so nothing is cleared.
 pub fn tally(
     region: &[u8],
     score: &[u32],
-    i: usize,
-    e: usize,
-    next: &[u32; 64],
-    places: &mut [u32; 64],
-    best: &mut [u32; 64],
+    first: Stand,
+    past: Stand,
+    next: &Slots,
+    places: &mut Slots,
+    best: &mut Slots,
 ) -> u64
-    requires { ⌜ (Placed (now region)) × (length (now score) ≡ length (now region)) × (i ≤ e) × (e ≤ length (now region)) × ((r : ℕ) → r < 64 → at (now next) r ≤ 1024) × (Slots (now places)) × (Slots (now best)) ⌝ }
-    ensures { λ r. ⌜ Tallied (now (region .entry)) (now (score .entry)) (now (next .entry)) (span i e) (now (places .exit)) (now (best .exit)) r ⌝ }
+    requires { ⌜ TallyAsks (now region) (now score) (first .0) (past .0) (now next) (now places) (now best) ⌝ }
+    ensures { λ r. ⌜ Tallied (given region) (given score) (given next) (span (first .0) (past .0)) (after places) (after best) r ⌝ }
 {
     let mut bits: u64 = 0;
-    let mut k = i;
-    while k < e {
-        let r = region_at(region, k);
-        let known = (bits >> r) % 2 == 1;
-        places[r] = chosen(known, places[r], next[r]) + 1;
-        best[r] = larger(chosen(known, best[r], 0), score[k]);
-        bits |= 1u64 << r;
-        k += 1;
+    let end = past.0;
+    let mut stand = first.0;
+    while stand < end {
+        let slot = region_at(region, Stand(stand));
+        let known = (bits >> slot) % 2 == 1;
+        places[slot] = chosen(known, places[slot], next[slot]) + 1;
+        best[slot] = larger(chosen(known, best[slot], 0), score[stand as usize]);
+        bits |= 1u64 << slot;
+        stand += 1;
     }
     bits
 }

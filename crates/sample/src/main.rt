@@ -7,18 +7,21 @@ use rules::layout::ENTRY_WORDS;
 use rules::layout::NODE_WORDS;
 ghost use Prim.Native.Nat.{_<_};
 
-// Three stands to a pair of letters, and room for their names and their index.
-const PAIRS: usize = 25;
+// Three stands to a pair of letters, and room for their names.
+const LETTER_COUNT: usize = 5;
+
+const PAIRS: usize = LETTER_COUNT * LETTER_COUNT;
 
 const STANDS: usize = 3 * PAIRS;
 
 const TEXT: usize = 7 * PAIRS;
 
-const NODES: usize = 64 * NODE_WORDS;
+// Room for any index of such a text: a root and a node for each byte, an entry for each byte and each stand.
+const NODES: usize = (TEXT + 1) * NODE_WORDS;
 
-const ENTRIES: usize = 256 * ENTRY_WORDS;
+const ENTRIES: usize = (TEXT + STANDS) * ENTRY_WORDS;
 
-const LETTERS: [u8; 5] = [32, 48, 57, 97, 122];
+const LETTERS: [u8; LETTER_COUNT] = [32, 48, 57, 97, 122];
 
 fn print(text: &[u8]) {
     io::write_all(STDOUT_FILENO, text);
@@ -64,8 +67,8 @@ fn names() -> [u8; TEXT] {
     let mut pair = 0;
     while pair < PAIRS {
         let at = 7 * pair;
-        let high = LETTERS[pair / 5 % 5];
-        let low = LETTERS[pair % 5];
+        let high = LETTERS[pair / LETTER_COUNT % LETTER_COUNT];
+        let low = LETTERS[pair % LETTER_COUNT];
         text[at] = high;
         text[at + 1] = low;
         text[at + 2] = high;

@@ -60,14 +60,7 @@ module _ (t : Table) where
   pub nodes-fit : (i : ℕ) → i < stands t → nodesBefore t (suc i) ≤ nodeCount t
   nodes-fit i h =
       let r = eachList (newAt t) (fromOn (suc i) (stands t - suc i)) in
-      omega (
-        arith,
-        ap length (new-split i h),
-        length-append ([] ∷ eachList (newAt t) (upTo i)) (newAt t i ++ r),
-        length-append (newAt t i) r,
-        nodes-step i,
-        new-length i,
-      )
+      omega (arith, ap length (new-split i h), length-append ([] ∷ eachList (newAt t) (upTo i)) (newAt t i ++ r), length-append (newAt t i) r, nodes-step i, new-length i)
 
   -- the k-th of them
   node-text : (i k : ℕ) → i < stands t → k < length (nameOf t i) - sharedAt t i → textOf t (nodesBefore t i + k) ≡ take (suc (sharedAt t i) + k) (nameOf t i)

@@ -231,9 +231,4 @@ module _ (B : List (List ℕ)) (t : Tree B) where
       long = some (getD B j []) (sorted-at B (t .sorted) 0 j h lt)
 
       x : Child B (numberIn p B) j
-      x =
-          record {
-            inside = lt;
-            longer = rw (at .1) (omega (arith, length-take-le (length (getD B j []) - 1) (getD B j []) (omega arith), long));
-            under = rw (at .1) b;
-          }
+      x = record { inside = lt; longer = rw (at .1) (omega (arith, length-take-le (length (getD B j []) - 1) (getD B j []) (omega arith), long)); under = rw (at .1) b }

@@ -21,7 +21,7 @@ use Rattle.trie.proofs.Tree.{sorted-once, number-in, number-at}
 use Rattle.trie.proofs.Children.{subtree-in, subtree-only, way-child, child-way, child-bytes, child-parent, parent-child}
 use Rattle.trie.proofs.Tables.{beginnings-tree, beginnings-of, beginnings-from, root-first}
 use Rattle.trie.proofs.Walking.{node-in, node-out}
-use Rattle.trie.proofs.Sizes.{sizes-bounded}
+use Rattle.trie.proofs.Sizes.{sizes-bounded, sizes-by-text}
 use Rattle.trie.proofs.Listing.{under-means, order-means, range-means}
 use Rattle.trie.proofs.Entries.{entries-mean}
 use Rattle.trie.proofs.NodeWords.{row-means}
@@ -85,4 +85,5 @@ table-means t g e =
       range = range-means t g l;
       ranked = ranked-means t g;
       sizes = sizes-bounded t g l;
+      by-text = sizes-by-text t g l;
     }

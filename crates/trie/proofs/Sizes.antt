@@ -1,31 +1,35 @@
--- How large the index of a lawful table gets: at most 24 nodes and 25 entries for each stand, and the root.
--- Entries are counted against the pairs of a node and a stand under it, and those by stands. Assumes nothing.
-use mathlib.Core.Path.{_≡_, sym}
+-- How large the index of a lawful table gets: a root and at most a node for each byte of the text, an entry for each byte and each stand;
+-- so at most 24 nodes and 25 entries for each stand. Entries are counted against the pairs of a node and a stand under it, and those by
+-- stands. Assumes nothing.
+use mathlib.Core.Path.{_≡_, sym, ap, _∙_}
 use mathlib.Core.Logic.{⊎-elim}
 use mathlib.Core.Bool.{true, false}
-use mathlib.Core.List.{List}
-use Prim.Native.Nat.{ℕ, zero, suc, _+_, _*_, _≤_, _<_}
+use mathlib.Core.List.{List, [], _∷_}
+use Prim.Native.Nat.{ℕ, zero, suc, _+_, _-_, _*_, _≤_, _<_}
 use native.Mathlib.Omega.{arith}
-use lib.ListN.{length}
+use native.Mathlib.Numerals.{add-one}
+use lib.ListN.{length, drop, length-drop}
+use lib.Seq.{length-take-le}
 use Rattle.base.specs.Lists.{upTo, keep, each, total, begins, In, Pairwise}
 use Rattle.base.proofs.Tests.{never, le-or-lt}
-use Rattle.base.proofs.Members.{keep-in, length-each, in-each, some-length}
-use Rattle.base.proofs.Runs.{in-from, length-from}
+use Rattle.base.proofs.Members.{keep-in, length-each, in-each, each-append, some-length}
+use Rattle.base.proofs.Runs.{in-from, length-from, upTo-suc}
 use Rattle.base.proofs.Begins.{begins-length, begins-both}
-use Rattle.base.proofs.Sums.{total-less, total-most, count-less, count-both}
+use Rattle.base.proofs.Sums.{total-append, total-less, total-most, count-less, count-both}
 use Rattle.base.proofs.Rows.{length-parts}
 use Rattle.base.proofs.Shuffles.{shuffle-length}
 use Rattle.base.proofs.Pairs.{pairs-keep, pairs-each, pairs-weaken, Less, less-few}
 use Rattle.rules.specs.declared.Grid.{Grid}
 use Rattle.rules.specs.Places.{regions}
 use Rattle.rules.specs.Names.{inOrder}
-use Rattle.rules.specs.Tables.{Table, stands, nameOf, LawfulTable}
+use Rattle.rules.specs.Tables.{Table, stands, startOf, nameOf, LawfulTable}
 use Rattle.rules.specs.Questions.{under, inRegion}
 use Rattle.rules.specs.Indexes.{beginnings, nodeCount, occupied, regionsUnder, entryCount}
+use Rattle.rules.proofs.Lawful.{start-inside, name-part}
 use Rattle.rules.proofs.Orders.{begins-order}
 use Rattle.trie.specs.Trees.{Sorted}
 use Rattle.trie.specs.Adding.{nodesBefore}
-use Rattle.trie.specs.Meaning.{SizesBounded}
+use Rattle.trie.specs.Meaning.{SizesBounded, SizesByText}
 use Rattle.trie.proofs.Tables.{beginnings-tree, root-first, in-under}
 use Rattle.trie.proofs.Words.{nodes-length, entries-counted, entry-words-length}
 use Rattle.trie.proofs.Adding.{nodes-step, nodes-all}
@@ -56,9 +60,43 @@ beginnings-few n B s = rw (sym (length-each length chosen)) (less-few (each leng
         (omega arith, omega (arith, r .2))
 
 module _ (t : Table) (g : Grid) (l : LawfulTable t g) where
-  nodes-few : (i : ℕ) → i ≤ stands t → nodesBefore t i ≤ 24 * i + 1
+  -- a name has the bytes from its start to the next one's
+  pub name-length : (i : ℕ) → i < stands t → length (nameOf t i) ≡ startOf t (i + 1) - startOf t i
+  name-length i h =
+      let whole : startOf t (i + 1) ≤ length (t .text) = start-inside t g l (i + 1) (omega arith) in
+      ap length (name-part t g l i h)
+      ∙ length-take-le (startOf t (i + 1) - startOf t i) (drop (startOf t i) (t .text)) (rw (length-drop (startOf t i) (t .text)) (omega arith))
+
+  start-next : (i : ℕ) → i < stands t → startOf t (suc i) ≡ startOf t i + length (nameOf t i)
+  start-next i h = omega (arith, name-length i h, l .shaped .forward i h, ap (startOf t) (add-one i))
+
+  nodes-few : (i : ℕ) → i ≤ stands t → nodesBefore t i ≤ startOf t i + 1
   nodes-few zero h = omega arith
-  nodes-few (suc i) h = omega (arith, nodes-step t i, l .short i (omega arith), nodes-few i (omega arith))
+  nodes-few (suc i) h = omega (arith, nodes-step t i, start-next i (omega arith), nodes-few i (omega arith))
+
+  -- a name's beginnings, the empty one among them
+  abbrev begun : ℕ → ℕ
+  begun i = suc (length (nameOf t i))
+
+  begun-all : (i : ℕ) → i ≤ stands t → total (each begun (upTo i)) ≡ startOf t i + i
+  begun-all zero h = omega (arith, l .shaped .first)
+  begun-all (suc i) h =
+      omega (
+        arith,
+        ap (λ (s : List ℕ). total (each begun s)) (upTo-suc i) ∙ ap total (each-append begun (upTo i) (i ∷ [])) ∙ total-append (each begun (upTo i)) (begun i ∷ []),
+        begun-all i (omega arith),
+        start-next i (omega arith),
+      )
+
+  names-short : length (t .text) ≤ 24 * stands t
+  names-short =
+      omega (
+        arith,
+        total-most begun 25 (upTo (stands t)) (λ i h. omega (arith, l .short i (omega (arith, in-from 0 (stands t) i h)))),
+        begun-all (stands t) (omega arith),
+        l .shaped .last,
+        length-from 0 (stands t),
+      )
 
   -- no more regions than stands
   regions-few : (p : List ℕ) → length (regionsUnder t g p) ≤ length (under t p)
@@ -72,29 +110,27 @@ module _ (t : Table) (g : Grid) (l : LawfulTable t g) where
       )
 
   -- the pairs of a node and a stand under it
-  pairs-few : total (each (λ p. length (under t p)) (beginnings t)) ≤ 25 * stands t
+  pairs-few : total (each (λ p. length (under t p)) (beginnings t)) ≤ length (t .text) + stands t
   unfolding under
   pairs-few =
       omega (
         arith,
         count-both (λ p i. begins p (nameOf t i)) (beginnings t) (upTo (stands t)),
-        total-most (λ i. length (keep (λ p. begins p (nameOf t i)) (beginnings t))) 25 (upTo (stands t)) each-few,
-        length-from 0 (stands t),
+        total-less (λ i. length (keep (λ p. begins p (nameOf t i)) (beginnings t))) begun (upTo (stands t))
+            (λ i h. beginnings-few (nameOf t i) (beginnings t) (beginnings-tree t (l .ordered) .sorted)),
+        begun-all (stands t) (omega arith),
+        l .shaped .last,
       )
-    where
-      each-few : (i : ℕ) → In i (upTo (stands t)) → length (keep (λ p. begins p (nameOf t i)) (beginnings t)) ≤ 25
-      each-few i h =
-          omega (
-            arith,
-            beginnings-few (nameOf t i) (beginnings t) (beginnings-tree t (l .ordered) .sorted),
-            l .short i (omega (arith, in-from 0 (stands t) i h)),
-          )
+
+  pub sizes-by-text : SizesByText t g
+  sizes-by-text =
+      let held = total-less (λ p. length (regionsUnder t g p)) (λ p. length (under t p)) (beginnings t) (λ p h. regions-few p) in
+      record { nodes = omega (arith, nodes-all t, nodes-few (stands t) (omega arith), l .shaped .last); entries = omega (arith, held, entries-counted t g (beginnings t), pairs-few) }
 
   pub sizes-bounded : SizesBounded t g
   sizes-bounded =
-      let nodes : nodeCount t ≤ 24 * stands t + 1 = rw (sym (nodes-all t)) (nodes-few (stands t) (omega arith)) in
-      let held = total-less (λ p. length (regionsUnder t g p)) (λ p. length (under t p)) (beginnings t) (λ p h. regions-few p) in
-      let entries : entryCount t g ≤ 25 * stands t = omega (arith, entries-counted t g (beginnings t), pairs-few) in
+      let nodes : nodeCount t ≤ 24 * stands t + 1 = omega (arith, sizes-by-text .nodes, names-short) in
+      let entries : entryCount t g ≤ 25 * stands t = omega (arith, sizes-by-text .entries, names-short) in
       record {
         node-words = nodes-length t g;
         entry-words = entry-words-length t g;

@@ -45,12 +45,7 @@ module _ (t : Table) (g : Grid) where
 
   pub entry-words-length : length (entryWords t g) ≡ entryCount t g * 4
   entry-words-length =
-      omega (
-        arith,
-        length-parts (λ q. eachList entryRow (entriesOf t g q)) (beginnings t),
-        entries-total (beginnings t),
-        entries-counted (beginnings t),
-      )
+      omega (arith, length-parts (λ q. eachList entryRow (entriesOf t g q)) (beginnings t), entries-total (beginnings t), entries-counted (beginnings t))
 
   -- a node's entries end within the entry words
   pub entries-fit : (j : ℕ) → j < nodeCount t → getD (nodeRow t g j) 7 0 + length (entriesOf t g (getD (beginnings t) j [])) ≤ entryCount t g

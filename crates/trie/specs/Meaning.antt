@@ -184,6 +184,13 @@ pub record SizesBounded (t : Table) (g : Grid) : Type 0 where
   -- and for none there is the root, without an entry
   pub lone : stands t ≡ 0 → (nodeCount t ≡ 1) × (entryCount t g ≡ 0)
 
+-- the same by the bytes of the text, so that a caller with short names needs less room
+pub record SizesByText (t : Table) (g : Grid) : Type 0 where
+  -- a root, and at most a node for each byte
+  pub nodes : nodeCount t ≤ length (t .text) + 1
+  -- each stand is under the root, and under at most a node for each byte of its name
+  pub entries : entryCount t g ≤ length (t .text) + stands t
+
 -- ---- all of it
 
 pub record TableMeans (t : Table) (g : Grid) : Type 0 where
@@ -197,3 +204,4 @@ pub record TableMeans (t : Table) (g : Grid) : Type 0 where
   pub range : (p : List ℕ) (r : Rect) → RangeMeans t g p r
   pub ranked : (p : List ℕ) (q : Ranking) → RankedMeans t g p q
   pub sizes : SizesBounded t g
+  pub by-text : SizesByText t g

@@ -10,12 +10,12 @@ use lib.Seq.{drop-drop}
 use Rattle.base.specs.Lists.{begins}
 use Rattle.base.proofs.Begins.{begins-parts}
 use Rattle.node.specs.declared.cursor.Cursor.{Cursor}
-use Rattle.node.specs.Columns.{Columns}
-use Rattle.node.specs.Visits.{visitsFrom}
+use Rattle.node.specs.Columns.{IndexColumns}
+use Rattle.node.specs.Visits.{visitsFrom, rootCursor}
 use Rattle.node.specs.Rows.{entriesAt, rowOf}
-use Rattle.words.specs.Words.{entryRows, rowsFrom, entryWordsFrom, nodeWordsOf, entryWordsOf, visitOf, Moved, hasRow, hasEntries}
+use Rattle.words.specs.Words.{entryRows, rowsFrom, entryWordsFrom, nodeWordsOf, entryWordsOf, hasWords, visitOf, Work, Moved, hasRow, hasEntries}
 use Rattle.words.proofs.Overs.{length-rows}
-use Rattle.words.proofs.Walks.{restOf, rootCursor, Carrying, carrying-more, rows-next, entries-next, going-first, going-end, length-row}
+use Rattle.words.proofs.Walks.{restOf, Carrying, carrying-more, rows-next, entries-next, going-first, going-end, length-row}
 
 -- whether a room begins with all these words is whether it goes on with the rest at place p
 pub record From (all-words room rest : List ℕ) (p : ℕ) : Type 0 where
@@ -37,44 +37,39 @@ one-fails true true x y e = absurd (true≢false e)
 one-fails true false x y e = and-false x
 one-fails false b x y e = refl
 
-pub record Checking (t : Columns) (all : ℕ) (nodes entries next path places best ranked : List ℕ) (c : Cursor) : Type 0 where
-  pub carried : Carrying t all c next path places best ranked
-  pub rows : From (nodeWordsOf t) nodes (rowsFrom t (c .number) (c .entries) (restOf (t .lengths) (t .shared) c)) (c .number * 8)
+pub record Checking (t : IndexColumns) (all : ℕ) (nodes entries : List ℕ) (w : Work) (c : Cursor) : Type 0 where
+  pub carried : Carrying t all c w
+  pub rows : From (nodeWordsOf t) nodes (rowsFrom t (c .number .0) (c .entries) (restOf (t .lengths) (t .shared) c)) (c .number .0 * 8)
   pub own : From (entryWordsOf t) entries (entryWordsFrom t (restOf (t .lengths) (t .shared) c)) (c .entries * 4)
 
-abbrev hasWords : Columns → List ℕ → List ℕ → Bool
-hasWords t nodes entries = begins (nodeWordsOf t) nodes && begins (entryWordsOf t) entries
-
-module _ {t : Columns} {all : ℕ} {nodes entries next path places best ranked : List ℕ} {c : Cursor} where
-  pub checking : c ≡ rootCursor → Carrying t all c next path places best ranked → Checking t all nodes entries next path places best ranked c
+module _ {t : IndexColumns} {all : ℕ} {nodes entries : List ℕ} {w : Work} {c : Cursor} where
+  pub checking : c ≡ rootCursor → Carrying t all c w → Checking t all nodes entries w c
   checking r s = record { carried = s; rows = record { is = rw r }; own = record { is = rw r } }
 
-  module _ (s : Checking t all nodes entries next path places best ranked c) where
-    module _ (lt : c .number < all) where
+  module _ (s : Checking t all nodes entries w c) where
+    module _ (lt : c .number .0 < all) where
       pub checking-not : hasRow t c nodes && hasEntries t c entries ≡ false → false ≡ hasWords t nodes entries
       checking-not q =
           let first = going-first (s .carried .way) lt in
-          let after = visitsFrom (t .lengths) (t .shared) (c .stand) (suc (c .length)) in
-          let later = rowsFrom t (suc (c .number)) (c .entries + length (entriesAt t (visitOf c))) after in
-          let n = part (s .rows) (rowOf t (c .number) (c .entries) (visitOf c)) later (ap (rowsFrom t (c .number) (c .entries)) first) in
+          let after = visitsFrom (t .lengths) (t .shared) (c .stand .0) (suc (c .length)) in
+          let later = rowsFrom t (suc (c .number .0)) (c .entries + length (entriesAt t (visitOf c))) after in
+          let n = part (s .rows) (rowOf t (c .number .0) (c .entries) (visitOf c)) later (ap (rowsFrom t (c .number .0) (c .entries)) first) in
           let e = part (s .own) (entryRows (entriesAt t (visitOf c))) (entryWordsFrom t after) (ap (entryWordsFrom t) first) in
           sym (ap₂ _&&_ n e ∙ one-fails (hasRow t c nodes) (hasEntries t c entries) _ _ q)
 
-      pub checking-more : {r : Cursor} {next′ path′ places′ best′ ranked′ : List ℕ} → hasRow t c nodes ≡ true → hasEntries t c entries ≡ true
-          → Moved t c r next′ path′ places′ best′ ranked′
-          → Checking t all nodes entries next′ path′ places′ best′ ranked′ r
+      pub checking-more : {r : Cursor} {w′ : Work} → hasRow t c nodes ≡ true → hasEntries t c entries ≡ true → Moved t c r w′ → Checking t all nodes entries w′ r
       checking-more p q m =
           record {
             carried = carrying-more (s .carried) lt m;
             rows =
-                from-more (s .rows) (rowOf t (c .number) (c .entries) (visitOf c)) (rows-next (s .carried) lt m)
-                (omega (arith, m .stepped .number, length-row t (c .number) (c .entries) (visitOf c))) p;
+                from-more (s .rows) (rowOf t (c .number .0) (c .entries) (visitOf c)) (rows-next (s .carried) lt m)
+                (omega (arith, m .stepped .number, length-row t (c .number .0) (c .entries) (visitOf c))) p;
             own =
                 from-more (s .own) (entryRows (entriesAt t (visitOf c))) (entries-next (s .carried) lt m)
                 (omega (arith, m .stepped .entries, length-rows (entriesAt t (visitOf c)))) q;
           }
 
-    pub checking-end : all ≤ c .number → true ≡ hasWords t nodes entries
+    pub checking-end : all ≤ c .number .0 → true ≡ hasWords t nodes entries
     checking-end h =
         let none = going-end (s .carried .way) h in
         let a : begins (nodeWordsOf t) nodes ≡ true = s .rows .is ∙ rw none in

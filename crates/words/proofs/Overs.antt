@@ -14,7 +14,7 @@ use Rattle.base.specs.Lists.{begins}
 use Rattle.rules.specs.Indexes.{Entry, entryRow}
 use Rattle.base.proofs.Members.{length-each, getD-each, eachList-append}
 use Rattle.base.proofs.Begins.{begins-parts}
-use Rattle.node.specs.Columns.{at, Slots, entryFrom, entriesFrom}
+use Rattle.node.specs.Columns.{at, Sized, entryFrom, entriesFrom}
 use Rattle.words.specs.Over.{over}
 use Rattle.words.specs.Words.{entryRows}
 
@@ -75,11 +75,7 @@ module _ (d : List ℕ) (p : ℕ) (w : List ℕ) where
       ∙ over-over d p (take k w) (x ∷ []) (omega arith)
       ∙ ap (over d p) (sym (take-suc w k 0 h))
       ∙ ap (λ (m : ℕ). over d p (take m w)) (sym (add-one k)) in
-      record {
-        within = omega arith;
-        size = ap length now′ ∙ length-over d p (take (k + 1) w) (omega (arith, length-take-le (k + 1) w (omega arith)));
-        now = now′;
-      }
+      record { within = omega arith; size = ap length now′ ∙ length-over d p (take (k + 1) w) (omega (arith, length-take-le (k + 1) w (omega arith))); now = now′ }
 
   pub putting-end : (room : List ℕ) (k : ℕ) → Putting d p w room k → length w ≤ k → room ≡ over d p w
   putting-end room k s h = s .now ∙ ap (over d p) (take-all k w h)
@@ -104,10 +100,7 @@ module _ (room : List ℕ) (p : ℕ) (w : List ℕ) where
     pub matching-more : p + k < length room → at room (p + k) ≡ at w k → Matching room p w (k + 1)
     matching-more l q =
         let i : p + (k + 1) ≡ suc (p + k) = omega arith in
-        record {
-          within = omega arith;
-          rest = s .rest ∙ rw (drop-cons w k 0 h, drop-cons room (p + k) 0 l, eq-eqb (at w k) (at room (p + k)) (sym q), i, add-one);
-        }
+        record { within = omega arith; rest = s .rest ∙ rw (drop-cons w k 0 h, drop-cons room (p + k) 0 l, eq-eqb (at w k) (at room (p + k)) (sym q), i, add-one) }
 
   pub matching-end : (k : ℕ) → Matching room p w k → length w ≤ k → true ≡ begins w (drop p room)
   matching-end k s h = sym (s .rest ∙ rw (drop-of-length-le w h))
@@ -144,11 +137,7 @@ module _ (d : List ℕ) (p : ℕ) (l : List Entry) where
       ∙ ap (λ (m : ℕ). over (over d p (entryRows (take k l))) (p + m) w) (sym (rows-size k (s .within)))
       ∙ over-over d p (entryRows (take k l)) w (omega arith)
       ∙ ap (over d p) (sym c) in
-      record {
-        within = omega arith;
-        size = ap length now′ ∙ length-over d p (entryRows (take (k + 1) l)) (omega (arith, rows-size (k + 1) (omega arith)));
-        now = now′;
-      }
+      record { within = omega arith; size = ap length now′ ∙ length-over d p (entryRows (take (k + 1) l)) (omega (arith, rows-size (k + 1) (omega arith))); now = now′ }
 
   pub entering-end : (room : List ℕ) (k : ℕ) → Entering d p l room k → length l ≤ k → room ≡ over d p (entryRows l)
   entering-end room k s h = s .now ∙ ap (λ (m : List Entry). over d p (entryRows m)) (take-all k l h)
@@ -186,7 +175,7 @@ module _ (best next places ranked : List ℕ) (held : ℕ) where
   abbrev listed : List Entry
   listed = entriesFrom best next places ranked held
 
-  module _ (size : Slots ranked) (few : held ≤ 64) where
+  module _ (size : Sized ranked) (few : held ≤ 64) where
     pub entries-count : length listed ≡ held
     unfolding entriesFrom
     entries-count = length-each (entryFrom best next places) (take held ranked) ∙ length-take-le held ranked (omega arith)

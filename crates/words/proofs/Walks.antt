@@ -14,21 +14,18 @@ use Rattle.base.proofs.Members.{length-each, length-keep, each-same}
 use Rattle.base.proofs.Runs.{length-from}
 use Rattle.base.proofs.Words.{ones-word}
 use Rattle.node.specs.declared.cursor.Cursor.{Cursor}
-use Rattle.node.specs.Columns.{Columns, LawfulColumns, Grows, at, endOf, span, growth, grownOf, heldIn, regionsIn, bitsIn}
-use Rattle.node.specs.Visits.{Visit, visitsAt, newVisits, visitsFrom, placesAt, On, Ways, Stepped}
+use Rattle.node.specs.Columns.{IndexColumns, LawfulColumns, Grows, at, endOf, span, growth, grownOf, heldAmong, regionsAmong, bitsAmong}
+use Rattle.node.specs.Visits.{Visit, visitsAt, newVisits, visitsFrom, rootCursor, placesAt, On, Ways, Stepped}
 use Rattle.node.specs.Rows.{standsAt, entriesAt, rowAt, rowOf}
 use Rattle.node.proofs.Ends.{grown-small}
 use Rattle.node.proofs.Placing.{regions-are}
 use Rattle.node.proofs.Gathering.{entries-held}
 use Rattle.node.proofs.Steps.{visits-first, visits-done}
-use Rattle.words.specs.Words.{entryRows, rowsFrom, entryWordsFrom, countFrom, nodeCountOf, visitOf, Scratch, Standing, Moved}
+use Rattle.words.specs.Words.{entryRows, rowsFrom, entryWordsFrom, countFrom, nodeCountOf, visitOf, Work, Scratch, Standing, Moved}
 use Rattle.words.proofs.Overs.{length-rows}
 
 abbrev pub restOf : List ℕ → List ℕ → Cursor → List Visit
-restOf lengths shared c = visitsFrom lengths shared (c .stand) (c .length)
-
-abbrev pub rootCursor : Cursor
-rootCursor = record { stand = 0; length = 0; number = 0; entries = 0 }
+restOf lengths shared c = visitsFrom lengths shared (c .stand .0) (c .length)
 
 -- ---- how many nodes
 
@@ -78,24 +75,24 @@ module _ (lengths shared : List ℕ) (g : Grows lengths shared) where
 
 -- ---- how many entries a node has
 
-held-few : (region s : List ℕ) → length (regionsIn region s) ≤ 64
-held-few region s = omega (arith, length-keep (heldIn region s) (upTo regions), length-from 0 regions, regions-are)
+held-few : (region s : List ℕ) → length (regionsAmong region s) ≤ 64
+held-few region s = omega (arith, length-keep (heldAmong region s) (upTo regions), length-from 0 regions, regions-are)
 
-pub ones-held : (region s : List ℕ) → ones (bitsIn region s) ≡ length (regionsIn region s)
+pub ones-held : (region s : List ℕ) → ones (bitsAmong region s) ≡ length (regionsAmong region s)
 unfolding regions
-ones-held region s = ones-word (heldIn region s) 0 64
+ones-held region s = ones-word (heldAmong region s) 0 64
 
-entries-held-at : (t : Columns) (v : Visit) → length (entriesAt t v) ≡ length (regionsIn (t .region) (standsAt (t .shared) v))
+entries-held-at : (t : IndexColumns) (v : Visit) → length (entriesAt t v) ≡ length (regionsAmong (t .region) (standsAt (t .shared) v))
 unfolding entriesAt
 entries-held-at t v = entries-held (t .region) (t .score) (placesAt (t .region) (v .stand)) (standsAt (t .shared) v)
 
 -- ---- the cursor on its way
 
 pub record Going (lengths shared : List ℕ) (all : ℕ) (c : Cursor) : Type 0 where
-  pub left : c .number + length (restOf lengths shared c) ≡ all
+  pub left : c .number .0 + length (restOf lengths shared c) ≡ all
   pub few : all ≤ 24577
-  pub low : c .entries ≤ 64 * c .number
-  pub on : c .number < all → On lengths shared c
+  pub low : c .entries ≤ 64 * c .number .0
+  pub on : c .number .0 < all → On lengths shared c
 
 module _ {lengths shared : List ℕ} {all : ℕ} where
   going : {c : Cursor} → c ≡ rootCursor → Grows lengths shared → all ≡ length (visitsFrom lengths shared 0 0) → Going lengths shared all c
@@ -109,29 +106,29 @@ module _ {lengths shared : List ℕ} {all : ℕ} where
         on = λ h. record { within = omega arith; long = omega arith; new = λ u. absurd (omega arith); count = omega (arith, g .first) };
       }
 
-  module _ {c : Cursor} (s : Going lengths shared all c) (lt : c .number < all) where
-    pub going-first : restOf lengths shared c ≡ visitOf c ∷ visitsFrom lengths shared (c .stand) (suc (c .length))
-    going-first = visits-first lengths shared (c .stand) (c .length) (s .on lt .long)
+  module _ {c : Cursor} (s : Going lengths shared all c) (lt : c .number .0 < all) where
+    pub going-first : restOf lengths shared c ≡ visitOf c ∷ visitsFrom lengths shared (c .stand .0) (suc (c .length))
+    going-first = visits-first lengths shared (c .stand .0) (c .length) (s .on lt .long)
 
     module _ {held : ℕ} {r : Cursor} (p : Stepped lengths shared c held r) where
       going-rest : restOf lengths shared c ≡ visitOf c ∷ restOf lengths shared r
       going-rest = going-first ∙ ap (λ (l : List Visit). visitOf c ∷ l) (sym (p .visits))
 
-      left-more : r .number + length (restOf lengths shared r) ≡ all
+      left-more : r .number .0 + length (restOf lengths shared r) ≡ all
       left-more = omega (arith, p .number, s .left, ap length going-rest)
 
       -- a cursor with nodes before it stands at one
-      inside : r .number < all → r .stand < length lengths
+      inside : r .number .0 < all → r .stand .0 < length lengths
       inside h =
           ⊎-elim
-          (λ (q : length lengths ≤ r .stand). absurd (omega (arith, left-more, ap length (visits-done lengths shared (r .stand) (r .length) q (p .some)))))
-          (λ (q : r .stand < length lengths). q)
-          (le-or-lt (length lengths) (r .stand))
+          (λ (q : length lengths ≤ r .stand .0). absurd (omega (arith, left-more, ap length (visits-done lengths shared (r .stand .0) (r .length) q (p .some)))))
+          (λ (q : r .stand .0 < length lengths). q)
+          (le-or-lt (length lengths) (r .stand .0))
 
       going-more : held ≤ 64 → Going lengths shared all r
       going-more h = record { left = left-more; few = s .few; low = omega (arith, p .number, p .entries, s .low); on = λ l. p .on (inside l) }
 
-  pub going-end : {c : Cursor} → Going lengths shared all c → all ≤ c .number → restOf lengths shared c ≡ []
+  pub going-end : {c : Cursor} → Going lengths shared all c → all ≤ c .number .0 → restOf lengths shared c ≡ []
   going-end {c} s h = drop-of-length-le (restOf lengths shared c) {i = 0} (omega (arith, s .left))
 
 -- ---- counting
@@ -145,9 +142,9 @@ module _ {lengths shared region : List ℕ} {all : ℕ} where
   counting r g e = record { way = going r g e; so-far = rw r (omega arith) }
 
   module _ {c : Cursor} (s : Counting lengths shared region all c) where
-    module _ (lt : c .number < all) {past held : ℕ} (e : past ≡ endOf shared (c .stand) (c .length)) (k : held ≡ ones (bitsIn region (span (c .stand) past))) where
-      held-is : held ≡ length (regionsIn region (standsAt shared (visitOf c)))
-      held-is = k ∙ ap (λ (x : ℕ). ones (bitsIn region (span (c .stand) x))) e ∙ ones-held region (standsAt shared (visitOf c))
+    module _ (lt : c .number .0 < all) {past held : ℕ} (e : past ≡ endOf shared (c .stand .0) (c .length)) (k : held ≡ ones (bitsAmong region (span (c .stand .0) past))) where
+      held-is : held ≡ length (regionsAmong region (standsAt shared (visitOf c)))
+      held-is = k ∙ ap (λ (x : ℕ). ones (bitsAmong region (span (c .stand .0) x))) e ∙ ones-held region (standsAt shared (visitOf c))
 
       pub counting-fits : c .entries + held < 4294967296
       counting-fits = omega (arith, held-is, held-few region (standsAt shared (visitOf c)), s .way .low, s .way .few)
@@ -159,54 +156,47 @@ module _ {lengths shared region : List ℕ} {all : ℕ} where
             so-far = omega (arith, s .so-far, held-is, p .entries, ap (countFrom shared region) (going-rest (s .way) lt p));
           }
 
-    pub counting-end : all ≤ c .number → c .entries ≡ countFrom shared region (visitsFrom lengths shared 0 0)
+    pub counting-end : all ≤ c .number .0 → c .entries ≡ countFrom shared region (visitsFrom lengths shared 0 0)
     counting-end h = omega (arith, s .so-far, ap (countFrom shared region) (going-end (s .way) h))
 
 -- ---- with what is lent beside the cursor
 
-pub record Carrying (t : Columns) (all : ℕ) (c : Cursor) (next path places best ranked : List ℕ) : Type 0 where
+pub record Carrying (t : IndexColumns) (all : ℕ) (c : Cursor) (w : Work) : Type 0 where
   pub way : Going (t .lengths) (t .shared) all c
-  pub next-is : next ≡ placesAt (t .region) (c .stand)
-  pub ways : c .number < all → Ways (t .lengths) (t .shared) path (c .stand) (c .length)
-  pub scratch : Scratch path places best ranked
+  pub next-is : w .next ≡ placesAt (t .region) (c .stand .0)
+  pub ways : c .number .0 < all → Ways (t .lengths) (t .shared) (w .path) (c .stand .0) (c .length)
+  pub scratch : Scratch w
 
-module _ {t : Columns} {all : ℕ} {c : Cursor} {next path places best ranked : List ℕ} where
-  pub carrying : LawfulColumns t → c ≡ rootCursor → all ≡ nodeCountOf t → next ≡ placesAt (t .region) 0 → Scratch path places best ranked
-      → Carrying t all c next path places best ranked
-  carrying w r e n s =
-      record { way = going r (w .grows) e; next-is = rw r n; ways = rw r (λ h k u. absurd (omega arith)); scratch = s }
+module _ {t : IndexColumns} {all : ℕ} {c : Cursor} {w : Work} where
+  pub carrying : LawfulColumns t → c ≡ rootCursor → all ≡ nodeCountOf t → w .next ≡ placesAt (t .region) 0 → Scratch w → Carrying t all c w
+  carrying l r e n s =
+      record { way = going r (l .grows) e; next-is = rw r n; ways = rw r (λ h k u. absurd (omega arith)); scratch = s }
 
-  module _ (s : Carrying t all c next path places best ranked) (lt : c .number < all) where
-    pub standing : Standing t c next path places best ranked
+  module _ (s : Carrying t all c w) (lt : c .number .0 < all) where
+    pub standing : Standing t c w
     standing = record { on = s .way .on lt; low = omega (arith, s .way .few); few = s .way .low; next-is = s .next-is; ways = s .ways lt; scratch = s .scratch }
 
     entries-few : length (entriesAt t (visitOf c)) ≤ 64
     entries-few = omega (arith, entries-held-at t (visitOf c), held-few (t .region) (standsAt (t .shared) (visitOf c)))
 
-    module _ {r : Cursor} {next′ path′ places′ best′ ranked′ : List ℕ} (m : Moved t c r next′ path′ places′ best′ ranked′) where
-      pub carrying-more : Carrying t all r next′ path′ places′ best′ ranked′
-      carrying-more =
-          record {
-            way = going-more (s .way) lt (m .stepped) entries-few;
-            next-is = m .next-is;
-            ways = λ h. m .ways (inside (s .way) lt (m .stepped) h);
-            scratch = m .scratch;
-          }
+    module _ {r : Cursor} {w′ : Work} (m : Moved t c r w′) where
+      pub carrying-more : Carrying t all r w′
+      carrying-more = record { way = going-more (s .way) lt (m .stepped) entries-few; next-is = m .next-is; ways = λ h. m .ways (inside (s .way) lt (m .stepped) h); scratch = m .scratch }
 
       -- the node's words, and those of the nodes after it
-      pub rows-next : rowsFrom t (c .number) (c .entries) (restOf (t .lengths) (t .shared) c) ≡ rowOf t (c .number) (c .entries) (visitOf c) ++ rowsFrom t (r .number) (r .entries) (restOf (t .lengths) (t .shared) r)
+      pub rows-next : rowsFrom t (c .number .0) (c .entries) (restOf (t .lengths) (t .shared) c) ≡ rowOf t (c .number .0) (c .entries) (visitOf c) ++ rowsFrom t (r .number .0) (r .entries) (restOf (t .lengths) (t .shared) r)
       rows-next =
-          ap (rowsFrom t (c .number) (c .entries)) (going-rest (s .way) lt (m .stepped))
+          ap (rowsFrom t (c .number .0) (c .entries)) (going-rest (s .way) lt (m .stepped))
           ∙ rw (← m .stepped .number, ← m .stepped .entries)
 
       pub entries-next : entryWordsFrom t (restOf (t .lengths) (t .shared) c) ≡ entryRows (entriesAt t (visitOf c)) ++ entryWordsFrom t (restOf (t .lengths) (t .shared) r)
       entries-next = ap (entryWordsFrom t) (going-rest (s .way) lt (m .stepped))
 
-pub length-row : (t : Columns) (j n : ℕ) (v : Visit) → length (rowOf t j n v) ≡ 8
+pub length-row : (t : IndexColumns) (j n : ℕ) (v : Visit) → length (rowOf t j n v) ≡ 8
 unfolding rowAt
 length-row t j n v = refl
 
-pub entries-length : (t : Columns) (vs : List Visit) → length (entryWordsFrom t vs) ≡ countFrom (t .shared) (t .region) vs * 4
+pub entries-length : (t : IndexColumns) (vs : List Visit) → length (entryWordsFrom t vs) ≡ countFrom (t .shared) (t .region) vs * 4
 entries-length t [] = refl
 entries-length t (v ∷ vs) =
     omega (arith, length-append (entryRows (entriesAt t v)) (entryWordsFrom t vs), length-rows (entriesAt t v), entries-held-at t v, entries-length t vs)

@@ -6,13 +6,13 @@ use Prim.Native.Nat.{ℕ, suc, _+_, _*_, _≤_, _<_}
 use native.Mathlib.Omega.{arith}
 use lib.ListN.{length, length-append}
 use Rattle.node.specs.declared.cursor.Cursor.{Cursor}
-use Rattle.node.specs.Columns.{Columns}
-use Rattle.node.specs.Visits.{Visit, visitsFrom}
+use Rattle.node.specs.Columns.{IndexColumns}
+use Rattle.node.specs.Visits.{Visit, visitsFrom, rootCursor}
 use Rattle.node.specs.Rows.{entriesAt, rowOf}
 use Rattle.words.specs.Over.{over}
-use Rattle.words.specs.Words.{entryRows, rowsFrom, entryWordsFrom, nodeCountOf, entryCountOf, nodeWordsOf, entryWordsOf, visitsOf, visitOf, Moved, Room, Wrote}
+use Rattle.words.specs.Words.{entryRows, rowsFrom, entryWordsFrom, nodeCountOf, entryCountOf, nodeWordsOf, entryWordsOf, visitsOf, visitOf, Work, Room, PutTurn, WriteAsks, WroteAll}
 use Rattle.words.proofs.Overs.{over-none, over-over, length-over, length-rows}
-use Rattle.words.proofs.Walks.{restOf, rootCursor, Carrying, carrying-more, rows-next, entries-next, going-first, going-end, length-row, entries-length}
+use Rattle.words.proofs.Walks.{restOf, Carrying, carrying-more, rows-next, entries-next, going-first, going-end, length-row, entries-length}
 
 -- of all these words, the first are in the room, and the rest is still to come
 pub record Filled (all-words d room rest : List ℕ) (size : ℕ) : Type 0 where
@@ -46,76 +46,64 @@ module _ {all-words d : List ℕ} where
     filled-end : rest ≡ [] → room ≡ over d 0 all-words
     filled-end e = f .now ∙ ap (over d 0) (sym (f .split ∙ ap (λ (x : List ℕ). f .done ++ x) e ∙ append-nil (f .done)))
 
-pub record Writing (t : Columns) (all : ℕ) (n₀ e₀ : List ℕ) (next path places best ranked nodes entries : List ℕ) (c : Cursor) : Type 0 where
-  pub carried : Carrying t all c next path places best ranked
-  pub rows : Filled (nodeWordsOf t) n₀ nodes (rowsFrom t (c .number) (c .entries) (restOf (t .lengths) (t .shared) c)) (c .number * 8)
+pub record Writing (t : IndexColumns) (all : ℕ) (n₀ e₀ : List ℕ) (w : Work) (nodes entries : List ℕ) (c : Cursor) : Type 0 where
+  pub carried : Carrying t all c w
+  pub rows : Filled (nodeWordsOf t) n₀ nodes (rowsFrom t (c .number .0) (c .entries) (restOf (t .lengths) (t .shared) c)) (c .number .0 * 8)
   pub own : Filled (entryWordsOf t) e₀ entries (entryWordsFrom t (restOf (t .lengths) (t .shared) c)) (c .entries * 4)
 
-rows-length : (t : Columns) (j n : ℕ) (vs : List Visit) → length (rowsFrom t j n vs) ≡ length vs * 8
+rows-length : (t : IndexColumns) (j n : ℕ) (vs : List Visit) → length (rowsFrom t j n vs) ≡ length vs * 8
 rows-length t j n [] = refl
 rows-length t j n (v ∷ vs) =
-    omega (
-      arith,
-      length-append (rowOf t j n v) (rowsFrom t (suc j) (n + length (entriesAt t v)) vs),
-      length-row t j n v,
-      rows-length t (suc j) (n + length (entriesAt t v)) vs,
-    )
+    omega (arith, length-append (rowOf t j n v) (rowsFrom t (suc j) (n + length (entriesAt t v)) vs), length-row t j n v, rows-length t (suc j) (n + length (entriesAt t v)) vs)
 
-nodes-fit : (t : Columns) (n : ℕ) → nodeCountOf t * 8 ≤ n → length (nodeWordsOf t) ≤ n
+nodes-fit : (t : IndexColumns) (n : ℕ) → nodeCountOf t * 8 ≤ n → length (nodeWordsOf t) ≤ n
 nodes-fit t n h = omega (arith, rows-length t 0 0 (visitsOf t))
 
-entries-fit : (t : Columns) (n : ℕ) → entryCountOf t * 4 ≤ n → length (entryWordsOf t) ≤ n
+entries-fit : (t : IndexColumns) (n : ℕ) → entryCountOf t * 4 ≤ n → length (entryWordsOf t) ≤ n
 entries-fit t n h = omega (arith, entries-length t (visitsOf t))
 
-module _ {t : Columns} {all : ℕ} {n₀ e₀ next path places best ranked : List ℕ} {c : Cursor} where
-  pub writing : c ≡ rootCursor → Carrying t all c next path places best ranked → Writing t all n₀ e₀ next path places best ranked n₀ e₀ c
+module _ {t : IndexColumns} {all : ℕ} {n₀ e₀ : List ℕ} {w : Work} {c : Cursor} where
+  pub writing : c ≡ rootCursor → Carrying t all c w → Writing t all n₀ e₀ w n₀ e₀ c
   writing r s = record { carried = s; rows = rw r filled; own = rw r filled }
 
-  module _ {nodes entries : List ℕ} (s : Writing t all n₀ e₀ next path places best ranked nodes entries c) where
+  module _ {nodes entries : List ℕ} (s : Writing t all n₀ e₀ w nodes entries c) where
     pub writing-nodes : nodeCountOf t * 8 ≤ length n₀ → length nodes ≡ length n₀
     writing-nodes fits = filled-length (s .rows) (nodes-fit t (length n₀) fits)
 
     pub writing-entries : entryCountOf t * 4 ≤ length e₀ → length entries ≡ length e₀
     writing-entries fits = filled-length (s .own) (entries-fit t (length e₀) fits)
 
-    module _ (lt : c .number < all) where
-      pub writing-room : nodeCountOf t * 8 ≤ length n₀ → entryCountOf t * 4 ≤ length e₀ → Room t c nodes entries
-      writing-room n-fits e-fits =
+    module _ (lt : c .number .0 < all) where
+      pub writing-room : WriteAsks t all n₀ e₀ → Room t c nodes entries
+      writing-room a =
           let first = going-first (s .carried .way) lt in
-          let after = visitsFrom (t .lengths) (t .shared) (c .stand) (suc (c .length)) in
+          let after = visitsFrom (t .lengths) (t .shared) (c .stand .0) (suc (c .length)) in
           record {
             row-room =
-                omega (
-                  arith,
-                  filled-room (s .rows) (nodes-fit t (length n₀) n-fits),
-                  rows-length t (c .number) (c .entries) (restOf (t .lengths) (t .shared) c),
-                  ap length first,
-                );
+                omega (arith, filled-room (s .rows) (nodes-fit t (length n₀) (a .row-room)), rows-length t (c .number .0) (c .entries) (restOf (t .lengths) (t .shared) c), ap length first);
             entry-room =
                 omega (
                   arith,
-                  filled-room (s .own) (entries-fit t (length e₀) e-fits),
+                  filled-room (s .own) (entries-fit t (length e₀) (a .entry-room)),
                   ap (λ (l : List Visit). length (entryWordsFrom t l)) first
                       ∙ length-append (entryRows (entriesAt t (visitOf c))) (entryWordsFrom t after),
                   length-rows (entriesAt t (visitOf c)),
                 );
           }
 
-      pub writing-more : {r : Cursor} {next′ path′ places′ best′ ranked′ nodes′ entries′ : List ℕ}
-          → Moved t c r next′ path′ places′ best′ ranked′ × Wrote t c nodes entries nodes′ entries′
-          → Writing t all n₀ e₀ next′ path′ places′ best′ ranked′ nodes′ entries′ r
+      pub writing-more : {r : Cursor} {w′ : Work} {nodes′ entries′ : List ℕ} → PutTurn t c r w′ nodes entries nodes′ entries′ → Writing t all n₀ e₀ w′ nodes′ entries′ r
       writing-more m =
           record {
-            carried = carrying-more (s .carried) lt (m .0);
+            carried = carrying-more (s .carried) lt (m .moved);
             rows =
-                filled-more (s .rows) (rowOf t (c .number) (c .entries) (visitOf c)) (rows-next (s .carried) lt (m .0)) refl (m .1 .row-now)
-                (omega (arith, m .0 .stepped .number, length-row t (c .number) (c .entries) (visitOf c)));
+                filled-more (s .rows) (rowOf t (c .number .0) (c .entries) (visitOf c)) (rows-next (s .carried) lt (m .moved)) refl (m .wrote .row-now)
+                (omega (arith, m .moved .stepped .number, length-row t (c .number .0) (c .entries) (visitOf c)));
             own =
-                filled-more (s .own) (entryRows (entriesAt t (visitOf c))) (entries-next (s .carried) lt (m .0)) refl (m .1 .entries-now)
-                (omega (arith, m .0 .stepped .entries, length-rows (entriesAt t (visitOf c))));
+                filled-more (s .own) (entryRows (entriesAt t (visitOf c))) (entries-next (s .carried) lt (m .moved)) refl (m .wrote .entries-now)
+                (omega (arith, m .moved .stepped .entries, length-rows (entriesAt t (visitOf c))));
           }
 
-    pub writing-end : all ≤ c .number → (nodes ≡ over n₀ 0 (nodeWordsOf t)) × (entries ≡ over e₀ 0 (entryWordsOf t))
+    pub writing-end : all ≤ c .number .0 → WroteAll t n₀ e₀ nodes entries
     writing-end h =
         let none = going-end (s .carried .way) h in
-        (filled-end (s .rows) (ap (rowsFrom t (c .number) (c .entries)) none), filled-end (s .own) (ap (entryWordsFrom t) none))
+        record { rows-now = filled-end (s .rows) (ap (rowsFrom t (c .number .0) (c .entries)) none); entries-now = filled-end (s .own) (ap (entryWordsFrom t) none) }

@@ -4,12 +4,17 @@ use crate::rooms::has_entries;
 use crate::rooms::has_words;
 use crate::rooms::put_entries;
 use crate::rooms::put_words;
+use node::Path;
+use node::Slots;
 use node::cursor::Cursor;
 use node::cursor::advance;
 use node::gather;
 use node::row;
-ghost use Rattle.node.specs.Columns.{columnsOf, LawfulColumns};
-ghost use Rattle.words.specs.Words.{Standing, Moved, Room, Wrote, Compares};
+use rules::layout::ENTRY_WORDS;
+use rules::layout::NODE_WORDS;
+ghost use Rattle.base.specs.Lent.{given, after};
+ghost use Rattle.node.specs.Columns.{columnsNow, columnsIn};
+ghost use Rattle.words.specs.Words.{workNow, workAfter, TurnAsks, PutAsks, PutTurn, Compares};
 
 // The node's words, in the rooms.
 pub fn write_node(
@@ -19,41 +24,49 @@ pub fn write_node(
     shared: &[u8],
     region: &[u8],
     score: &[u32],
-    c: Cursor,
-    next: &mut [u32; 64],
-    path: &mut [u32; 25],
-    places: &mut [u32; 64],
-    best: &mut [u32; 64],
-    ranked: &mut [u32; 64],
+    cursor: Cursor,
+    next: &mut Slots,
+    path: &mut Path,
+    places: &mut Slots,
+    best: &mut Slots,
+    ranked: &mut Slots,
     nodes: &mut [u32],
     entries: &mut [u32],
 ) -> Cursor
-    requires { ⌜ (LawfulColumns (columnsOf (now text) (now starts) (now lengths) (now shared) (now region) (now score))) × (Standing (columnsOf (now text) (now starts) (now lengths) (now shared) (now region) (now score)) c (now next) (now path) (now places) (now best) (now ranked)) × (Room (columnsOf (now text) (now starts) (now lengths) (now shared) (now region) (now score)) c (now nodes) (now entries)) ⌝ }
-    ensures { λ r. ⌜ (Moved (columnsOf (now (text .entry)) (now (starts .entry)) (now (lengths .entry)) (now (shared .entry)) (now (region .entry)) (now (score .entry))) c r (now (next .exit)) (now (path .exit)) (now (places .exit)) (now (best .exit)) (now (ranked .exit))) × (Wrote (columnsOf (now (text .entry)) (now (starts .entry)) (now (lengths .entry)) (now (shared .entry)) (now (region .entry)) (now (score .entry))) c (now (nodes .entry)) (now (entries .entry)) (now (nodes .exit)) (now (entries .exit))) ⌝ }
+    requires { ⌜ PutAsks (columnsNow text starts lengths shared region score) cursor (workNow next path places best ranked) (now nodes) (now entries) ⌝ }
+    ensures { λ r. ⌜ PutTurn (columnsIn text starts lengths shared region score) cursor r (workAfter next path places best ranked) (given nodes) (given entries) (after nodes) (after entries) ⌝ }
 {
-    let g = gather(
+    let gathered = gather(
         shared,
         region,
         score,
-        c.stand,
-        c.length,
+        cursor.stand,
+        cursor.length,
         next,
         places,
         best,
         ranked,
     );
-    let words = row(text, starts, lengths, shared, path, c, g);
-    put_words(nodes, c.number as usize * 8, &words);
+    let words = row(text, starts, lengths, shared, path, cursor, gathered);
+    put_words(nodes, cursor.number.0 as usize * NODE_WORDS, &words);
     put_entries(
         entries,
-        c.entries as usize * 4,
+        cursor.entries as usize * ENTRY_WORDS,
         ranked,
-        g.held,
+        gathered.held,
         best,
         next,
         places,
     );
-    advance(lengths, shared, region, c, g.held as u32, next, path)
+    advance(
+        lengths,
+        shared,
+        region,
+        cursor,
+        gathered.held as u32,
+        next,
+        path,
+    )
 }
 
 // Whether the rooms have the node's words, and the cursor past it if so.
@@ -69,43 +82,51 @@ pub fn check_node(
     shared: &[u8],
     region: &[u8],
     score: &[u32],
-    c: Cursor,
-    next: &mut [u32; 64],
-    path: &mut [u32; 25],
-    places: &mut [u32; 64],
-    best: &mut [u32; 64],
-    ranked: &mut [u32; 64],
+    cursor: Cursor,
+    next: &mut Slots,
+    path: &mut Path,
+    places: &mut Slots,
+    best: &mut Slots,
+    ranked: &mut Slots,
     nodes: &[u32],
     entries: &[u32],
 ) -> Compared
-    requires { ⌜ (LawfulColumns (columnsOf (now text) (now starts) (now lengths) (now shared) (now region) (now score))) × (Standing (columnsOf (now text) (now starts) (now lengths) (now shared) (now region) (now score)) c (now next) (now path) (now places) (now best) (now ranked)) ⌝ }
-    ensures { λ v. ⌜ Compares (columnsOf (now (text .entry)) (now (starts .entry)) (now (lengths .entry)) (now (shared .entry)) (now (region .entry)) (now (score .entry))) c (now (next .exit)) (now (path .exit)) (now (places .exit)) (now (best .exit)) (now (ranked .exit)) (now (nodes .entry)) (now (entries .entry)) v ⌝ }
+    requires { ⌜ TurnAsks (columnsNow text starts lengths shared region score) cursor (workNow next path places best ranked) ⌝ }
+    ensures { λ v. ⌜ Compares (columnsIn text starts lengths shared region score) cursor (workAfter next path places best ranked) (given nodes) (given entries) v ⌝ }
 {
-    let g = gather(
+    let gathered = gather(
         shared,
         region,
         score,
-        c.stand,
-        c.length,
+        cursor.stand,
+        cursor.length,
         next,
         places,
         best,
         ranked,
     );
-    let words = row(text, starts, lengths, shared, path, c, g);
-    if !has_words(nodes, c.number as usize * 8, &words) {
+    let words = row(text, starts, lengths, shared, path, cursor, gathered);
+    if !has_words(nodes, cursor.number.0 as usize * NODE_WORDS, &words) {
         return Compared::Different;
     }
     if !has_entries(
         entries,
-        c.entries as usize * 4,
+        cursor.entries as usize * ENTRY_WORDS,
         ranked,
-        g.held,
+        gathered.held,
         best,
         next,
         places,
     ) {
         return Compared::Different;
     }
-    Compared::Same(advance(lengths, shared, region, c, g.held as u32, next, path))
+    Compared::Same(advance(
+        lengths,
+        shared,
+        region,
+        cursor,
+        gathered.held as u32,
+        next,
+        path,
+    ))
 }

@@ -6,8 +6,8 @@ use borrow.Author.Needs.{needs}
 use Rattle.rules.specs.Numbers.{verdictNumber}
 use Rattle.rules.specs.Tables.{Table, tableOf, stands, LawfulTable}
 use Rattle.rules.proofs.Lawful.{granted}
-use Rattle.node.specs.Columns.{columnsOf}
-use Rattle.index.specs.Columns.{columns}
+use Rattle.node.specs.Columns.{indexColumns}
+use Rattle.index.specs.Columns.{tableColumns}
 use Rattle.index.proofs.ByStand.{spelled, located, front-fits, front-size, columns-are, columns-lawful}
 use Rattle.index.proofs.Answers.{refused-checked, compared-checked}
 use Rattle.index.proofs.check.Statement.{statement}
@@ -63,8 +63,8 @@ slice-aggregate-has-index-3 c = front-size _ _ (lawful-here (c .before .before .
 -- the columns that are lent
 columns-here : (c : tie.After-regions) →
     let t = table-of (c .before .before .before .before .before .before .before .before .before .before .before .before) in
-    columnsOf (t .text) (t .starts) (take (stands t) (c .before .before .lengths .result)) (take (stands t) (c .before .shares .result)) (take (stands t) (c .regions .result)) (t .score)
-    ≡ columns t (c .before .before .before .before .before .before .before .before .before .before .before .before .args .grid)
+    indexColumns (t .text) (t .starts) (take (stands t) (c .before .before .lengths .result)) (take (stands t) (c .before .shares .result)) (take (stands t) (c .regions .result)) (t .score)
+    ≡ tableColumns t (c .before .before .before .before .before .before .before .before .before .before .before .before .args .grid)
 columns-here c = columns-are _ _ (lawful-here (c .before .before .before)) _ _ _ (c .before .before .lengths .ensures) (c .before .shares .ensures) (c .regions .ensures)
 
 has-index-requires : tie.Need-has-index-requires

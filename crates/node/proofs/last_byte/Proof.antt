@@ -9,14 +9,17 @@ use Rattle.node.proofs.last_byte.Tie as tie
 returns : tie.Need-returns
 returns c = simp (eq-eqb _ _ (c .if1 .taken))
 
-mul-p : tie.Need-mul-p
-mul-p c = omega (arith, c .before .before .before .pre .1 (omega arith))
+cast-at : tie.Need-cast-at
+cast-at c = search needs
 
-shared-slice-read-p : tie.Need-shared-slice-read-p
-shared-slice-read-p c = omega (arith, c .before .before .before .before .pre .1 (omega arith))
+mul-at : tie.Need-mul-at
+mul-at c = omega (arith, c .before .before .before .before .pre .inside (omega arith))
 
-cast-p : tie.Need-cast-p
-cast-p c = omega (arith, c .shared-slice-known3 .given (c .before .before .before .before .args .i))
+shared-slice-read-at : tie.Need-shared-slice-read-at
+shared-slice-read-at c = omega (arith, c .before .before .before .before .before .pre .inside (omega arith))
+
+cast-at-2 : tie.Need-cast-at-2
+cast-at-2 c = omega (arith, c .shared-slice-known3 .given (c .before .before .before .before .before .args .stand .0))
 
 sub-wide : tie.Need-sub-wide
 sub-wide c = search needs
@@ -24,29 +27,30 @@ sub-wide c = search needs
 wide-requires : tie.Need-wide-requires
 wide-requires c κs = search needs
 
-add-p : tie.Need-add-p
-add-p c = omega (arith, c .before .before .before .before .before .pre .1 (omega arith), c .wide .ensures)
+add-at : tie.Need-add-at
+add-at c = omega (arith, c .before .before .before .before .before .before .pre .inside (omega arith), c .wide .ensures)
 
 shared-slice-read-word : tie.Need-shared-slice-read-word
-shared-slice-read-word c = omega (arith, c .before .before .before .before .before .before .pre .1 (omega arith), c .before .wide .ensures)
+shared-slice-read-word c = omega (arith, c .before .before .before .before .before .before .before .pre .inside (omega arith), c .before .wide .ensures)
 
 word-requires : tie.Need-word-requires
 word-requires c κs = search needs
 
 returns-2 : tie.Need-returns-2
-returns-2 c = c .word .ensures ∙ simp (c .before .before .wide .ensures, ne-eqb _ _ (c .before .before .before .before .if1 .left))
+returns-2 c = c .word .ensures ∙ simp (c .before .before .wide .ensures, ne-eqb _ _ (c .before .before .before .before .before .if1 .left))
 
 pub last-byte-spec : {M : Type 1} → statement M
 last-byte-spec =
     tie.close
     (tie.spec
     returns
-    mul-p
-    shared-slice-read-p
-    cast-p
+    cast-at
+    mul-at
+    shared-slice-read-at
+    cast-at-2
     sub-wide
     wide-requires
-    add-p
+    add-at
     shared-slice-read-word
     word-requires
     returns-2)

@@ -14,16 +14,15 @@ sub-wide c = search needs
 wide-requires : tie.Need-wide-requires
 wide-requires c κs = search needs
 
-mul-result : tie.Need-mul-result
-mul-result c = omega (arith, c .wide .ensures)
+mul-t6 : tie.Need-mul-t6
+mul-t6 c = omega (arith, c .wide .ensures)
 
-element-copy-out-result : tie.Need-element-copy-out-result
-element-copy-out-result c = omega (arith, c .wide .ensures)
+element-copy-out-t9 : tie.Need-element-copy-out-t9
+element-copy-out-t9 c = omega (arith, c .wide .ensures)
 
 returns-2 : tie.Need-returns-2
 returns-2 c = simp (c .before .wide .ensures, ne-eqb _ _ (c .before .before .if1 .left))
 
 pub parent-spec : {M : Type 1} → statement M
 parent-spec =
-    tie.close
-    (tie.spec returns sub-wide wide-requires mul-result element-copy-out-result returns-2)
+    tie.close (tie.spec returns sub-wide wide-requires mul-t6 element-copy-out-t9 returns-2)

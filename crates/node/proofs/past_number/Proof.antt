@@ -8,15 +8,16 @@ use Rattle.node.proofs.past_number.Statement.{statement}
 use Rattle.node.proofs.past_number.Tie as tie
 
 -- the sum fits, and is no less than what is taken off
+
 sum-fits : (c : tie.After-word2)
     → (c .before .before .word .result ≤ 24) × (c .before .grown .result ≤ 24576) × (c .word2 .result ≤ c .before .before .word .result + c .before .grown .result)
 sum-fits c =
     let s = c .before .before .before .before .before .before in
     let a = s .args in
-    let g = s .pre .0 in
-    let old = shared-short _ _ g (a .i) in
-    let grew = grown-small _ _ g (a .i) (a .e) (s .pre .2) in
-    let fits = past-fits _ _ g (a .i) (a .e) (a .l) (s .pre .4) (s .pre .5) in (
+    let g = s .pre .grows in
+    let old = shared-short _ _ g (a .stand .0) in
+    let grew = grown-small _ _ g (a .stand .0) (a .past .0) (s .pre .run .1) in
+    let fits = past-fits _ _ g (a .stand .0) (a .past .0) (a .length) (s .pre .long) (s .pre .some) in (
       omega (arith, c .before .before .word .ensures, c .before .before .before .value-at .ensures),
       omega (arith, c .before .grown .ensures),
       omega (arith, c .word2 .ensures, c .before .before .word .ensures, c .before .before .before .value-at .ensures, c .before .grown .ensures),
@@ -34,20 +35,20 @@ grown-requires c κs = search needs
 word-requires-2 : tie.Need-word-requires-2
 word-requires-2 c κs = search needs
 
-add-result : tie.Need-add-result
-add-result c = omega (arith, sum-fits c)
+add-t11 : tie.Need-add-t11
+add-t11 c = omega (arith, sum-fits (c .before))
 
-add-result-2 : tie.Need-add-result-2
-add-result-2 c = omega (arith, sum-fits c)
+add-t12 : tie.Need-add-t12
+add-t12 c = omega (arith, sum-fits (c .before))
 
-add-result-3 : tie.Need-add-result-3
-add-result-3 c = omega (arith, sum-fits c)
+add-t13 : tie.Need-add-t13
+add-t13 c = omega (arith, sum-fits (c .before))
 
-sub-result : tie.Need-sub-result
-sub-result c = omega (arith, sum-fits c)
+sub-t14 : tie.Need-sub-t14
+sub-t14 c = omega (arith, sum-fits (c .before))
 
 returns : tie.Need-returns
-returns c = omega (arith, c .word2 .ensures, c .before .grown .ensures, c .before .before .word .ensures, c .before .before .before .value-at .ensures)
+returns c = omega (arith, c .before .word2 .ensures, c .before .before .grown .ensures, c .before .before .before .word .ensures, c .before .before .before .before .value-at .ensures)
 
 pub past-number-spec : {M : Type 1} → statement M
 past-number-spec =
@@ -57,8 +58,8 @@ past-number-spec =
     word-requires
     grown-requires
     word-requires-2
-    add-result
-    add-result-2
-    add-result-3
-    sub-result
+    add-t11
+    add-t12
+    add-t13
+    sub-t14
     returns)

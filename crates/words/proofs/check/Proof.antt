@@ -3,20 +3,22 @@ use borrow.Author.Needs.{needs}
 use native.Mathlib.Omega.{arith}
 use mathlib.Core.Path.{refl}
 use Prim.Native.Nat.{_-_}
-use Rattle.node.specs.Columns.{columnsOf}
+use Rattle.node.specs.Columns.{indexColumns}
+use Rattle.words.specs.Words.{workOf}
 use Rattle.words.proofs.Walks.{carrying, standing}
 use Rattle.words.proofs.Checks.{Checking, checking, checking-not, checking-more, checking-end}
 use Rattle.words.proofs.check.Statement.{statement}
 use Rattle.words.proofs.check.Tie as tie
 
 abbrev Inv-loop : tie.InvT-loop
-Inv-loop text starts lengths shared region score all nodes entries next₀ path₀ places₀ best₀ ranked₀ c₀ next path places best ranked c = Checking (columnsOf text starts lengths shared region score) all nodes entries next path places best ranked c
+Inv-loop text starts lengths shared region score all nodes entries next₀ path₀ places₀ best₀ ranked₀ here₀ next path places best ranked here =
+    Checking (indexColumns text starts lengths shared region score) all nodes entries (workOf next path places best ranked) here
 
 abbrev μ-loop : tie.MeasureT-loop
-μ-loop text starts lengths shared region score all nodes entries next₀ path₀ places₀ best₀ ranked₀ c₀ next path places best ranked c = all - c .number
+μ-loop text starts lengths shared region score all nodes entries next₀ path₀ places₀ best₀ ranked₀ here₀ next path places best ranked here = all - here .number .0
 
 places-of-requires : tie.Need-places-of-requires Inv-loop μ-loop
-places-of-requires c κs = c .before .before .before .before .before .before .before .before .pre .0 .placed
+places-of-requires c κs = c .before .before .before .before .before .before .before .before .pre .lawful .placed
 
 root-requires : tie.Need-root-requires Inv-loop μ-loop
 root-requires c κs = search needs
@@ -24,12 +26,12 @@ root-requires c κs = search needs
 loop-holds : tie.Need-loop-holds Inv-loop μ-loop
 loop-holds c =
     let p = c .before .before .before .before .before .before .before .before .before .before .pre in
-    checking (c .root .ensures) (carrying (p .0) (c .root .ensures) (p .1) (c .before .places-of .ensures) (record { path-size = refl; places-size = refl; best-size = refl; ranked-size = refl }))
+    checking (c .root .ensures) (carrying (p .lawful) (c .root .ensures) (p .count) (c .before .places-of .ensures) (record { path-size = refl; places-size = refl; best-size = refl; ranked-size = refl }))
 
 check-node-requires : tie.Need-check-node-requires Inv-loop μ-loop
 check-node-requires c κs =
     let p = c .before .before .before .before .before .before .before .before .before .before .before .before .before .before .before .before .before .before .pre in
-    (p .0, standing (c .before .before .before .before .before .before .before .loop .inv .carried) (c .before .before .before .before .before .if1 .taken))
+    record { lawful = p .lawful; standing = standing (c .before .before .before .before .before .before .before .loop .inv .carried) (c .before .before .before .before .before .if1 .taken) }
 
 enum-known-further : tie.Need-enum-known-further Inv-loop μ-loop
 enum-known-further c = search needs

@@ -9,34 +9,41 @@ use Rattle.words.proofs.count_entries.Statement.{statement}
 use Rattle.words.proofs.count_entries.Tie as tie
 
 abbrev Inv-loop : tie.InvT-loop
-Inv-loop lengths shared region all c₀ c = Counting lengths shared region all c
+Inv-loop lengths shared region all cursor₀ cursor = Counting lengths shared region all cursor
 
 abbrev μ-loop : tie.MeasureT-loop
-μ-loop lengths shared region all c₀ c = all - c .number
+μ-loop lengths shared region all cursor₀ cursor = all - cursor .number .0
 
 root-requires : tie.Need-root-requires Inv-loop μ-loop
 root-requires c κs = search needs
 
 loop-holds : tie.Need-loop-holds Inv-loop μ-loop
-loop-holds c = counting (c .root .ensures) (c .before .before .before .before .pre .0) (c .before .before .before .before .pre .3)
+loop-holds c = counting (c .root .ensures) (c .before .before .before .before .pre .grows) (c .before .before .before .before .pre .count)
 
 end-of-requires : tie.Need-end-of-requires Inv-loop μ-loop
-end-of-requires c κs = omega (arith, c .before .before .loop .inv .way .on (c .if1 .taken) .within, c .before .before .before .before .before .before .before .pre .0 .same)
+end-of-requires c κs = omega (arith, c .before .before .loop .inv .way .on (c .if1 .taken) .within, c .before .before .before .before .before .before .before .pre .grows .same)
 
 regions-of-requires : tie.Need-regions-of-requires Inv-loop μ-loop
-regions-of-requires c κs = (c .before .before .before .before .before .before .before .before .pre .1, c .end-of .ensures .1, omega (arith, c .end-of .ensures .2, c .before .before .before .before .before .before .before .before .pre .0 .same, c .before .before .before .before .before .before .before .before .pre .2))
+regions-of-requires c κs =
+    let p = c .before .before .before .before .before .before .before .before .pre in
+    (p .placed, (c .end-of .ensures .after, omega (arith, c .end-of .ensures .within, p .grows .same, p .same)))
 
 step-requires : tie.Need-step-requires Inv-loop μ-loop
 step-requires c κs =
     let s = c .before .before .before .before .loop .inv in
     let lt = c .before .before .if1 .taken in
-    (c .before .before .before .before .before .before .before .before .before .pre .0, s .way .on lt, omega (arith, s .way .few), counting-fits s lt (c .before .end-of .ensures .0) (ap ones (c .regions-of .ensures)))
+    record {
+      grows = c .before .before .before .before .before .before .before .before .before .pre .grows;
+      on = s .way .on lt;
+      low = omega (arith, s .way .few);
+      fits = counting-fits s lt (c .before .end-of .ensures .end) (ap ones (c .regions-of .ensures));
+    }
 
 loop-less : tie.Need-loop-less Inv-loop μ-loop
 loop-less c = omega (arith, c .step .ensures .number, c .before .before .before .if1 .taken)
 
 loop-again : tie.Need-loop-again Inv-loop μ-loop
-loop-again c = counting-more (c .before .before .before .before .before .loop .inv) (c .before .before .before .if1 .taken) (c .before .before .end-of .ensures .0) (ap ones (c .before .regions-of .ensures)) (c .step .ensures)
+loop-again c = counting-more (c .before .before .before .before .before .loop .inv) (c .before .before .before .if1 .taken) (c .before .before .end-of .ensures .end) (ap ones (c .before .regions-of .ensures)) (c .step .ensures)
 
 returns : tie.Need-returns Inv-loop μ-loop
 returns c = counting-end (c .before .before .loop .inv) (c .if1 .left)

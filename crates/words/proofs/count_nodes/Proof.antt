@@ -7,6 +7,9 @@ use Rattle.words.proofs.Walks.{node-count}
 use Rattle.words.proofs.count_nodes.Statement.{statement}
 use Rattle.words.proofs.count_nodes.Tie as tie
 
+cast-t6 : tie.Need-cast-t6
+cast-t6 c = search needs
+
 grown-requires : tie.Need-grown-requires
 grown-requires c κs = search needs
 
@@ -17,4 +20,4 @@ returns : tie.Need-returns
 returns c = omega (arith, c .grown .ensures, node-count _ _ (c .before .before .before .pre))
 
 pub count-nodes-spec : {M : Type 1} → statement M
-count-nodes-spec = tie.close (tie.spec grown-requires add-result returns)
+count-nodes-spec = tie.close (tie.spec cast-t6 grown-requires add-result returns)

@@ -1,7 +1,7 @@
 -- `buffers::put_index` counts, tests the buffers, and writes: two ways out.
 -- Assumes nothing.
 use Rattle.rules.specs.Indexes.{Index, indexOf}
-use Rattle.node.specs.Columns.{Columns, columnsOf}
+use Rattle.node.specs.Columns.{IndexColumns, indexColumns}
 use Rattle.index.proofs.Answers.{Roomy, no-room, roomy, wrote}
 use borrow.Author.Needs.{needs}
 use Rattle.index.proofs.buffers.put_index.Statement.{statement}
@@ -19,8 +19,8 @@ too-small-requires c κs = search needs
 returns : tie.Need-returns
 returns c = no-room _ _ _ _ (c .before .before .before .count-nodes .ensures) (c .before .before .count-entries .ensures) _ (c .before .too-small .ensures) (c .if1 .taken)
 
-abbrev columns-of : tie.Start → Columns
-columns-of s = let a = s .args in columnsOf (a .text .now) (a .starts .now) (a .lengths .now) (a .shared .now) (a .region .now) (a .score .now)
+abbrev columns-of : tie.Start → IndexColumns
+columns-of s = let a = s .args in indexColumns (a .text .now) (a .starts .now) (a .lengths .now) (a .shared .now) (a .region .now) (a .score .now)
 
 abbrev buffers-of : tie.Start → Index
 buffers-of s = let a = s .args in indexOf (a .order .now) (a .nodes .now) (a .entries .now)
@@ -40,7 +40,7 @@ write-requires : tie.Need-write-requires
 write-requires c κs =
     let s = c .before .before .before .before .before .before in
     let r = room s in
-    (start s .pre, s .before .before .before .count-nodes .ensures, r .for-nodes, r .for-entries)
+    record { lawful = start s .pre; count = s .before .before .before .count-nodes .ensures; row-room = r .for-nodes; entry-room = r .for-entries }
 
 same-length : tie.Need-same-length
 same-length c = search needs
@@ -55,7 +55,7 @@ returns-2 : tie.Need-returns-2
 returns-2 c =
     let s = c .before .before .before .before .before .before .before .before .before .before .before in
     wrote _ _ _ _ (s .before .before .before .count-nodes .ensures) (s .before .before .count-entries .ensures) _ (s .before .too-small .ensures) (s .if1 .left) _ _ _
-    (c .before .before .before .before .before .before .before .before .before .put-order .ensures) (c .before .before .before .before .write .ensures .0) (c .before .before .before .before .write .ensures .1)
+    (c .before .before .before .before .before .before .before .before .before .put-order .ensures) (c .before .before .before .before .write .ensures .rows-now) (c .before .before .before .before .write .ensures .entries-now)
 
 pub put-index-spec : {M : Type 1} → statement M
 put-index-spec =

@@ -26,13 +26,13 @@ name-of-requires : tie.Need-name-of-requires Inv-loop μ-loop
 name-of-requires c κs = search needs
 
 cast-column : tie.Need-cast-column Inv-loop μ-loop
-cast-column c = omega (arith, ap length (c .name-of .ensures), c .before .before .before .before .before .pre .short (c .before .before .loop .i) (c .before .loop-test .taken))
+cast-column c = omega (arith, ap length (c .name-of .ensures), c .before .before .before .before .before .pre .short (c .before .before .loop .stand) (c .before .loop-test .taken))
 
 array-write-column : tie.Need-array-write-column Inv-loop μ-loop
 array-write-column c = search needs
 
-add-i : tie.Need-add-i Inv-loop μ-loop
-add-i c = search needs
+add-stand : tie.Need-add-stand Inv-loop μ-loop
+add-stand c = search needs
 
 loop-less : tie.Need-loop-less Inv-loop μ-loop
 loop-less c = search needs
@@ -54,7 +54,7 @@ lengths-spec =
     name-of-requires
     cast-column
     array-write-column
-    add-i
+    add-stand
     loop-less
     loop-again
     returns)

@@ -41,16 +41,16 @@ region-of-requires : tie.Need-region-of-requires Inv-loop μ-loop
 region-of-requires c κs =
     let a = c .before .before .before .before .args in
     let p = c .before .before .before .before .pre in
-    let i = c .before .before .before .loop .i in
+    let i = c .before .before .before .loop .stand in
     let inside : ℤ → ℤ → Bool = λ e n. inGrid (a .grid) (record { east = e; north = n }) in
     (p .lawful, both-arrive inside (getD (a .east .now) i (pos 0)) (getD (a .north .now) i (pos 0)) (search needs) (search needs) ∙ p .inside i (c .before .before .loop-test .taken))
 
 told : (c : tie.After-region-of Inv-loop μ-loop) →
     let a = c .before .before .before .before .before .args in
-    c .region-of .result ≡ regionIn (a .east .now) (a .north .now) (a .grid) (c .before .before .before .before .loop .i)
+    c .region-of .result ≡ regionIn (a .east .now) (a .north .now) (a .grid) (c .before .before .before .before .loop .stand)
 told c =
     let a = c .before .before .before .before .before .args in
-    let i = c .before .before .before .before .loop .i in
+    let i = c .before .before .before .before .loop .stand in
     let region : ℤ → ℤ → ℕ = λ e n. regionOf (a .grid) (record { east = e; north = n }) in
     c .region-of .ensures ∙ both-arrive region (getD (a .east .now) i (pos 0)) (getD (a .north .now) i (pos 0)) (search needs) (search needs)
 
@@ -58,14 +58,14 @@ cast-column : tie.Need-cast-column Inv-loop μ-loop
 cast-column c =
     let a = c .before .before .before .before .before .args in
     let p = c .before .before .before .before .before .pre in
-    let i = c .before .before .before .before .loop .i in
+    let i = c .before .before .before .before .loop .stand in
     omega (arith, told c, region-less (a .grid) (placeIn (a .east .now) (a .north .now) i) (p .lawful) (p .inside i (c .before .before .before .loop-test .taken)))
 
 array-write-column : tie.Need-array-write-column Inv-loop μ-loop
 array-write-column c = search needs
 
-add-i : tie.Need-add-i Inv-loop μ-loop
-add-i c = search needs
+add-stand : tie.Need-add-stand Inv-loop μ-loop
+add-stand c = search needs
 
 loop-less : tie.Need-loop-less Inv-loop μ-loop
 loop-less c = search needs
@@ -90,7 +90,7 @@ regions-spec =
     region-of-requires
     cast-column
     array-write-column
-    add-i
+    add-stand
     loop-less
     loop-again
     returns)

@@ -30,7 +30,7 @@ name-of-requires-2 c κs = search needs
 shared-requires : tie.Need-shared-requires
 shared-requires c κs = search needs
 
-told : (c : tie.After-shared) → let a = c .before .before .before .before .before .before .args in c .shared .result ≡ sharedIn (a .text .now) (a .starts .now) (a .i)
+told : (c : tie.After-shared) → let a = c .before .before .before .before .before .before .args in c .shared .result ≡ sharedIn (a .text .now) (a .starts .now) (a .stand)
 told c = c .shared .ensures ∙ ap₂ sharedLength (c .before .before .name-of .ensures) (c .before .name-of2 .ensures) ∙ shared-later _ _ _ (c .before .before .before .if1 .left)
 
 cast-result : tie.Need-cast-result

@@ -22,8 +22,8 @@ shared-before-requires c κs = search needs
 array-write-column : tie.Need-array-write-column Inv-loop μ-loop
 array-write-column c = search needs
 
-add-i : tie.Need-add-i Inv-loop μ-loop
-add-i c = search needs
+add-stand : tie.Need-add-stand Inv-loop μ-loop
+add-stand c = search needs
 
 loop-less : tie.Need-loop-less Inv-loop μ-loop
 loop-less c = search needs
@@ -43,7 +43,7 @@ shares-spec =
     loop-holds
     shared-before-requires
     array-write-column
-    add-i
+    add-stand
     loop-less
     loop-again
     returns)

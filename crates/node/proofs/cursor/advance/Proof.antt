@@ -8,8 +8,9 @@ use Rattle.node.proofs.cursor.advance.Statement.{statement}
 use Rattle.node.proofs.cursor.advance.Tie as tie
 
 -- a name's length is a place of the path
+
 length-room : (c : tie.After-wide) → c .wide .result < 25
-length-room c = let s = c .before .before .before .before in omega (arith, s .pre .3 .long, length-short _ _ (s .pre .0) (s .args .c .stand), c .wide .ensures)
+length-room c = let s = c .before .before .before .before in omega (arith, s .pre .step .on .long, length-short _ _ (s .pre .step .grows) (s .args .cursor .stand .0), c .wide .ensures)
 
 wide-requires : tie.Need-wide-requires
 wide-requires c κs = search needs
@@ -21,18 +22,19 @@ element-write-path : tie.Need-element-write-path
 element-write-path c = length-room c
 
 step-requires : tie.Need-step-requires
-step-requires c κs = let p = c .before .before .before .before .pre in (p .0, p .3, p .4, p .5)
+step-requires c κs = c .before .before .before .before .pre .step
 
 pass-requires : tie.Need-pass-requires
 pass-requires c κs =
-    let p = c .before .before .before .before .before .before .pre in
-    (p .1, c .before .step .ensures .after, omega (arith, c .before .step .ensures .within, p .2), p .6)
+    let p = c .before .before .before .before .before .before .before .before .pre in
+    let s = c .before .before .before .step .ensures in
+    record { placed = p .placed; run = (s .after, omega (arith, s .within, p .same)); places = p .places }
 
 returns : tie.Need-returns
 returns c =
-    let s = c .before .before .before .before .before .before .before in
+    let s = c .before .before .before .before .before .before .before .before .before in
     let p = s .pre in
-    advanced _ _ (p .0) _ _ (s .args .path .now) (s .args .c) _ _ _ (p .3) (p .7) (p .8) (c .before .before .before .wide .ensures) (c .before .before .step .ensures) (c .pass .ensures)
+    advanced _ _ (p .step .grows) _ _ (s .args .path .now) (s .args .cursor) _ _ _ (p .step .on) (p .ways) (p .size) (c .before .before .before .before .before .wide .ensures) (c .before .before .before .before .step .ensures) (c .pass .ensures)
 
 pub advance-spec : {M : Type 1} → statement M
 advance-spec =

@@ -7,10 +7,10 @@ use Rattle.node.proofs.cursor.pass.Statement.{statement}
 use Rattle.node.proofs.cursor.pass.Tie as tie
 
 abbrev Inv-loop : tie.InvT-loop
-Inv-loop region next₀ from to k₀ next k = Passing region from to next k
+Inv-loop region next₀ first end stand₀ next stand = Passing region stand₀ end next stand
 
 abbrev μ-loop : tie.MeasureT-loop
-μ-loop region next₀ from to k₀ next k = to - k
+μ-loop region next₀ first end stand₀ next stand = end - stand
 
 loop-holds : tie.Need-loop-holds Inv-loop μ-loop
 loop-holds c = passing _ _ _ _ (search needs) (search needs)
@@ -25,13 +25,13 @@ element-copy-out-next : tie.Need-element-copy-out-next Inv-loop μ-loop
 element-copy-out-next c = search needs
 
 add-next : tie.Need-add-next Inv-loop μ-loop
-add-next c = omega (arith, next-small _ _ (c .before .before .before .loop .k) (c .before .region-at .result) (c .before .before .before .before .before .pre .0) (c .before .before .before .loop .inv .places) (search needs) (c .before .region-at .ensures .1))
+add-next c = omega (arith, next-small _ _ (c .before .before .before .loop .stand) (c .before .region-at .result) (c .before .before .before .before .before .pre .placed) (c .before .before .before .loop .inv .places) (search needs) (c .before .region-at .ensures .1))
 
 element-write-next : tie.Need-element-write-next Inv-loop μ-loop
 element-write-next c = search needs
 
-add-k : tie.Need-add-k Inv-loop μ-loop
-add-k c = search needs
+add-stand : tie.Need-add-stand Inv-loop μ-loop
+add-stand c = search needs
 
 loop-less : tie.Need-loop-less Inv-loop μ-loop
 loop-less c = search needs
@@ -54,7 +54,7 @@ pass-spec =
     element-copy-out-next
     add-next
     element-write-next
-    add-k
+    add-stand
     loop-less
     loop-again
     returns)

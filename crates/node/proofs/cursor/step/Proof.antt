@@ -1,4 +1,5 @@
 -- `node::cursor::step` meets its contract: the loop's invariant is `Stepping`, whose laws are of proofs/Steps.antt. Assumes nothing.
+use borrow.Author.Tests.{ltb-true, ltb-false}
 use borrow.Author.Needs.{needs}
 use native.Mathlib.Omega.{arith}
 use Prim.Native.Nat.{_+_, _-_}
@@ -9,46 +10,52 @@ use Rattle.node.proofs.cursor.step.Statement.{statement}
 use Rattle.node.proofs.cursor.step.Tie as tie
 
 abbrev Inv-loop : tie.InvT-loop
-Inv-loop lengths shared held i₀ l₀ number entries i l = Stepping lengths shared i₀ l₀ number i l
+Inv-loop lengths shared held number entries stands stand₀ length₀ stand length = Stepping lengths shared stand₀ length₀ (number .0) stand length
 
 abbrev μ-loop : tie.MeasureT-loop
-μ-loop lengths shared held i₀ l₀ number entries i l = length lengths - i
+μ-loop lengths shared held number entries stands stand₀ length₀ stand length = stands - stand
 
-add-l : tie.Need-add-l Inv-loop μ-loop
-add-l c = omega (arith, c .before .before .before .pre .1 .long, length-short _ _ (c .before .before .before .pre .0) (c .before .before .before .args .c .stand))
-
-add-number : tie.Need-add-number Inv-loop μ-loop
-add-number c = search needs
+add-t10 : tie.Need-add-t10 Inv-loop μ-loop
+add-t10 c = search needs
 
 add-entries : tie.Need-add-entries Inv-loop μ-loop
 add-entries c = search needs
 
+cast-stands : tie.Need-cast-stands Inv-loop μ-loop
+cast-stands c = search needs
+
+add-length : tie.Need-add-length Inv-loop μ-loop
+add-length c = let s = c .before .before .before .before .before in omega (arith, s .pre .on .long, length-short _ _ (s .pre .grows) (s .args .cursor .stand .0))
+
 loop-holds : tie.Need-loop-holds Inv-loop μ-loop
-loop-holds c = stepping _ _ (c .before .before .before .before .before .pre .0) (c .before .before .before .before .before .args .c) (c .before .before .before .before .before .pre .1)
+loop-holds c = let s = c .before .before .before .before .before in stepping _ _ (s .pre .grows) (s .args .cursor) (s .pre .on)
+
+cast-if1 : tie.Need-cast-if1 Inv-loop μ-loop
+cast-if1 c = search needs
 
 shared-slice-read-if1 : tie.Need-shared-slice-read-if1 Inv-loop μ-loop
 shared-slice-read-if1 c = search needs
 
-returns : tie.Need-returns Inv-loop μ-loop
-returns c = stepped _ _ (c .before .before .before .before .before .before .before .before .before .pre .0) (c .before .before .before .before .before .before .before .before .before .args .c) _ _ _ (c .before .before .before .loop .inv) (λ h. c .if1 .taken)
-
-add-i : tie.Need-add-i Inv-loop μ-loop
-add-i c = search needs
+add-stand : tie.Need-add-stand Inv-loop μ-loop
+add-stand c = search needs
 
 value-at-requires : tie.Need-value-at-requires Inv-loop μ-loop
 value-at-requires c κs = search needs
 
-add-l-2 : tie.Need-add-l-2 Inv-loop μ-loop
-add-l-2 c = omega (arith, shared-short _ _ (c .before .before .before .before .before .before .before .before .before .before .pre .0) (c .before .before .before .before .loop .i + 1), c .value-at .ensures)
+add-length-2 : tie.Need-add-length-2 Inv-loop μ-loop
+add-length-2 c = omega (arith, shared-short _ _ (c .before .before .before .before .before .before .before .before .before .before .pre .grows) (c .before .before .before .before .loop .stand + 1), c .value-at .ensures)
 
 loop-less : tie.Need-loop-less Inv-loop μ-loop
 loop-less c = search needs
 
 loop-again : tie.Need-loop-again Inv-loop μ-loop
-loop-again c = stepping-more _ _ (c .before .before .before .before .before .before .before .before .before .before .pre .0) _ _ _ _ _ _ (c .before .before .before .before .loop .inv) (search needs) (c .before .if1 .left) (c .value-at .ensures)
+loop-again c = stepping-more _ _ (c .before .before .before .before .before .before .before .before .before .before .pre .grows) _ _ _ _ _ _ (c .before .before .before .before .loop .inv) (search needs) (ltb-true _ _ (c .before .if1 .taken)) (c .value-at .ensures)
+
+returns : tie.Need-returns Inv-loop μ-loop
+returns c = let s = c .before .before .before .before .before .before .before .before .before in stepped _ _ (s .pre .grows) (s .args .cursor) _ _ _ (c .before .before .before .loop .inv) (λ h. ltb-false _ _ (c .if1 .left))
 
 returns-2 : tie.Need-returns-2 Inv-loop μ-loop
-returns-2 c = stepped _ _ (c .before .before .before .before .before .before .before .pre .0) (c .before .before .before .before .before .before .before .args .c) _ _ _ (c .before .loop .inv) (λ h. absurd (omega arith))
+returns-2 c = let s = c .before .before .before .before .before .before .before in stepped _ _ (s .pre .grows) (s .args .cursor) _ _ _ (c .before .loop .inv) (λ h. absurd (omega arith))
 
 pub step-spec : {M : Type 1} → statement M
 step-spec =
@@ -56,15 +63,17 @@ step-spec =
     (tie.spec
     Inv-loop
     μ-loop
-    add-l
-    add-number
+    add-t10
     add-entries
+    cast-stands
+    add-length
     loop-holds
+    cast-if1
     shared-slice-read-if1
-    returns
-    add-i
+    add-stand
     value-at-requires
-    add-l-2
+    add-length-2
     loop-less
     loop-again
+    returns
     returns-2)

@@ -1,4 +1,6 @@
 -- `node::tally::end_of` meets its contract: the loop's invariant is `Ending`, whose laws are of proofs/Ends.antt. Assumes nothing.
+use borrow.Author.Tests.{leb-true, leb-false}
+use mathlib.Core.Logic.{⊎-elim}
 use borrow.Author.Needs.{needs}
 use Prim.Native.Nat.{_-_}
 use lib.ListN.{length}
@@ -7,16 +9,19 @@ use Rattle.node.proofs.tally.end_of.Statement.{statement}
 use Rattle.node.proofs.tally.end_of.Tie as tie
 
 abbrev Inv-loop : tie.InvT-loop
-Inv-loop shared i l e₀ e = Ending shared i l e
+Inv-loop shared bytes first past₀ past = Ending shared first bytes past
 
 abbrev μ-loop : tie.MeasureT-loop
-μ-loop shared i l e₀ e = length shared - e
+μ-loop shared bytes first past₀ past = length shared - past
+
+cast-first : tie.Need-cast-first Inv-loop μ-loop
+cast-first c = search needs
 
 returns : tie.Need-returns Inv-loop μ-loop
 returns c = ended _ _ _ (c .if1 .taken) (search needs)
 
-add-e : tie.Need-add-e Inv-loop μ-loop
-add-e c = search needs
+add-past : tie.Need-add-past Inv-loop μ-loop
+add-past c = search needs
 
 loop-holds : tie.Need-loop-holds Inv-loop μ-loop
 loop-holds c = ending _ _ _ (search needs)
@@ -24,20 +29,22 @@ loop-holds c = ending _ _ _ (search needs)
 shared-slice-read-if2 : tie.Need-shared-slice-read-if2 Inv-loop μ-loop
 shared-slice-read-if2 c = search needs
 
-returns-2 : tie.Need-returns-2 Inv-loop μ-loop
-returns-2 c = ending-here _ _ _ _ (c .before .before .before .loop .inv) (search needs) (c .if2 .taken)
-
-add-e-2 : tie.Need-add-e-2 Inv-loop μ-loop
-add-e-2 c = search needs
+add-past-2 : tie.Need-add-past-2 Inv-loop μ-loop
+add-past-2 c = search needs
 
 loop-less : tie.Need-loop-less Inv-loop μ-loop
 loop-less c = search needs
 
 loop-again : tie.Need-loop-again Inv-loop μ-loop
-loop-again c = ending-more _ _ _ _ (c .before .before .before .loop .inv) (search needs) (c .if2 .left)
+loop-again c = ending-more _ _ _ _ (c .before .before .before .loop .inv) (search needs) (leb-true _ _ (c .if2 .taken))
 
-returns-3 : tie.Need-returns-3 Inv-loop μ-loop
-returns-3 c = ending-last _ _ _ _ (c .before .loop .inv) (c .loop-test .left)
+cast-t13 : tie.Need-cast-t13 Inv-loop μ-loop
+cast-t13 c = search needs
+
+returns-2 : tie.Need-returns-2 Inv-loop μ-loop
+returns-2 c =
+    let s = c .before .loop .inv in
+    ⊎-elim (λ w. ending-here _ _ _ _ s (w .0 .taken) (leb-false _ _ (w .2 .left))) (λ w. ending-last _ _ _ _ s (w .left)) (c .loop-test .came)
 
 pub end-of-spec : {M : Type 1} → statement M
 end-of-spec =
@@ -45,12 +52,13 @@ end-of-spec =
     (tie.spec
     Inv-loop
     μ-loop
+    cast-first
     returns
-    add-e
+    add-past
     loop-holds
     shared-slice-read-if2
-    returns-2
-    add-e-2
+    add-past-2
     loop-less
     loop-again
-    returns-3)
+    cast-t13
+    returns-2)

@@ -7,13 +7,16 @@ use Rattle.node.proofs.tally.grown.Statement.{statement}
 use Rattle.node.proofs.tally.grown.Tie as tie
 
 abbrev Inv-loop : tie.InvT-loop
-Inv-loop lengths shared i e sum₀ k₀ sum k = Growing lengths shared i e sum k
+Inv-loop lengths shared sum₀ end stand₀ sum stand = Growing lengths shared stand₀ end sum stand
 
 abbrev μ-loop : tie.MeasureT-loop
-μ-loop lengths shared i e sum₀ k₀ sum k = e - k
+μ-loop lengths shared sum₀ end stand₀ sum stand = end - stand
 
 loop-holds : tie.Need-loop-holds Inv-loop μ-loop
 loop-holds c = growing _ _ _ _ (search needs)
+
+cast-row : tie.Need-cast-row Inv-loop μ-loop
+cast-row c = search needs
 
 shared-slice-read-word : tie.Need-shared-slice-read-word Inv-loop μ-loop
 shared-slice-read-word c = search needs
@@ -22,7 +25,7 @@ shared-slice-read-word-2 : tie.Need-shared-slice-read-word-2 Inv-loop μ-loop
 shared-slice-read-word-2 c = search needs
 
 sub-word : tie.Need-sub-word Inv-loop μ-loop
-sub-word c = c .before .before .before .before .before .before .pre .0 .part (c .before .before .before .loop .k) (search needs)
+sub-word c = c .before .before .before .before .before .before .pre .0 .part (c .before .before .before .loop .stand) (search needs)
 
 word-requires : tie.Need-word-requires Inv-loop μ-loop
 word-requires c κs = search needs
@@ -34,8 +37,8 @@ add-sum c =
       growing-fits _ _ _ _ _ _ _ (c .before .before .before .before .before .before .before .pre .0) (search needs) (c .before .before .before .before .loop .inv) (search needs) (c .word .ensures),
     )
 
-add-k : tie.Need-add-k Inv-loop μ-loop
-add-k c = search needs
+add-stand : tie.Need-add-stand Inv-loop μ-loop
+add-stand c = search needs
 
 loop-less : tie.Need-loop-less Inv-loop μ-loop
 loop-less c = search needs
@@ -53,12 +56,13 @@ grown-spec =
     Inv-loop
     μ-loop
     loop-holds
+    cast-row
     shared-slice-read-word
     shared-slice-read-word-2
     sub-word
     word-requires
     add-sum
-    add-k
+    add-stand
     loop-less
     loop-again
     returns)

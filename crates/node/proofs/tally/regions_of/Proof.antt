@@ -6,10 +6,10 @@ use Rattle.node.proofs.tally.regions_of.Statement.{statement}
 use Rattle.node.proofs.tally.regions_of.Tie as tie
 
 abbrev Inv-loop : tie.InvT-loop
-Inv-loop region i e bits₀ k₀ bits k = Marking region i e bits k
+Inv-loop region bits₀ end stand₀ bits stand = Marking region stand₀ end bits stand
 
 abbrev μ-loop : tie.MeasureT-loop
-μ-loop region i e bits₀ k₀ bits k = e - k
+μ-loop region bits₀ end stand₀ bits stand = end - stand
 
 loop-holds : tie.Need-loop-holds Inv-loop μ-loop
 loop-holds c = marking _ _ _ (search needs)
@@ -20,8 +20,8 @@ region-at-requires c κs = search needs
 shl-bits : tie.Need-shl-bits Inv-loop μ-loop
 shl-bits c = search needs
 
-add-k : tie.Need-add-k Inv-loop μ-loop
-add-k c = search needs
+add-stand : tie.Need-add-stand Inv-loop μ-loop
+add-stand c = search needs
 
 loop-less : tie.Need-loop-less Inv-loop μ-loop
 loop-less c = search needs
@@ -41,7 +41,7 @@ regions-of-spec =
     loop-holds
     region-at-requires
     shl-bits
-    add-k
+    add-stand
     loop-less
     loop-again
     returns)

@@ -7,10 +7,10 @@ use Rattle.node.proofs.tally.tally.Statement.{statement}
 use Rattle.node.proofs.tally.tally.Tie as tie
 
 abbrev Inv-loop : tie.InvT-loop
-Inv-loop region score i e next places₀ best₀ bits₀ k₀ places best bits k = Tallying region score next i e places best bits k
+Inv-loop region score next places₀ best₀ bits₀ end stand₀ places best bits stand = Tallying region score next stand₀ end places best bits stand
 
 abbrev μ-loop : tie.MeasureT-loop
-μ-loop region score i e next places₀ best₀ bits₀ k₀ places best bits k = e - k
+μ-loop region score next places₀ best₀ bits₀ end stand₀ places best bits stand = end - stand
 
 loop-holds : tie.Need-loop-holds Inv-loop μ-loop
 loop-holds c = tallying _ _ _ _ _ _ _ (search needs) (search needs) (search needs)
@@ -41,7 +41,7 @@ add-places c =
     omega (
       arith,
       place-small _ _ _ _ _ _ _ _ _ _ (c .before .before .before .before .before .loop .inv) (search needs) (c .before .before .before .region-at .ensures .0) (c .before .before .before .region-at .ensures .1) _ (c .chosen .ensures)
-          (c .before .before .before .before .before .before .before .before .pre .4 (c .before .before .before .region-at .result) (c .before .before .before .region-at .ensures .1)) (search needs),
+          (c .before .before .before .before .before .before .before .before .pre .low (c .before .before .before .region-at .result) (c .before .before .before .region-at .ensures .1)) (search needs),
     )
 
 mul-places : tie.Need-mul-places Inv-loop μ-loop
@@ -58,6 +58,9 @@ element-copy-out-chosen-3 c = search needs
 
 chosen-requires-2 : tie.Need-chosen-requires-2 Inv-loop μ-loop
 chosen-requires-2 c κs = search needs
+
+cast-larger : tie.Need-cast-larger Inv-loop μ-loop
+cast-larger c = search needs
 
 mul-larger : tie.Need-mul-larger Inv-loop μ-loop
 mul-larger c = search needs
@@ -77,8 +80,8 @@ element-write-best c = search needs
 shl-bits : tie.Need-shl-bits Inv-loop μ-loop
 shl-bits c = search needs
 
-add-k : tie.Need-add-k Inv-loop μ-loop
-add-k c = search needs
+add-stand : tie.Need-add-stand Inv-loop μ-loop
+add-stand c = search needs
 
 loop-less : tie.Need-loop-less Inv-loop μ-loop
 loop-less c = search needs
@@ -111,13 +114,14 @@ tally-spec =
     mul-chosen-3
     element-copy-out-chosen-3
     chosen-requires-2
+    cast-larger
     mul-larger
     shared-slice-read-larger
     larger-requires
     mul-best
     element-write-best
     shl-bits
-    add-k
+    add-stand
     loop-less
     loop-again
     returns)

@@ -26,7 +26,7 @@ element-copy-out-entry-row : tie.Need-element-copy-out-entry-row Inv-loop μ-loo
 element-copy-out-entry-row c = search needs
 
 entry-row-requires : tie.Need-entry-row-requires Inv-loop μ-loop
-entry-row-requires c κs = c .before .before .before .before .pre .2 _ (c .before .loop-test .taken)
+entry-row-requires c κs = c .before .before .before .before .pre .0 .small _ (c .before .loop-test .taken)
 
 mul-has-words : tie.Need-mul-has-words Inv-loop μ-loop
 mul-has-words c = search needs
@@ -43,10 +43,10 @@ has-words-requires c κs = (omega arith, omega (arith, ap length (c .before .ent
 returns : tie.Need-returns Inv-loop μ-loop
 returns c =
     let p = c .before .before .before .before .before .before .before .before .pre in
-    slots-not _ _ _ _ _ (p .0) (p .1) _ _ _ (c .before .before .before .before .before .before .loop .inv) _ (c .before .before .before .before .before .loop-test .taken) (c .before .before .before .entry-row .ensures) (breaks _ _ (c .before .has-words .ensures) (c .if1 .taken))
+    slots-not _ _ _ _ _ (p .0 .size) (p .0 .few) _ _ _ (c .before .before .before .before .before .before .loop .inv) _ (c .before .before .before .before .before .loop-test .taken) (c .before .before .before .entry-row .ensures) (breaks _ _ (c .before .has-words .ensures) (c .if1 .taken))
 
-add-k : tie.Need-add-k Inv-loop μ-loop
-add-k c = search needs
+add-rank : tie.Need-add-rank Inv-loop μ-loop
+add-rank c = search needs
 
 loop-less : tie.Need-loop-less Inv-loop μ-loop
 loop-less c = search needs
@@ -54,10 +54,10 @@ loop-less c = search needs
 loop-again : tie.Need-loop-again Inv-loop μ-loop
 loop-again c =
     let p = c .before .before .before .before .before .before .before .before .pre in
-    slots-same _ _ _ _ _ (p .0) (p .1) _ _ _ (c .before .before .before .before .before .before .loop .inv) _ (c .before .before .before .before .before .loop-test .taken) (c .before .before .before .entry-row .ensures) (holds _ _ (c .before .has-words .ensures) (c .if1 .left))
+    slots-same _ _ _ _ _ (p .0 .size) (p .0 .few) _ _ _ (c .before .before .before .before .before .before .loop .inv) _ (c .before .before .before .before .before .loop-test .taken) (c .before .before .before .entry-row .ensures) (holds _ _ (c .before .has-words .ensures) (c .if1 .left))
 
 returns-2 : tie.Need-returns-2 Inv-loop μ-loop
-returns-2 c = slots-all _ _ _ _ _ (c .before .before .before .pre .0) (c .before .before .before .pre .1) _ _ _ (c .before .loop .inv) (c .loop-test .left)
+returns-2 c = slots-all _ _ _ _ _ (c .before .before .before .pre .0 .size) (c .before .before .before .pre .0 .few) _ _ _ (c .before .loop .inv) (c .loop-test .left)
 
 pub has-entries-spec : {M : Type 1} → statement M
 has-entries-spec =
@@ -74,7 +74,7 @@ has-entries-spec =
     slice-aggregate-has-words
     has-words-requires
     returns
-    add-k
+    add-rank
     loop-less
     loop-again
     returns-2)

@@ -15,8 +15,8 @@ abbrev μ-loop : tie.MeasureT-loop
 loop-holds : tie.Need-loop-holds Inv-loop μ-loop
 loop-holds c = matching _ _ _
 
-add-p : tie.Need-add-p Inv-loop μ-loop
-add-p c = search needs
+add-place : tie.Need-add-place Inv-loop μ-loop
+add-place c = search needs
 
 returns : tie.Need-returns Inv-loop μ-loop
 returns c = matching-short _ _ _ _ (c .before .before .loop .inv) (c .before .loop-test .taken) (c .if1 .taken)
@@ -36,8 +36,8 @@ shared-slice-read-if2-2 c = search needs
 returns-2 : tie.Need-returns-2 Inv-loop μ-loop
 returns-2 c = matching-not _ _ _ _ (c .before .before .before .before .before .loop .inv) (c .before .before .before .before .loop-test .taken) (c .before .before .before .if1 .left) (c .if2 .taken)
 
-add-k : tie.Need-add-k Inv-loop μ-loop
-add-k c = search needs
+add-done : tie.Need-add-done Inv-loop μ-loop
+add-done c = search needs
 
 loop-less : tie.Need-loop-less Inv-loop μ-loop
 loop-less c = search needs
@@ -55,14 +55,14 @@ has-words-spec =
     Inv-loop
     μ-loop
     loop-holds
-    add-p
+    add-place
     returns
     mul-if2
     shared-slice-read-if2
     mul-if2-2
     shared-slice-read-if2-2
     returns-2
-    add-k
+    add-done
     loop-less
     loop-again
     returns-3)

@@ -25,7 +25,7 @@ element-copy-out-entry-row : tie.Need-element-copy-out-entry-row Inv-loop μ-loo
 element-copy-out-entry-row c = search needs
 
 entry-row-requires : tie.Need-entry-row-requires Inv-loop μ-loop
-entry-row-requires c κs = c .before .before .before .before .pre .2 _ (c .before .loop-test .taken)
+entry-row-requires c κs = c .before .before .before .before .pre .0 .small _ (c .before .loop-test .taken)
 
 mul-put-words : tie.Need-mul-put-words Inv-loop μ-loop
 mul-put-words c = search needs
@@ -39,8 +39,8 @@ slice-aggregate-put-words c = search needs
 put-words-requires : tie.Need-put-words-requires Inv-loop μ-loop
 put-words-requires c κs = omega (arith, ap length (c .before .before .entry-row .ensures), c .before .before .before .before .before .loop .inv .size)
 
-add-k : tie.Need-add-k Inv-loop μ-loop
-add-k c = search needs
+add-rank : tie.Need-add-rank Inv-loop μ-loop
+add-rank c = search needs
 
 loop-less : tie.Need-loop-less Inv-loop μ-loop
 loop-less c = search needs
@@ -48,13 +48,13 @@ loop-less c = search needs
 loop-again : tie.Need-loop-again Inv-loop μ-loop
 loop-again c =
     let p = c .before .before .before .before .before .before .before .before .before .before .pre in
-    slots-more _ _ _ _ _ (p .0) (p .1) _ _ _ _ _ _ (p .3) (c .before .before .before .before .before .before .before .before .loop .inv) (c .before .before .before .before .before .before .before .loop-test .taken) (c .before .before .before .before .before .entry-row .ensures) (c .before .before .put-words .ensures)
+    slots-more _ _ _ _ _ (p .0 .size) (p .0 .few) _ _ _ _ _ _ (p .1) (c .before .before .before .before .before .before .before .before .loop .inv) (c .before .before .before .before .before .before .before .loop-test .taken) (c .before .before .before .before .before .entry-row .ensures) (c .before .before .put-words .ensures)
 
 same-length : tie.Need-same-length Inv-loop μ-loop
 same-length c = c .before .loop .inv .size
 
 returns : tie.Need-returns Inv-loop μ-loop
-returns c = slots-end _ _ _ _ _ (c .before .before .before .pre .0) (c .before .before .before .pre .1) _ _ _ _ (c .before .loop .inv) (c .loop-test .left)
+returns c = slots-end _ _ _ _ _ (c .before .before .before .pre .0 .size) (c .before .before .before .pre .0 .few) _ _ _ _ (c .before .loop .inv) (c .loop-test .left)
 
 pub put-entries-spec : {M : Type 1} → statement M
 put-entries-spec =
@@ -70,7 +70,7 @@ put-entries-spec =
     add-put-words
     slice-aggregate-put-words
     put-words-requires
-    add-k
+    add-rank
     loop-less
     loop-again
     same-length

@@ -30,8 +30,8 @@ mul-room-2 c = search needs
 slice-write-room : tie.Need-slice-write-room Inv-loop μ-loop
 slice-write-room c = search needs
 
-add-k : tie.Need-add-k Inv-loop μ-loop
-add-k c = search needs
+add-done : tie.Need-add-done Inv-loop μ-loop
+add-done c = search needs
 
 loop-less : tie.Need-loop-less Inv-loop μ-loop
 loop-less c = search needs
@@ -57,7 +57,7 @@ put-words-spec =
     add-room
     mul-room-2
     slice-write-room
-    add-k
+    add-done
     loop-less
     loop-again
     same-length

@@ -2,7 +2,7 @@
 use borrow.Author.Needs.{needs}
 use native.Mathlib.Omega.{arith}
 use Rattle.base.proofs.Tests.{breaks, holds}
-use Rattle.words.proofs.Turns.{gather-asks, row-asks, row-size, advance-asks, row-differs, entries-differ, agrees}
+use Rattle.words.proofs.Turns.{gather-asks, held-asks, row-asks, row-size, advance-asks, row-differs, entries-differ, agrees}
 use Rattle.words.proofs.turn.check_node.Statement.{statement}
 use Rattle.words.proofs.turn.check_node.Tie as tie
 
@@ -11,16 +11,16 @@ abbrev start : tie.After-gather → tie.Start
 start c = c .before .before .before .before .before .before .before .before .before .before .before .before .before
 
 gather-requires : tie.Need-gather-requires
-gather-requires c κs = let p = c .before .before .before .before .before .before .before .before .before .before .before .before .pre in gather-asks (p .0) (p .1)
+gather-requires c κs = let p = c .before .before .before .before .before .before .before .before .before .before .before .before .pre in gather-asks p
 
 row-requires : tie.Need-row-requires
-row-requires c κs = let p = start (c .before) .pre in row-asks (p .0) (p .1) (c .before .gather .ensures)
+row-requires c κs = let p = start (c .before) .pre in row-asks p (c .before .gather .ensures)
 
 cast-has-words : tie.Need-cast-has-words
 cast-has-words c = search needs
 
 mul-has-words : tie.Need-mul-has-words
-mul-has-words c = omega (arith, start (c .before .before .before) .pre .1 .low)
+mul-has-words c = omega (arith, start (c .before .before .before) .pre .standing .low)
 
 slice-aggregate-has-words : tie.Need-slice-aggregate-has-words
 slice-aggregate-has-words c = search needs
@@ -30,33 +30,33 @@ has-words-requires c κs =
     let at-row = c .before .before in
     let gathered = at-row .before .before in
     let p = start gathered .pre in
-    (omega (arith, p .1 .low), omega (arith, row-size (p .0) (p .1) (gathered .gather .ensures) (at-row .row .ensures)))
+    (omega (arith, p .standing .low), omega (arith, row-size p (gathered .gather .ensures) (at-row .row .ensures)))
 
 returns : tie.Need-returns
 returns c =
     let at-row = c .before .before .before .before in
     let gathered = at-row .before .before in
     let p = start gathered .pre in
-    row-differs (p .0) (p .1) (gathered .gather .ensures) (at-row .row .ensures) (breaks _ _ (c .before .has-words .ensures) (c .if1 .taken))
+    row-differs p (gathered .gather .ensures) (at-row .row .ensures) (breaks _ _ (c .before .has-words .ensures) (c .if1 .taken))
 
 cast-has-entries : tie.Need-cast-has-entries
 cast-has-entries c = search needs
 
 mul-has-entries : tie.Need-mul-has-entries
-mul-has-entries c = let p = start (c .before .before .before .before .before .before .before) .pre in omega (arith, p .1 .low, p .1 .few)
+mul-has-entries c = let p = start (c .before .before .before .before .before .before .before) .pre in omega (arith, p .standing .low, p .standing .few)
 
 has-entries-requires : tie.Need-has-entries-requires
 has-entries-requires c κs =
     let gathered = c .before .before .before .before .before .before .before .before .before .before .before in
     let p = start gathered .pre in
     let g = gathered .gather .ensures in
-    (g .ranked-size, g .few, g .small, omega (arith, p .1 .low, p .1 .few))
+    (held-asks p g, omega (arith, p .standing .low, p .standing .few))
 
 returns-2 : tie.Need-returns-2
 returns-2 c =
     let gathered = c .before .before .before .before .before .before .before .before .before .before .before .before .before in
     let p = start gathered .pre in
-    entries-differ (p .0) (p .1) (gathered .gather .ensures) (breaks _ _ (c .before .has-entries .ensures) (c .if2 .taken))
+    entries-differ p (gathered .gather .ensures) (breaks _ _ (c .before .has-entries .ensures) (c .if2 .taken))
 
 cast-advance : tie.Need-cast-advance
 cast-advance c = search needs
@@ -65,7 +65,7 @@ advance-requires : tie.Need-advance-requires
 advance-requires c κs =
     let gathered = c .before .before .before .before .before .before .before .before .before .before .before .before .before .before .before .before in
     let p = start gathered .pre in
-    advance-asks (p .0) (p .1) (gathered .gather .ensures)
+    advance-asks p (gathered .gather .ensures)
 
 returns-3 : tie.Need-returns-3
 returns-3 c =
@@ -74,7 +74,7 @@ returns-3 c =
     let at-row = at-words .before .before .before .before in
     let gathered = at-row .before .before in
     let p = start gathered .pre in
-    agrees (p .0) (p .1) (gathered .gather .ensures) (at-row .row .ensures)
+    agrees p (gathered .gather .ensures) (at-row .row .ensures)
     (holds _ _ (at-words .before .has-words .ensures) (at-words .if1 .left)) (holds _ _ (at-entries .before .has-entries .ensures) (at-entries .if2 .left)) (c .advance .ensures)
 
 pub check-node-spec : {M : Type 1} → statement M

@@ -1,7 +1,7 @@
 -- `words::turn::write_node` meets its contract, by those of the calls that it makes and the laws of proofs/Turns.antt. Assumes nothing.
 use borrow.Author.Needs.{needs}
 use native.Mathlib.Omega.{arith}
-use Rattle.words.proofs.Turns.{gather-asks, row-asks, row-size, count-now, advance-asks, moved, wrote}
+use Rattle.words.proofs.Turns.{gather-asks, held-asks, row-asks, row-size, count-now, advance-asks, moved, wrote}
 use Rattle.words.proofs.turn.write_node.Statement.{statement}
 use Rattle.words.proofs.turn.write_node.Tie as tie
 
@@ -10,10 +10,10 @@ abbrev start : tie.After-gather → tie.Start
 start c = c .before .before .before .before .before .before .before .before .before .before .before .before .before
 
 gather-requires : tie.Need-gather-requires
-gather-requires c κs = let p = c .before .before .before .before .before .before .before .before .before .before .before .before .pre in gather-asks (p .0) (p .1)
+gather-requires c κs = let p = c .before .before .before .before .before .before .before .before .before .before .before .before .pre in gather-asks (p .turn)
 
 row-requires : tie.Need-row-requires
-row-requires c κs = let p = start (c .before) .pre in row-asks (p .0) (p .1) (c .before .gather .ensures)
+row-requires c κs = let p = start (c .before) .pre in row-asks (p .turn) (c .before .gather .ensures)
 
 cast-put-words : tie.Need-cast-put-words
 cast-put-words c = search needs
@@ -29,7 +29,7 @@ put-words-requires c κs =
     let at-row = c .before .before .before in
     let gathered = at-row .before .before in
     let p = start gathered .pre in
-    omega (arith, p .2 .row-room, row-size (p .0) (p .1) (gathered .gather .ensures) (at-row .row .ensures))
+    omega (arith, p .room .row-room, row-size (p .turn) (gathered .gather .ensures) (at-row .row .ensures))
 
 cast-put-entries : tie.Need-cast-put-entries
 cast-put-entries c = search needs
@@ -42,7 +42,7 @@ put-entries-requires c κs =
     let gathered = c .before .before .before .before .before .before .before .before .before .before .before .before .before .before in
     let p = start gathered .pre in
     let g = gathered .gather .ensures in
-    (g .ranked-size, g .few, g .small, omega (arith, p .2 .entry-room, count-now (p .0) (p .1) g))
+    (held-asks (p .turn) g, omega (arith, p .room .entry-room, count-now (p .turn) g))
 
 cast-advance : tie.Need-cast-advance
 cast-advance c = search needs
@@ -51,7 +51,7 @@ advance-requires : tie.Need-advance-requires
 advance-requires c κs =
     let gathered = c .before .before .before .before .before .before .before .before .before .before .before .before .before .before .before .before .before .before .before .before in
     let p = start gathered .pre in
-    advance-asks (p .0) (p .1) (gathered .gather .ensures)
+    advance-asks (p .turn) (gathered .gather .ensures)
 
 same-length : tie.Need-same-length
 same-length c = search needs
@@ -67,7 +67,7 @@ returns c =
     let gathered = at-row .before .before in
     let p = start gathered .pre in
     let g = gathered .gather .ensures in
-    (moved (p .0) (p .1) g (c .advance .ensures), wrote (p .0) (p .1) g (at-row .row .ensures) (at-words .put-words .ensures) (at-entries .put-entries .ensures))
+    record { moved = moved (p .turn) g (c .advance .ensures); wrote = wrote (p .turn) g (at-row .row .ensures) (at-words .put-words .ensures) (at-entries .put-entries .ensures) }
 
 pub write-node-spec : {M : Type 1} → statement M
 write-node-spec =
