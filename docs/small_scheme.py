@@ -1,5 +1,6 @@
 #!/usr/bin/env python3
-"""Draws docs/small-scheme.svg: the small scheme's grid, two of its cells enlarged, its letter tree, and the two entries that line 8's tie turns on.
+"""Draws docs/small-scheme.svg: the small scheme's grid, two of its cells enlarged, its letter tree, and the two entries that line 8's
+tie turns on.
 
     python3 docs/small_scheme.py > docs/small-scheme.svg
 """
@@ -52,7 +53,8 @@ def held_cell(number):
 
 
 def cell_box(number, x, y, side):
-    return [f'<rect x="{x}" y="{y}" width="{side}" height="{side}" class="{held_cell(number)}"/>', text(x + 3, y + side - 4, number, "small")]
+    box = f'<rect x="{x}" y="{y}" width="{side}" height="{side}" class="{held_cell(number)}"/>'
+    return [box, text(x + 3, y + side - 4, number, "small")]
 
 
 def dot(x, y, radius):
