@@ -80,7 +80,7 @@ fn siblings() -> Vec<Row> {
     names.into_iter().enumerate().map(|(i, name)| (name, place(i % REGIONS, i / REGIONS, 0), i as u32 % 1_001)).collect()
 }
 
-/// The most nodes that 1,024 names have: they part at the second letter.
+/// About the most nodes that 1,024 names have: they part at the second letter.
 fn apart() -> Vec<Row> {
     (0..MOST).map(|i| (long(&[LETTERS[i / 32], LETTERS[i % 32]]), place(i % REGIONS, i / REGIONS, 0), i as u32 % 1_001)).collect()
 }
@@ -91,7 +91,7 @@ pub const TABLES: [(&str, &str, fn() -> Vec<Row>); 8] = [
     ("share-23", "names of 24 bytes that share 23", share_23),
     ("one-cell", "equal names of 24 bytes in one cell, the nearer the later", one_cell),
     ("each-cell-rising", "16 names of 24 bytes, each in each cell, scores rising with the region", each_cell_rising),
-    ("each-cell-falling", "the same, scores falling with the region", each_cell_falling),
+    ("each-cell-falling", "16 names of 24 bytes, each in each cell, scores falling with the region", each_cell_falling),
     ("ties", "equal names and scores, 16 at one place in each cell", ties),
     ("siblings", "at each of 24 letters all 37 allowed bytes", siblings),
     ("apart", "names of 24 bytes that part at the second", apart),

@@ -1,6 +1,6 @@
 //! Words at their boundaries: of each kind of word one after the other that the answers go by, set to every number at which a test of it
-//! can turn, the node's own among them, and then all calls that read it. The index has just its length or a word less or more, in memory
-//! that ends with it, so that under valgrind a call that reads one word too far is seen.
+//! can turn, the node's own among them, and then all calls that read it. Each part has just its length, or one of them a word less or
+//! more, in memory that ends with it, so that under valgrind a call that reads one word too far is seen.
 
 use crate::compare_check;
 use crate::damage;
@@ -50,15 +50,28 @@ fn word<'a>(dice: &mut Dice, kind: Kind, set: &'a mut Owned, session: &'a mut Se
     }
 }
 
-/// A word less or more in one part of the index, or none.
-fn lengthened(dice: &mut Dice, set: &mut Owned) {
-    let part = [&mut set.order, &mut set.nodes, &mut set.entries].into_iter().nth(dice.below(3)).expect("three parts");
+/// A word less or more in a part, or none, in memory that ends with it.
+fn resized<T>(dice: &mut Dice, part: &mut Vec<T>, word: T) {
     match dice.below(4) {
         0 => drop(part.pop()),
-        1 => part.push(dice.word() as u32),
+        1 => part.push(word),
         _ => {}
     }
     part.shrink_to_fit();
+}
+
+fn one_part_resized(dice: &mut Dice, set: &mut Owned) {
+    let word = dice.word();
+    match dice.below(8) {
+        0 => resized(dice, &mut set.text, word as u8),
+        1 => resized(dice, &mut set.starts, word as u32),
+        2 => resized(dice, &mut set.east, word as i32),
+        3 => resized(dice, &mut set.north, word as i32),
+        4 => resized(dice, &mut set.score, word as u32),
+        5 => resized(dice, &mut set.order, word as u32),
+        6 => resized(dice, &mut set.nodes, word as u32),
+        _ => resized(dice, &mut set.entries, word as u32),
+    }
 }
 
 /// All calls that go by the letters' node: as a text, past it to a sibling, as a session, one letter further, one letter less.
@@ -101,7 +114,7 @@ pub fn compare_boundaries(dice: &mut Dice, counts: &mut Counts, whole: &Owned, t
     for kind in kinds() {
         for turn in 0..boundaries.len() + 3 {
             let mut set = whole.clone();
-            lengthened(dice, &mut set);
+            one_part_resized(dice, &mut set);
             let number = if dice.once_in(4) { beginnings.len() - 1 } else { dice.below(beginnings.len()) };
             let text = beginnings[number].clone();
             let value = boundaries.get(turn).copied().unwrap_or((number + turn - boundaries.len()) as u32);

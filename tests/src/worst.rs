@@ -67,7 +67,8 @@ fn print_most(rows: &[(&str, Vec<Most>)]) {
     println!("| call | most | on | asked |");
     println!("|---|---|---|---|");
     for (call, name) in CALLS.iter().enumerate() {
-        let (title, worst) = rows.iter().map(|(title, most)| (title, &most[call])).max_by_key(|(_, m)| m.count).expect("some tables");
+        let all = rows.iter().map(|(title, most)| (title, &most[call]));
+        let (title, worst) = all.reduce(|a, b| if a.1.count < b.1.count { b } else { a }).expect("some tables");
         println!("| `{name}` | {} | {title} | {} |", worst.count, worst.asked);
     }
 }
