@@ -1,5 +1,6 @@
 #!/usr/bin/env python3
-"""Draws docs/small-scheme.svg: the small scheme's grid, its letter tree, and the two entries that line 8's tie turns on.
+"""Draws docs/small-scheme.svg: the small scheme's grid, two of its cells enlarged, its letter tree, and the two entries that line 8's
+tie turns on.
 
     python3 docs/small_scheme.py > docs/small-scheme.svg
 """
@@ -10,6 +11,7 @@ PLACE = (5, 5)
 
 PX = 44                      # a cell of the drawing
 GRID_X, GRID_Y = 40, 64      # its upper left corner
+LENS_Y = 450                 # the upper edge of cells 0 and 1, enlarged
 TREE_X, TREE_Y = 470, 84
 STEP_X, STEP_Y = 88, 62      # a letter to the right, a branch down
 
@@ -46,24 +48,53 @@ def text(x, y, words, kind="", anchor="start"):
     return f'<text x="{x}" y="{y}" text-anchor="{anchor}"{style}>{words}</text>'
 
 
+def held_cell(number):
+    return "held" if number in {region(s) for s in STANDS} else "cell"
+
+
+def cell_box(number, x, y, side):
+    box = f'<rect x="{x}" y="{y}" width="{side}" height="{side}" class="{held_cell(number)}"/>'
+    return [box, text(x + 3, y + side - 4, number, "small")]
+
+
+def dot(x, y, radius):
+    return f'<circle cx="{x:.1f}" cy="{y:.1f}" r="{radius}" class="stand"/>'
+
+
 def draw_grid():
     out = [text(GRID_X, 34, "Five stands on the grid: cells of 10 metres", "head")]
     for row in range(SIDE):
         for column in range(SIDE):
-            x, y = GRID_X + column * PX, GRID_Y + (SIDE - 1 - row) * PX
-            number = row * SIDE + column
-            held = number in {region(s) for s in STANDS}
-            out.append(f'<rect x="{x}" y="{y}" width="{PX}" height="{PX}" class="{"held" if held else "cell"}"/>')
-            out.append(text(x + 3, y + 11, number, "small"))
-    labels = {0: (-20, 20), 1: (-52, 4), 2: (9, 14), 3: (-45, -7), 4: (8, -7)}
+            out += cell_box(row * SIDE + column, GRID_X + column * PX, GRID_Y + (SIDE - 1 - row) * PX, PX)
     for i, (name, east, north, _) in enumerate(STANDS):
         x, y = GRID_X + (east + 0.5) * PX / CELL, GRID_Y + SIDE * PX - (north + 0.5) * PX / CELL
-        out.append(f'<circle cx="{x:.1f}" cy="{y:.1f}" r="4" class="stand"/>')
-        dx, dy = labels[i]
-        out.append(text(f"{x + dx:.1f}", f"{y + dy:.1f}", f"{i} {name}", "name"))
+        out.append(dot(x, y, 1.8))
+        if region(STANDS[i]) > 1:
+            out.append(text(f"{x:.1f}", f"{y - 7:.1f}", f"{i} {name}", "tiny", "middle"))
     below = GRID_Y + SIDE * PX
-    out.append(text(GRID_X, below + 18, "0 m", "small"))
-    out.append(text(GRID_X + SIDE * PX, below + 18, "79 m east", "small", "end"))
+    out.append(f'<rect x="{GRID_X}" y="{below - PX}" width="{2 * PX}" height="{PX}" class="lens"/>')
+    out.append(text(GRID_X + SIDE * PX, below + 14, "79 m east", "small", "end"))
+    return out
+
+
+def draw_lens():
+    """Cells 0 and 1 once more, as wide as the whole grid: a metre is a metre there too, and each stand's label is in its cell."""
+    side = SIDE * PX // 2
+    below = GRID_Y + SIDE * PX
+    out = [f'<path d="M{GRID_X} {below} V{LENS_Y} M{GRID_X + 2 * PX} {below} L{GRID_X + 2 * side} {LENS_Y}" class="beam"/>']
+    out += cell_box(0, GRID_X, LENS_Y, side) + cell_box(1, GRID_X + side, LENS_Y, side)
+    for i, stand in enumerate(STANDS):
+        name, east, north, _ = stand
+        if region(stand) < 2:
+            x, y = GRID_X + (east + 0.5) * side / CELL, LENS_Y + side - (north + 0.5) * side / CELL
+            out.append(dot(x, y, 4))
+            left = region(stand) == 0
+            out.append(text(f"{x + (-9 if left else 9):.1f}", f"{y + 4:.1f}", f"{i} {name}", "name", "end" if left else "start"))
+            out.append(text(f"{x + (-9 if left else 9):.1f}", f"{y + 17:.1f}", f"({east}, {north})", "small", "end" if left else "start"))
+    for metre in (0, 9, 10, 19):
+        x = GRID_X + (metre + 0.5) * side / CELL
+        out.append(text(f"{x:.1f}", LENS_Y + side + 14, metre, "small", "middle"))
+    out.append(text(GRID_X, LENS_Y + side + 30, "Metres east. kito at 9 is in cell 0, mto at 10 in cell 1.", "name"))
     return out
 
 
@@ -118,10 +149,13 @@ STYLE = """
 text { font-family: sans-serif; font-size: 13px; fill: #1c2b33; }
 .head { font-size: 14px; font-weight: bold; }
 .small { font-size: 10px; fill: #5a6b75; }
+.tiny { font-size: 11px; }
 .number { font-size: 12px; font-weight: bold; }
 .letter { font-size: 13px; font-style: italic; }
 .cell { fill: #ffffff; stroke: #b9c6cc; }
 .held { fill: #dcecf2; stroke: #7fa3b3; }
+.lens { fill: none; stroke: #9a6a00; stroke-width: 1.5; }
+.beam { fill: none; stroke: #9a6a00; stroke-width: 0.8; stroke-dasharray: 3 3; }
 .stand { fill: #0b5d7a; }
 .edge { fill: none; stroke: #7fa3b3; stroke-width: 1.5; }
 .node { fill: #ffffff; stroke: #0b5d7a; stroke-width: 1.5; }
@@ -132,10 +166,10 @@ text { font-family: sans-serif; font-size: 13px; fill: #1c2b33; }
 
 
 def main():
-    print('<svg xmlns="http://www.w3.org/2000/svg" width="1120" height="530" viewBox="0 0 1120 530">')
+    print('<svg xmlns="http://www.w3.org/2000/svg" width="1120" height="674" viewBox="0 0 1120 674">')
     print(f"<style>{STYLE}</style>")
-    print('<rect width="1120" height="530" fill="#ffffff"/>')
-    print("\n".join(draw_grid() + draw_tree() + draw_tie()))
+    print('<rect width="1120" height="674" fill="#ffffff"/>')
+    print("\n".join(draw_grid() + draw_lens() + draw_tree() + draw_tie()))
     print("</svg>")
 
 

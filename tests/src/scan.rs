@@ -236,15 +236,19 @@ pub fn range(set: &Set, text: &[u8], rect: Rect) -> Vec<u32> {
     found.into_iter().map(|i| i as u32).collect()
 }
 
-fn value(set: &Set, asked: Ranking, stand: usize) -> u64 {
+/// What a stand of this score is worth at a place of the grid.
+pub fn worth(grid: Grid, asked: Ranking, here: Place, score: u32) -> u64 {
     let square = |a: i32, b: i32| (i128::from(a) - i128::from(b)).pow(2);
-    let cell = i128::from(set.grid.cell);
+    let cell = i128::from(grid.cell);
     let diagonal = 128 * cell * cell;
     let weight = i128::from(asked.weight);
-    let here = place(set, stand);
     let distance = square(here.east, asked.place.east) + square(here.north, asked.place.north);
-    let worth = weight * i128::from(set.score[stand]) * diagonal + (16 - weight) * (diagonal - distance) * 1_000;
+    let worth = weight * i128::from(score) * diagonal + (16 - weight) * (diagonal - distance) * 1_000;
     u64::try_from(worth).expect("a stand of the grid has a value")
+}
+
+pub fn value(set: &Set, asked: Ranking, stand: usize) -> u64 {
+    worth(set.grid, asked, place(set, stand), set.score[stand])
 }
 
 /// The stands that a ranked question finds, best first, each with its value.
@@ -265,6 +269,10 @@ pub struct Typist {
 impl Typist {
     pub fn new(set: &Set) -> Typist {
         Typist { beginnings: beginnings(set) }
+    }
+
+    pub fn beginnings(&self) -> &[Vec<u8>] {
+        &self.beginnings
     }
 
     /// The session of some letters.

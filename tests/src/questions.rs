@@ -1,0 +1,137 @@
+//! Both questions, by a text or by a session's letters, held against the scan: exact on a lawful set and session, allowed on any other.
+
+use crate::asking;
+use crate::dice::Dice;
+use crate::finder;
+use crate::owned::Owned;
+use crate::records::{Found, Place, Ranking, Rect, Session};
+use crate::rooms::{room32, room64};
+use crate::scan;
+use crate::Counts;
+
+/// How a question is asked: by a text, in memory of just its length, or by the letters of a session.
+pub enum By {
+    Text(Box<[u8]>),
+    Letters(Session),
+}
+
+impl By {
+    /// The text that is asked for; a length that no session has makes it as long as the record.
+    fn text(&self) -> &[u8] {
+        match self {
+            By::Text(text) => text,
+            By::Letters(session) => &session.text[..24.min(session.len as usize)],
+        }
+    }
+}
+
+/// Of a refusal that is exact, or of 7 on what may be unlawful: whether it may be told, and then nothing is written.
+fn settled(counts: &mut Counts, lawful: bool, answer: Found, refusal: u32) -> bool {
+    if answer.refusal == 7 {
+        assert!(!lawful, "7 on a lawful set and session");
+        assert_eq!(answer.count, 0, "a refusal's other number");
+        counts.noticed += 1;
+        return true;
+    }
+    if refusal != 0 {
+        assert_eq!(answer, Found { refusal, count: 0 }, "the refusal");
+        return true;
+    }
+    false
+}
+
+pub fn compare_range(dice: &mut Dice, counts: &mut Counts, set: &Owned, lawful: bool, by: &By, rect: Rect) {
+    let refusal = scan::range_refusal(by.text(), rect);
+    let found = if lawful && refusal == 0 { scan::range(&set.lent(), by.text(), rect) } else { Vec::new() };
+    let length = if dice.once_in(2) { found.len().saturating_sub(dice.below(2)) } else { dice.below(24) };
+    let mut room = room32(dice, length);
+    let answer = match by {
+        By::Text(text) => finder::range(&set.lent(), text, rect, room.lend()),
+        By::Letters(session) => finder::range_typed(&set.lent(), *session, rect, room.lend()),
+    };
+    counts.ranges += 1;
+    if settled(counts, lawful, answer, refusal) {
+        return room.kept_behind(0);
+    }
+    if lawful {
+        let count = found.len() as u32;
+        let refusal = if length < found.len() { 13 } else { 0 };
+        assert_eq!(answer, Found { refusal, count }, "range");
+        return if refusal == 0 { room.holds(&found) } else { room.kept_behind(0) };
+    }
+    match answer.refusal {
+        0 => {
+            assert!(answer.count as usize <= length, "more found than there is room for");
+            room.kept_behind(answer.count as usize);
+        }
+        13 => {
+            assert!(length < answer.count as usize, "13 where there is room");
+            room.kept_behind(0);
+        }
+        other => panic!("a range question refused {other}"),
+    }
+}
+
+pub fn compare_ranked(dice: &mut Dice, counts: &mut Counts, set: &Owned, lawful: bool, by: &By, asked: Ranking) {
+    let refusal = scan::ranked_refusal(set.grid, by.text(), asked);
+    let k = asked.k.min(20) as usize;
+    let mut length = || if dice.once_in(12) { k.saturating_sub(1) } else { k + dice.below(3) };
+    let lengths = (length(), length());
+    let mut found = room32(dice, lengths.0);
+    let mut values = room64(dice, lengths.1);
+    let answer = match by {
+        By::Text(text) => finder::ranked(&set.lent(), text, asked, found.lend(), values.lend()),
+        By::Letters(session) => finder::ranked_typed(&set.lent(), *session, asked, found.lend(), values.lend()),
+    };
+    counts.ranked += 1;
+    let short = refusal == 0 && (found.len() < k || values.len() < k);
+    if settled(counts, lawful, answer, if short { 13 } else { refusal }) {
+        found.kept_behind(0);
+        return values.kept_behind(0);
+    }
+    assert_eq!(answer.refusal, 0, "a ranked question's refusal");
+    if lawful {
+        let (stands, worths): (Vec<u32>, Vec<u64>) = scan::ranked(&set.lent(), by.text(), asked).into_iter().unzip();
+        assert_eq!(answer.count as usize, stands.len(), "ranked");
+        found.holds(&stands);
+        return values.holds(&worths);
+    }
+    assert!(answer.count as usize <= k, "more than k found");
+    found.kept_behind(answer.count as usize);
+    values.kept_behind(answer.count as usize);
+}
+
+/// Both questions on a text or a session's letters.
+pub fn compare_both(dice: &mut Dice, counts: &mut Counts, set: &Owned, lawful: bool, by: &By) {
+    let rect = asking::rect(dice, &set.lent());
+    compare_range(dice, counts, set, lawful, by, rect);
+    let asked = asking::ranking(dice, &set.lent());
+    compare_ranked(dice, counts, set, lawful, by, asked);
+    if let By::Letters(_) = by {
+        counts.on_letters += 2;
+    }
+}
+
+/// Questions by random texts.
+pub fn compare_questions(dice: &mut Dice, counts: &mut Counts, set: &Owned, lawful: bool, count: usize) {
+    for _ in 0..count {
+        let by = By::Text(asking::text(dice, &set.lent()).into());
+        compare_both(dice, counts, set, lawful, &by);
+        let asked = asking::ranking(dice, &set.lent());
+        compare_small(dice, counts, set, by.text(), asked.place);
+    }
+}
+
+/// The calls that need no index: exact on any input.
+fn compare_small(dice: &mut Dice, counts: &mut Counts, set: &Owned, text: &[u8], place: Place) {
+    assert_eq!(finder::region(set.grid, place), scan::region(set.grid, place), "region");
+    counts.regions += 1;
+    let stand = if dice.once_in(8) { dice.word() as u32 } else { dice.below(set.score.len() + 1) as u32 };
+    compare_rest(counts, set, stand, text);
+}
+
+pub fn compare_rest(counts: &mut Counts, set: &Owned, stand: u32, text: &[u8]) {
+    let part = finder::rest(&set.text, &set.starts, stand, text);
+    assert_eq!(part, scan::rest(&set.text, &set.starts, stand, text), "rest of a name");
+    counts.rests += 1;
+}

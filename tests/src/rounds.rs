@@ -1,0 +1,114 @@
+//! One round of what the figures count, by one of those who can do it: what it answers, so that answers can be compared.
+//! Nothing that a room held before is in it.
+
+use crate::owned::Owned;
+use crate::records::{Found, Session, Set};
+use crate::villages::Question;
+use crate::{finder, plain, port};
+use std::hint::black_box;
+
+#[derive(Clone, Copy, PartialEq)]
+pub enum Who {
+    Finder,
+    Plain,
+    Port,
+    /// A scan that tests the rectangle before the text.
+    Near,
+    /// A port that changes the session in place.
+    InPlace,
+}
+
+impl Who {
+    pub fn of(word: &str) -> Option<Who> {
+        match word {
+            "finder" => Some(Who::Finder),
+            "plain" => Some(Who::Plain),
+            "port" => Some(Who::Port),
+            "near" => Some(Who::Near),
+            "in-place" => Some(Who::InPlace),
+            _ => None,
+        }
+    }
+}
+
+fn build(who: Who, t: &mut Owned) -> Vec<u64> {
+    let (mut order, mut nodes, mut entries) =
+        (std::mem::take(&mut t.order), std::mem::take(&mut t.nodes), std::mem::take(&mut t.entries));
+    let built = match who {
+        Who::Finder => finder::build(&t.lent(), &mut order, &mut nodes, &mut entries),
+        _ => port::build(&t.lent(), &mut order, &mut nodes, &mut entries),
+    };
+    (t.order, t.nodes, t.entries) = (order, nodes, entries);
+    [built.refusal, built.nodes, built.entries].map(u64::from).to_vec()
+}
+
+fn check(who: Who, t: &Owned) -> Vec<u64> {
+    let checked = match who {
+        Who::Finder => finder::check(&t.lent()),
+        _ => port::check(&t.lent()),
+    };
+    [checked.lawful, checked.nodes, checked.entries].map(u64::from).to_vec()
+}
+
+fn told(answer: Found, found: &[u32]) -> impl Iterator<Item = u64> + '_ {
+    std::iter::once(u64::from(answer.count)).chain(found[..answer.count as usize].iter().map(|&s| u64::from(s)))
+}
+
+fn range(who: Who, set: &Set, letters: &[u8], q: &Question) -> Vec<u64> {
+    let mut found = [0u32; 1_024];
+    let answer = match who {
+        Who::Finder => finder::range(set, letters, q.rect, &mut found),
+        Who::Plain => plain::range(set, letters, q.rect, &mut found),
+        Who::Near => plain::range_near(set, letters, q.rect, &mut found),
+        _ => port::range(set, letters, q.rect, &mut found),
+    };
+    told(answer, &found).collect()
+}
+
+fn ranked(who: Who, set: &Set, letters: &[u8], q: &Question) -> Vec<u64> {
+    let mut found = [0u32; 16];
+    let mut values = [0u64; 16];
+    let answer = match who {
+        Who::Finder => finder::ranked(set, letters, q.asked, &mut found, &mut values),
+        Who::Plain => plain::ranked(set, letters, q.asked, &mut found, &mut values),
+        _ => port::ranked(set, letters, q.asked, &mut found, &mut values),
+    };
+    told(answer, &found).chain(values[..answer.count as usize].iter().copied()).collect()
+}
+
+/// Of each letter of a name whether any name goes on so.
+fn typing(who: Who, set: &Set, name: &[u8]) -> Vec<u64> {
+    let mut session = finder::fresh();
+    let mut any = |i: usize, step: &dyn Fn(&mut Session) -> u32| {
+        step(&mut session);
+        session.path[i + 1] != 0
+    };
+    let mut told = Vec::with_capacity(name.len());
+    for (i, &byte) in name.iter().enumerate() {
+        told.push(u64::from(match who {
+            Who::Plain => plain::any(set, &name[..=i]),
+            Who::Finder => any(i, &|s| finder::type_byte(set, s, byte)),
+            Who::InPlace => any(i, &|s| port::type_in_place(set.nodes, s, byte)),
+            _ => any(i, &|s| port::type_byte(set.nodes, s, byte)),
+        }));
+    }
+    told
+}
+
+pub fn round(what: &str, who: Who, t: &mut Owned, asked: &[Question]) -> Vec<u64> {
+    let each = |q: &Question| {
+        let set = black_box(t.lent());
+        let name = t.name(q.stand);
+        let letters = &name[..3.min(name.len())];
+        match what {
+            "range" => range(who, &set, letters, q),
+            "ranked" => ranked(who, &set, letters, q),
+            _ => typing(who, &set, name),
+        }
+    };
+    match what {
+        "build" => build(who, t),
+        "check" => check(who, t),
+        _ => asked.iter().flat_map(each).collect(),
+    }
+}
