@@ -1,6 +1,5 @@
 // The small scheme in node: the library is loaded, builds the index of five stands, and is asked for the best two near a place whose name
-// begins with "ki". Run it behind tools/library wasm32-unknown-unknown:
-//     node examples/ask.mjs
+// begins with "ki". First `tools/library wasm32-unknown-unknown` writes the library, then `node examples/ask.mjs` runs this.
 import { readFileSync } from "node:fs";
 
 const file = new URL("../target/wasm32-unknown-unknown/finder_c.wasm", import.meta.url);
@@ -37,9 +36,11 @@ for (const { name } of stands) starts.push(starts.at(-1) + name.length);
 // The set, as include/krzewido.h has it. A slice is two arguments, where it begins and how many elements it has; a record is where it
 // begins; a record that a call answers is written to where the first argument says.
 const column = (Kind, key) => lend(Kind, stands.map((stand) => stand[key]));
+const grid = lend(Int32Array, [0, 0, 10]);
 const table = [
-  ...slices(lend(Uint8Array, bytes), lend(Uint32Array, starts), column(Int32Array, "east"), column(Int32Array, "north"), column(Uint32Array, "score")),
-  lend(Int32Array, [0, 0, 10]).at,
+  ...slices(lend(Uint8Array, bytes), lend(Uint32Array, starts)),
+  ...slices(column(Int32Array, "east"), column(Int32Array, "north"), column(Uint32Array, "score")),
+  grid.at,
 ];
 const index = slices(
   room(Uint32Array, stands.length),

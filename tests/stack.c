@@ -57,10 +57,10 @@ static void build(void) { refused |= krz_build(TABLE, INDEX).refusal; }
 static void check(void) { refused |= !krz_check(SET).lawful; }
 static void region(void) { refused |= krz_region(grid, here).refusal; }
 static void range(void) { refused |= krz_range(SET, text, 2, wide, found, STANDS).refusal; }
-static void ranked(void) { refused |= krz_ranked(SET, text, 2, here, 8, KRZ_K_MOST, found, STANDS, values, KRZ_K_MOST).refusal; }
+static void ranked(void) { refused |= krz_ranked(SET, text, 2, here, 8, 16, found, STANDS, values, KRZ_K_MOST).refusal; }
 static void type(void) { refused |= krz_type(SET, &session, 'a'); }
 static void range_typed(void) { refused |= krz_range_typed(SET, session, wide, found, STANDS).refusal; }
-static void ranked_typed(void) { refused |= krz_ranked_typed(SET, session, here, 8, KRZ_K_MOST, found, STANDS, values, KRZ_K_MOST).refusal; }
+static void ranked_typed(void) { refused |= krz_ranked_typed(SET, session, here, 8, 16, found, STANDS, values, KRZ_K_MOST).refusal; }
 static void rub_out(void) { refused |= krz_rub_out(SET, &session); }
 static void fresh(void) { session = krz_fresh(); }
 static void rest(void) { refused |= krz_rest(text, TEXT_BYTES, starts, STANDS + 1, 9, text, 2).length != 2; }

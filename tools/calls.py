@@ -137,5 +137,5 @@ def disagreements():
 
 if __name__ == "__main__":
     faults = list(disagreements())
-    print("\n".join(faults) or f"the header's {len(declared())} calls are those of the library, and so are its records, refusals and limits")
+    print("\n".join(faults) or f"the header has the library's {len(declared())} calls, and the crates' records, refusals and limits")
     sys.exit(1 if faults else 0)
