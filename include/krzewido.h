@@ -1,10 +1,14 @@
-/* Krzewido, the stand finder, for C. Link with libfinder_c.a.
+/* Krzewido, the stand finder, for C. Link with libfinder_c.a: `rt staticlib finder_c` proves the library and writes it for x86-64 to
+ * target/staticlib, `tools/library TARGET` for another processor to target/TARGET (README, "Linking it"). It needs memcpy and memset and
+ * nothing else of a C library (on Arm by their names __aeabi_memcpy, __aeabi_memclr and so on); on a processor that cannot divide, as a
+ * Cortex-M0, also the helpers that its compiler links by itself.
  *
  * A slice is a pointer and, right behind it, how many elements it has (not bytes). No pointer may be null, not even one of a slice with no
  * elements; each must be aligned for its type. What a call may write (no `const`) must not overlap anything else that is lent to it.
  * Nothing else is asked: any numbers and any words may be passed. A call ends, reads and writes only what it is lent, keeps no pointer,
- * and takes no memory from elsewhere. krz_build and krz_check need 6 KiB of stack, every other call less than 2 KiB. Calls may run
- * at once where none writes what another is lent.
+ * and takes no memory from elsewhere. Calls may run at once where none writes what another is lent. krz_build and krz_check go less than
+ * 7.5 KiB deep into the stack, every other call less than 2 KiB; measured they are 6.1 and 1.4 KiB on x86-64, 6.4 and 1.6 KiB on AArch64,
+ * 6.9 and 1.9 KiB on a Cortex-M4 with -Os.
  *
  * The table: N stands, at most 1,024, a stand's number being its position from 0.
  *   text    the bytes of all names, one behind the other; a name has 1 to 24 bytes, each a to z, 0 to 9 or space
@@ -14,24 +18,16 @@
  * Names stand in byte order, a shorter one before a longer one that begins with it; equal names are two stands.
  *
  * The index is three buffers of words that krz_build fills: order, nodes, entries. Table, grid and index together are a set, passed to
- * every call in the same order. A set is lawful if krz_check says so; a set that krz_build has just written is.
+ * every call in the same order. A set is lawful if krz_check says so; a set that krz_build has just written is. Words are in the machine's
+ * byte order: saved and brought to a machine of the other order, they are no lawful index there.
  *
- * A refusal is a number, 0 for none. With a refusal every other number of the answer is 0, but for the matches that krz_range and
- * krz_range_typed tell with 13; and nothing is written.
- *    1  over 1,024 stands, parts of the table that disagree in length, or starts that do not begin at 0, fall, or end elsewhere
- *    2  the grid is outside its limits
- *    3  a name's length or a byte of it is not allowed
- *    4  names are out of order
- *    5  a stand is outside the grid, or its score is over 1,000
- *    6  a buffer is too small for the index
- *    7  set or session is not lawful, and the call noticed; never given for a lawful one
- *    8  a byte of the text, or the byte typed, is not allowed
- *    9  the text has over 24 bytes, or a 25th is typed
- *   10  nothing to rub out
- *   11  a rectangle with west over east or south over north
- *   12  a place outside the grid, a weight over 16, or k not 1 to 16
- *   13  a room is too small for the answer
- * Where several hold, the first in the order given at the call is told.
+ * Macros of your own keep the calls short, as in tests/example.c:
+ *   #define TABLE text, TEXT_BYTES, starts, STANDS + 1, east, STANDS, north, STANDS, score, STANDS, grid
+ *   #define INDEX order, ORDER_WORDS, nodes, NODES_WORDS, entries, ENTRIES_WORDS
+ *   #define SET TABLE, INDEX
+ *   built = krz_build(TABLE, INDEX);
+ *   answer = krz_ranked(SET, typed, typed_bytes, here, 8, 5, found, KRZ_K_MOST, values, KRZ_K_MOST);
+ *   refusal = krz_type(SET, &session, 'k');
  */
 #ifndef KRZEWIDO_H
 #define KRZEWIDO_H
@@ -45,13 +41,44 @@ extern "C" {
 
 #define KRZ_STANDS_MOST 1024
 #define KRZ_NAME_MOST 24
-#define KRZ_K_MOST 16
+#define KRZ_SCORE_MOST 1000
+#define KRZ_EDGE_MOST 1000000
+#define KRZ_CELL_MOST 8192
+#define KRZ_GRID_SIDE 8
 #define KRZ_WEIGHT_MOST 16
+#define KRZ_K_MOST 16
+#define KRZ_NODE_WORDS 8
+#define KRZ_ENTRY_WORDS 4
 
-/* Room that is always enough for the index of N stands, in words. What krz_build answers tells how much of it is used. */
-#define KRZ_ORDER_WORDS(stands) (stands)
-#define KRZ_NODES_WORDS(stands) (8 * (24 * (stands) + 1))
-#define KRZ_ENTRIES_WORDS(stands) (4 * (25 * (stands)))
+/* Room that is always enough for the index of N stands, in words, and never 0. What krz_build answers tells how much of it is used. */
+#define KRZ_ORDER_WORDS(stands) ((stands) > 0 ? (stands) : 1)
+#define KRZ_NODES_WORDS(stands) KRZ_NODES_WORDS_FOR_TEXT(KRZ_NAME_MOST * (stands))
+#define KRZ_ENTRIES_WORDS(stands) KRZ_ENTRIES_WORDS_FOR_TEXT(KRZ_NAME_MOST * (stands), stands)
+
+/* The same where the table's text is known, which mostly is far shorter than 24 bytes a name: as many nodes as the text has bytes and one
+ * more, as many entries as it has bytes and stands. */
+#define KRZ_NODES_WORDS_FOR_TEXT(bytes) (KRZ_NODE_WORDS * ((bytes) + 1))
+#define KRZ_ENTRIES_WORDS_FOR_TEXT(bytes, stands) ((bytes) + (stands) > 0 ? KRZ_ENTRY_WORDS * ((bytes) + (stands)) : 1)
+
+/* A refusal's number; where nothing is refused it is 0. With a refusal every other number of the answer is 0, but for the matches that
+ * krz_range and krz_range_typed tell with 13; and nothing is written. Where several hold, the first in the order given at the call is told.
+ * The desk program has a number 14 for its input, which no call gives. */
+enum krz_refusal {
+    KRZ_NOT_REFUSED = 0,
+    KRZ_TABLE_MISSHAPEN = 1,           /* over 1,024 stands, parts of unequal length, or starts that do not go from 0 to the text's end */
+    KRZ_GRID_OUTSIDE_LIMITS = 2,       /* an edge or the cell side */
+    KRZ_NAME_NOT_ALLOWED = 3,          /* a name's length or a byte of it */
+    KRZ_NAMES_OUT_OF_ORDER = 4,        /* a name stands before a smaller one */
+    KRZ_STAND_NOT_ALLOWED = 5,         /* a stand outside the grid, or a score over 1,000 */
+    KRZ_BUFFER_TOO_SMALL = 6,          /* a buffer has no room for the index */
+    KRZ_NOT_LAWFUL = 7,                /* set or session is not lawful, and the call noticed; never given for a lawful one */
+    KRZ_TEXT_BYTE_NOT_ALLOWED = 8,     /* a byte of the text, or the byte typed */
+    KRZ_TEXT_TOO_LONG = 9,             /* over 24 bytes, or a 25th typed */
+    KRZ_NOTHING_TO_RUB_OUT = 10,       /* no letter stands */
+    KRZ_RECT_REVERSED = 11,            /* west over east or south over north */
+    KRZ_QUESTION_OUTSIDE_LIMITS = 12,  /* a place outside the grid, a weight over 16, or k not 1 to 16 */
+    KRZ_ROOM_TOO_SMALL = 13            /* a room has fewer places than the answer needs */
+};
 
 /* The grid: 8 by 8 square cells from its west and south edge on. Edges are -1,000,000 to 1,000,000, a cell's side is 1 to 8,192 metres. */
 typedef struct {

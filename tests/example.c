@@ -1,11 +1,12 @@
 /* The small scheme by the C calls: five stands are built into an index, asked by text and by letters typed, and shown. */
-#include <inttypes.h>
 #include <stdio.h>
 #include <string.h>
+#include <inttypes.h> /* behind the others: newlib's has no PRIu64 otherwise */
 
 #include "krzewido.h"
 
 #define STANDS 5
+#define TEXT_BYTES (sizeof text - 1)
 
 static const uint8_t text[] = "kibokibokiborikitomto";
 static const uint32_t starts[STANDS + 1] = {0, 4, 8, 14, 18, 21};
@@ -14,12 +15,16 @@ static const int32_t north[STANDS] = {5, 75, 5, 9, 9};
 static const uint32_t score[STANDS] = {100, 900, 400, 400, 0};
 static const krz_grid grid = {0, 0, 10};
 
-static uint32_t order[KRZ_ORDER_WORDS(STANDS)];
-static uint32_t nodes[KRZ_NODES_WORDS(STANDS)];
-static uint32_t entries[KRZ_ENTRIES_WORDS(STANDS)];
+#define ORDER_WORDS KRZ_ORDER_WORDS(STANDS)
+#define NODES_WORDS KRZ_NODES_WORDS_FOR_TEXT(TEXT_BYTES)
+#define ENTRIES_WORDS KRZ_ENTRIES_WORDS_FOR_TEXT(TEXT_BYTES, STANDS)
 
-#define TABLE text, sizeof text - 1, starts, STANDS + 1, east, STANDS, north, STANDS, score, STANDS, grid
-#define INDEX order, KRZ_ORDER_WORDS(STANDS), nodes, KRZ_NODES_WORDS(STANDS), entries, KRZ_ENTRIES_WORDS(STANDS)
+static uint32_t order[ORDER_WORDS];
+static uint32_t nodes[NODES_WORDS];
+static uint32_t entries[ENTRIES_WORDS];
+
+#define TABLE text, TEXT_BYTES, starts, STANDS + 1, east, STANDS, north, STANDS, score, STANDS, grid
+#define INDEX order, ORDER_WORDS, nodes, NODES_WORDS, entries, ENTRIES_WORDS
 #define SET TABLE, INDEX
 
 /* The record is laid out for C and for the library alike. */
@@ -28,7 +33,7 @@ typedef char a_session_has_128_bytes[sizeof(krz_session) == 128 ? 1 : -1];
 /* A hit as the handheld shows it: what was typed, then the rest of the name. */
 static void show(uint32_t stand, const char *typed)
 {
-    krz_part rest = krz_rest(text, sizeof text - 1, starts, STANDS + 1, stand, (const uint8_t *)typed, strlen(typed));
+    krz_part rest = krz_rest(text, TEXT_BYTES, starts, STANDS + 1, stand, (const uint8_t *)typed, strlen(typed));
     printf("  %" PRIu32 " %s|%.*s", stand, typed, (int)rest.length, (const char *)text + rest.start);
 }
 
