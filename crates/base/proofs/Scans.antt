@@ -44,6 +44,10 @@ module _ {A : Type 0} (p : A → Bool) where
   all-left [] t h = refl
   all-left (x ∷ s) t h = let r = and-parts (p x) (all p (s ++ t)) h in rw (r .0) (all-left s t (r .1))
 
+  pub all-right : (s t : List A) → all p (s ++ t) ≡ true → all p t ≡ true
+  all-right [] t h = h
+  all-right (x ∷ s) t h = all-right s t (and-parts (p x) (all p (s ++ t)) h .1)
+
 pub record Scanning (p : ℕ → Bool) (n i : ℕ) : Type 0 where
   pub within : i ≤ n
   pub rest : all p (upTo n) ≡ all p (fromOn i (n - i))

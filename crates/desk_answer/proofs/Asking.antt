@@ -24,8 +24,8 @@ use Rattle.rules.specs.Questions.{rankedList, rankingLawful, rankedRefusal}
 use Rattle.rules.specs.Indexes.{Index, setLawful}
 use Rattle.rules.proofs.Lawful.{lawful, taken, set-parts}
 use Rattle.rules.proofs.Numbers.{refusal-some}
-use Rattle.trie.specs.Meaning.{noHit}
-use Rattle.trie.proofs.Meaning.{table-means}
+use Rattle.meaning.specs.Meaning.{noHit}
+use Rattle.meaning.proofs.Meaning.{table-means}
 use Rattle.rules.proofs.Refusals.{first-none}
 use Rattle.ranked.specs.Promises.{Exact, tooShort}
 use Rattle.ranked.proofs.Told.{told-refused, told-list}

@@ -20,7 +20,7 @@ use Rattle.rules.specs.Questions.{rankedRefusal}
 use Rattle.rules.specs.Indexes.{Index, nodeCount, entryCount, tooSmall, buildRefusal, buildTold, setLawful, checkTold}
 use Rattle.rules.proofs.Lawful.{lawful}
 use Rattle.rules.proofs.Numbers.{refusal-some}
-use Rattle.trie.proofs.Sizes.{sizes-bounded}
+use Rattle.meaning.proofs.Sizes.{sizes-bounded}
 use Rattle.index.specs.Promises.{BuildPromise}
 use Rattle.index.proofs.Outcomes.{build-then-check}
 use Rattle.rules.proofs.Refusals.{first-given}

@@ -76,8 +76,7 @@ typing-run S law p (b ∷ l) same fine =
     let short : length p < 24 = omega (arith, parts .0, length-append p (b ∷ l)) in
     let spelled : allowed b ≡ true = and-parts (allowed b) (all allowed l) (all-right allowed p (b ∷ l) (parts .1)) .0 in
     let longer : lettersTyped p b ≡ p ++ (b ∷ []) = taken-typing p b (sym (type-taken p b short spelled)) in
-    let S′ : State = withSession S (sessionOf (S .table) (lettersTyped p b)) in
-    (
+    let S′ : State = withSession S (sessionOf (S .table) (lettersTyped p b)) in (
       record {
         set = refl;
         call = rw (same, longer) (letter-accepted S law p b short spelled);

@@ -50,6 +50,7 @@ record Came (S : State) (p : List ℕ) (d : Deed) (s′ : Session) : Type 0 wher
 
 module _ (S : State) (law : Lawful S) (p : List ℕ) (fine : textRefusal p ≡ 0) where
   abbrev t : Table
+
   abbrev here : State
   t = S .table
   here = withSession S (sessionOf t p)

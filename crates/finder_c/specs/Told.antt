@@ -1,11 +1,15 @@
 -- What a C record tells, as the rules' numbers; and a promise read through those numbers.
--- A C call promises that its record holds the numbers of an answer that keeps the promise of the call under it. No two answers have the same
--- numbers (`rules/proofs/Outcomes`), so nothing is lost on the way.
+-- A question's promise speaks of numbers alone, and is the same for C. Of the other calls the record holds the numbers of an answer that keeps
+-- the promise of the call under it; no two answers have the same numbers (`rules/proofs/Numbers`), so nothing is lost on the way.
 use mathlib.Core.Path.{_≡_}
-use mathlib.Core.List.{List}
+use mathlib.Core.List.{List, [], _∷_}
 use Prim.Native.Nat.{ℕ}
 use lib.ListN.{length}
+use Rattle.base.specs.Lent.{Lent, after}
+use Rattle.rules.specs.declared.Place.{Place}
+use Rattle.rules.specs.declared.Ranking.{Ranking}
 use Rattle.rules.specs.Names.{restOf, restAt}
+use Rattle.rules.specs.Outcomes.{Outcome, outcome}
 use Rattle.rules.specs.Numbers.{Told, BuildTold, CheckTold}
 use Rattle.finder_c.specs.declared.Located.{Located}
 use Rattle.finder_c.specs.declared.Built.{Built}
@@ -24,6 +28,16 @@ checkedTold r = record { lawful = r .lawful; nodes = r .nodes; entries = r .entr
 
 abbrev pub foundTold : Found → Told
 foundTold r = record { refusal = r .refusal; number = r .count }
+
+-- what came of a question with one room, and with two
+abbrev pub foundIn : Found → Lent (List ℕ) → Outcome
+foundIn r found = outcome (foundTold r) (after found ∷ [])
+
+abbrev pub foundsIn : Found → Lent (List ℕ) → Lent (List ℕ) → Outcome
+foundsIn r found values = outcome (foundTold r) (after found ∷ after values ∷ [])
+
+abbrev pub asked : Place → ℕ → ℕ → Ranking
+asked place weight k = record { place = place; weight = weight; k = k }
 
 -- these are the numbers of an answer that keeps a promise
 pub record Tells {Answer Numbers : Type 0} (numbers : Answer → Numbers) (Promise : Answer → Type 0) (told : Numbers) : Type 0 where

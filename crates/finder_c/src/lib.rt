@@ -1,17 +1,17 @@
 // The finder for C: each call takes a slice as a pointer and a length, hands on to the finder's own call, and gives its answer as numbers.
 // include/krzewido.h says the same to C. Nothing is asked of any argument: what the calls under these promise, these promise of the numbers.
 ghost use mathlib.Core.Path.{_≡_};
+ghost use Rattle.base.specs.Lent.{given, after};
 ghost use Rattle.rules.specs.Numbers.{locatedNumbers, builtNumbers, checkedNumbers, rangeNumbers, rankedNumbers, verdictNumber};
 ghost use Rattle.rules.specs.Places.{regionTold};
-ghost use Rattle.rules.specs.Tables.{tableOf};
-ghost use Rattle.rules.specs.Indexes.{indexOf, checkTold};
+ghost use Rattle.rules.specs.Tables.{tableIn};
+ghost use Rattle.rules.specs.Outcomes.{roomIn, roomsIn};
+ghost use Rattle.rules.specs.Indexes.{indexIn, checkTold};
 ghost use Rattle.rules.specs.Sessions.{freshSession};
-ghost use Rattle.index.specs.Promises.{BuildPromise};
-ghost use Rattle.range.specs.Promises.{RangePromise};
-ghost use Rattle.ranked.specs.Promises.{RankedPromise};
+ghost use Rattle.rules.specs.Promises.{RangePromise, RankedPromise, TypedRangePromise, TypedRankedPromise};
+ghost use Rattle.index.specs.Promises.{BuildPromise, indexLeft};
 ghost use Rattle.session.specs.Promises.{TypePromise, RubPromise};
-ghost use Rattle.typed.specs.Promises.{TypedRangePromise, TypedRankedPromise};
-ghost use Rattle.finder_c.specs.Told.{Tells, locatedTold, builtTold, checkedTold, foundTold, RestPart};
+ghost use Rattle.finder_c.specs.Told.{Tells, locatedTold, builtTold, checkedTold, foundTold, foundIn, foundsIn, asked, RestPart};
 use finder::Grid;
 use finder::Place;
 use finder::RangeAnswer;
@@ -21,7 +21,7 @@ use finder::Rect;
 use finder::Session;
 use finder::Stand;
 use session::rubbed_out;
-use session::typed;
+use session::with_letter;
 use table::names::Span;
 use table::names::rest_span;
 
@@ -157,7 +157,7 @@ pub extern "C" fn krz_build(
     nodes: &mut [u32],
     entries: &mut [u32],
 ) -> Built
-    ensures { λ r. ⌜ Tells builtNumbers (λ a. BuildPromise (tableOf (now (text .entry)) (now (starts .entry)) (now (east .entry)) (now (north .entry)) (now (score .entry))) grid (indexOf (now (order .entry)) (now (nodes .entry)) (now (entries .entry))) a (indexOf (now (order .exit)) (now (nodes .exit)) (now (entries .exit)))) (builtTold r) ⌝ }
+    ensures { λ r. ⌜ Tells builtNumbers (λ a. BuildPromise (tableIn text starts east north score) grid (indexIn order nodes entries) a (indexLeft order nodes entries)) (builtTold r) ⌝ }
 {
     Built::of(finder::build(
         text,
@@ -184,7 +184,7 @@ pub extern "C" fn krz_check(
     nodes: &[u32],
     entries: &[u32],
 ) -> Checked
-    ensures { λ r. ⌜ checkedTold r ≡ checkTold (tableOf (now (text .entry)) (now (starts .entry)) (now (east .entry)) (now (north .entry)) (now (score .entry))) grid (indexOf (now (order .entry)) (now (nodes .entry)) (now (entries .entry))) ⌝ }
+    ensures { λ r. ⌜ checkedTold r ≡ checkTold (tableIn text starts east north score) grid (indexIn order nodes entries) ⌝ }
 {
     Checked::of(finder::check(
         text,
@@ -214,7 +214,7 @@ pub extern "C" fn krz_range(
     rect: Rect,
     found: &mut [u32],
 ) -> Found
-    ensures { λ r. ⌜ Tells rangeNumbers (λ a. RangePromise (tableOf (now (text .entry)) (now (starts .entry)) (now (east .entry)) (now (north .entry)) (now (score .entry))) grid (indexOf (now (order .entry)) (now (nodes .entry)) (now (entries .entry))) (now (typed .entry)) rect (now (found .entry)) (now (found .exit)) a) (foundTold r) ⌝ }
+    ensures { λ r. ⌜ RangePromise (tableIn text starts east north score) grid (indexIn order nodes entries) (given typed) rect (roomIn found) (foundIn r found) ⌝ }
 {
     Found::of_range(finder::range(
         text,
@@ -250,7 +250,7 @@ pub extern "C" fn krz_ranked(
     found: &mut [u32],
     values: &mut [u64],
 ) -> Found
-    ensures { λ r. ⌜ Tells rankedNumbers (λ a. RankedPromise (tableOf (now (text .entry)) (now (starts .entry)) (now (east .entry)) (now (north .entry)) (now (score .entry))) grid (indexOf (now (order .entry)) (now (nodes .entry)) (now (entries .entry))) (now (typed .entry)) (record { place = place; weight = weight; k = k }) a (now (found .entry)) (now (values .entry)) (now (found .exit)) (now (values .exit))) (foundTold r) ⌝ }
+    ensures { λ r. ⌜ RankedPromise (tableIn text starts east north score) grid (indexIn order nodes entries) (given typed) (asked place weight k) (roomsIn found values) (foundsIn r found values) ⌝ }
 {
     Found::of_ranked(finder::ranked(
         text,
@@ -284,7 +284,7 @@ pub extern "C" fn krz_range_typed(
     rect: Rect,
     found: &mut [u32],
 ) -> Found
-    ensures { λ r. ⌜ Tells rangeNumbers (λ a. TypedRangePromise (tableOf (now (text .entry)) (now (starts .entry)) (now (east .entry)) (now (north .entry)) (now (score .entry))) grid (indexOf (now (order .entry)) (now (nodes .entry)) (now (entries .entry))) session rect (now (found .entry)) (now (found .exit)) a) (foundTold r) ⌝ }
+    ensures { λ r. ⌜ TypedRangePromise (tableIn text starts east north score) grid (indexIn order nodes entries) session rect (roomIn found) (foundIn r found) ⌝ }
 {
     Found::of_range(finder::range_typed(
         text,
@@ -320,7 +320,7 @@ pub extern "C" fn krz_ranked_typed(
     found: &mut [u32],
     values: &mut [u64],
 ) -> Found
-    ensures { λ r. ⌜ Tells rankedNumbers (λ a. TypedRankedPromise (tableOf (now (text .entry)) (now (starts .entry)) (now (east .entry)) (now (north .entry)) (now (score .entry))) grid (indexOf (now (order .entry)) (now (nodes .entry)) (now (entries .entry))) session (record { place = place; weight = weight; k = k }) a (now (found .entry)) (now (values .entry)) (now (found .exit)) (now (values .exit))) (foundTold r) ⌝ }
+    ensures { λ r. ⌜ TypedRankedPromise (tableIn text starts east north score) grid (indexIn order nodes entries) session (asked place weight k) (roomsIn found values) (foundsIn r found values) ⌝ }
 {
     Found::of_ranked(finder::ranked_typed(
         text,
@@ -361,9 +361,9 @@ pub extern "C" fn krz_type(
     session: &mut Session,
     byte: u8,
 ) -> u32
-    ensures { λ r. ⌜ Tells verdictNumber (λ v. TypePromise (now (nodes .entry)) byte (now (session .entry)) (now (session .exit)) v) r ⌝ }
+    ensures { λ r. ⌜ Tells verdictNumber (λ v. TypePromise (given nodes) byte (given session) (after session) v) r ⌝ }
 {
-    let out = typed(nodes, *session, byte);
+    let out = with_letter(nodes, *session, byte);
     *session = out.session;
     out.verdict.number()
 }
@@ -382,7 +382,7 @@ pub extern "C" fn krz_rub_out(
     entries: &[u32],
     session: &mut Session,
 ) -> u32
-    ensures { λ r. ⌜ Tells verdictNumber (λ v. RubPromise (now (session .entry)) (now (session .exit)) v) r ⌝ }
+    ensures { λ r. ⌜ Tells verdictNumber (λ v. RubPromise (given session) (after session) v) r ⌝ }
 {
     let out = rubbed_out(*session);
     *session = out.session;
@@ -391,7 +391,7 @@ pub extern "C" fn krz_rub_out(
 
 #[no_mangle]
 pub extern "C" fn krz_rest(text: &[u8], starts: &[u32], stand: u32, typed: &[u8]) -> Part
-    ensures { λ r. ⌜ RestPart (now (text .entry)) (now (starts .entry)) stand (now (typed .entry)) r ⌝ }
+    ensures { λ r. ⌜ RestPart (given text) (given starts) stand (given typed) r ⌝ }
 {
     let Span { from, past } = rest_span(text, starts, Stand(stand), typed);
     Part {

@@ -10,3 +10,4 @@ pub mod Rows
 pub mod Sets
 pub mod Listed
 pub mod Covers
+pub mod Outcomes

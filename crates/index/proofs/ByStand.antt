@@ -18,8 +18,8 @@ use Rattle.rules.specs.Tables.{Table, stands, startOf, nameOf, placeOf, LawfulT
 use Rattle.rules.specs.Questions.{regionOfStand}
 use Rattle.rules.proofs.Lawful.{start-inside, name-part}
 use Rattle.rules.proofs.Places.{region-less}
-use Rattle.trie.specs.Adding.{nameBefore, sharedAt}
-use Rattle.trie.proofs.Sizes.{name-length}
+use Rattle.meaning.specs.Adding.{nameBefore, sharedAt}
+use Rattle.meaning.proofs.Sizes.{name-length}
 use Rattle.node.specs.Columns.{indexColumns, at, Grows, Placed, LawfulColumns}
 use Rattle.index.specs.Columns.{lengthIn, sharedIn, regionIn, lengthsIn, sharesIn, regionsOver, lengthsOf, sharedOf, regionsOf, tableColumns, Spelled, Located}
 

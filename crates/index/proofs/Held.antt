@@ -17,7 +17,7 @@ use Rattle.rules.specs.Places.{regions}
 use Rattle.rules.specs.Tables.{Table, stands}
 use Rattle.rules.specs.Questions.{under, regionOfStand, inRegion}
 use Rattle.rules.specs.Indexes.{orderWords, occupied, regionsUnder, entryOf, ahead, entriesOf}
-use Rattle.trie.proofs.Regions.{before, region-place}
+use Rattle.meaning.proofs.Regions.{before, region-place}
 use Rattle.node.specs.Columns.{at, span, standsIn, heldAmong, regionsAmong, entryAmong, entriesAmong}
 use Rattle.node.specs.Visits.{placeAt, placesAt}
 use Rattle.words.specs.Over.{regionOrder, orderOf}

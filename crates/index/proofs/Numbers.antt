@@ -20,10 +20,10 @@ use Rattle.rules.specs.declared.Grid.{Grid}
 use Rattle.rules.specs.Tables.{Table, stands, nameOf, LawfulTable}
 use Rattle.rules.specs.Questions.{under}
 use Rattle.rules.specs.Indexes.{beginnings, numberIn, lastByte, butLast, pastOf}
-use Rattle.trie.specs.Adding as added
-use Rattle.trie.specs.Adding.{sharedAt}
-use Rattle.trie.proofs.Tables.{under-all, under-run, past-root}
-use Rattle.trie.proofs.Adding.{nodes-step, nodes-all, node-number, first-stand, past-stand, past-node, last-take, but-last-take}
+use Rattle.meaning.specs.Adding as added
+use Rattle.meaning.specs.Adding.{sharedAt}
+use Rattle.meaning.proofs.Tables.{under-all, under-run, past-root}
+use Rattle.meaning.proofs.Adding.{nodes-step, nodes-all, node-number, first-stand, past-stand, past-node, last-take, but-last-take}
 use Rattle.node.specs.Columns.{at, endOf, span, growth, grownOf}
 use Rattle.node.specs.Visits.{grownBefore, numberAt}
 use Rattle.node.specs.Rows.{lastOf, parentOf, pastNumber}

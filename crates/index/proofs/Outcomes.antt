@@ -23,9 +23,9 @@ use Rattle.rules.specs.Indexes.{Index, orderWords, nodeWords, entryWords, nodeC
 use Rattle.rules.proofs.Lawful.{lawful}
 use Rattle.rules.proofs.Refusals.{first-none}
 use Rattle.rules.proofs.Numbers.{one-built, one-checked}
-use Rattle.trie.proofs.Listing.{order-means}
-use Rattle.trie.proofs.Words.{nodes-length, entry-words-length}
-use Rattle.trie.proofs.Sizes.{sizes-bounded}
+use Rattle.meaning.proofs.Listing.{order-means}
+use Rattle.meaning.proofs.Words.{nodes-length, entry-words-length}
+use Rattle.meaning.proofs.Sizes.{sizes-bounded}
 use Rattle.index.specs.Promises.{BuildPromise}
 
 -- ---- no two outcomes

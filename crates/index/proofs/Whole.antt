@@ -14,11 +14,11 @@ use Rattle.base.proofs.Sums.{total-suc}
 use Rattle.rules.specs.declared.Grid.{Grid}
 use Rattle.rules.specs.Tables.{Table, stands, nameOf, LawfulTable}
 use Rattle.rules.specs.Indexes.{newAt, beginnings, nodeCount, numberIn, regionsUnder, entriesOf, entryRow, nodeRow, nodeWords, entryWords, entryCount}
-use Rattle.trie.specs.Adding.{sharedAt}
-use Rattle.trie.proofs.Tree.{number-at}
-use Rattle.trie.proofs.Tables.{beginnings-tree}
-use Rattle.trie.proofs.Adding.{new-takes}
-use Rattle.trie.proofs.Words.{entries-length}
+use Rattle.meaning.specs.Adding.{sharedAt}
+use Rattle.meaning.proofs.Tree.{number-at}
+use Rattle.meaning.proofs.Tables.{beginnings-tree}
+use Rattle.meaning.proofs.Adding.{new-takes}
+use Rattle.meaning.proofs.Words.{entries-length}
 use Rattle.node.specs.Columns.{IndexColumns, at, endOf, regionsAmong}
 use Rattle.node.specs.Visits.{Visit, visitsAt, newVisits, visitsFrom}
 use Rattle.node.specs.Rows.{standsAt, entriesAt, rowAt, rowOf}

@@ -14,10 +14,9 @@ use rules::Verdict;
 use table::table_refusal;
 ghost use mathlib.Core.Path.{_≡_};
 ghost use Rattle.rules.specs.Numbers.{checkedNumbers};
-ghost use Rattle.base.specs.Lent.{after};
 ghost use Rattle.rules.specs.Tables.{tableIn};
-ghost use Rattle.rules.specs.Indexes.{indexOf, indexIn, checkTold};
-ghost use Rattle.index.specs.Promises.{BuildPromise};
+ghost use Rattle.rules.specs.Indexes.{indexIn, checkTold};
+ghost use Rattle.index.specs.Promises.{BuildPromise, indexLeft};
 
 // Writes the index of a table to three buffers and answers how many nodes and entries it has; or the first of refusals 1 to 6, and the
 // buffers stay as they are.
@@ -32,7 +31,7 @@ pub fn build(
     nodes: &mut [u32],
     entries: &mut [u32],
 ) -> Built
-    ensures { λ r. ⌜ BuildPromise (tableIn text starts east north score) grid (indexIn order nodes entries) r (indexOf (after order) (after nodes) (after entries)) ⌝ }
+    ensures { λ r. ⌜ BuildPromise (tableIn text starts east north score) grid (indexIn order nodes entries) r (indexLeft order nodes entries) ⌝ }
 {
     let verdict = table_refusal(text, starts, east, north, score, grid);
     if let Verdict::Refused(why) = verdict {

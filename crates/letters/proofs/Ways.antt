@@ -11,22 +11,25 @@ use Rattle.rules.specs.declared.Grid.{Grid}
 use Rattle.rules.specs.declared.Rect.{Rect}
 use Rattle.rules.specs.declared.Ranking.{Ranking}
 use Rattle.rules.specs.declared.Session.{Session}
+use Rattle.rules.specs.declared.Refusal.{Refusal}
+use Rattle.rules.specs.Numbers.{refusalNumber, firstGiven}
 use Rattle.rules.specs.Names.{textRefusal}
 use Rattle.rules.specs.Tables.{Table}
-use Rattle.rules.specs.Outcomes.{Outcome, refused}
+use Rattle.rules.specs.Questions.{rangeList, rectRefusal, ranking, rankingRefusal}
+use Rattle.rules.specs.Outcomes.{Outcome, refused, rangeOutcome, rankedOutcome}
 use Rattle.rules.specs.Indexes.{Index}
 use Rattle.rules.specs.Sessions.{lettersOf}
 use Rattle.rules.specs.Promises.{Kept, LawfulBoth, TypedRangePromise, TypedRankedPromise}
-use Rattle.rules.proofs.Outcomes.{range-text-refused, range-text-taken, ranked-text-refused, ranked-text-taken}
+use Rattle.rules.proofs.Outcomes.{settled-refused}
 use Rattle.walk.specs.declared.Child.{Child}
 use Rattle.walk.specs.declared.listing.Listing.{Listing}
 use Rattle.walk.specs.Listings.{listingAt}
 use Rattle.walk.specs.Asked.{Listed}
-use Rattle.walk.proofs.Asked.{from-kept, node-listed}
+use Rattle.walk.proofs.Asked.{from-kept, text-refused, node-listed}
 use Rattle.session.specs.Strokes.{reached}
 use Rattle.session.proofs.Sessions.{lawful-short, lawful-reached}
 use Rattle.range.specs.Promises.{RangeFrom}
-use Rattle.search.specs.Searches.{columns}
+use Rattle.search.specs.Searches.{standColumns}
 use Rattle.ranked.specs.Promises.{RankedFrom}
 use Rattle.letters.specs.Letters.{lettersRefusal}
 
@@ -59,37 +62,39 @@ module _ (s : Session) where
 -- ---- the questions
 
 module _ (t : Table) (g : Grid) (x : Index) (s : Session) (rooms : List (List ℕ)) where
-  -- refused: 7 for a length that no lawful session has, or as the letters are
-  refused-by : {Item : Type 0} (comesTo : List Item → Outcome) (meant : List Item) (n : ℕ) → n ≡ lettersRefusal s
-      → (n ≡ textRefusal (lettersOf s) → Kept (LawfulBoth t g x s) comesTo meant rooms (refused n rooms)) → Kept (LawfulBoth t g x s) comesTo meant rooms (refused n rooms)
-  refused-by comesTo meant n e by = step (refused-as s n e)
+  -- 7 for a length that no lawful session has, or as the letters are refused
+  refused-by : {Item : Type 0} (comesTo : ℕ → List Item → Outcome) (meant : List Item) (n : ℕ) → ((m : ℕ) (list : List Item) → (m ≡ 0 → ⊥) → comesTo m list ≡ refused m rooms)
+      → (why : Refusal) → refusalNumber why ≡ lettersRefusal s
+      → Kept (LawfulBoth t g x s) (comesTo (firstGiven (textRefusal (lettersOf s)) n)) meant rooms (refused (refusalNumber why) rooms)
+  refused-by comesTo meant n whatever why e = step (refused-as s (refusalNumber why) e)
     where
-      step : ((24 < s .len) × (n ≡ 7)) ⊎ (n ≡ textRefusal (lettersOf s)) → Kept (LawfulBoth t g x s) comesTo meant rooms (refused n rooms)
+      step : ((24 < s .len) × (refusalNumber why ≡ 7)) ⊎ (refusalNumber why ≡ textRefusal (lettersOf s))
+          → Kept (LawfulBoth t g x s) (comesTo (firstGiven (textRefusal (lettersOf s)) n)) meant rooms (refused (refusalNumber why) rooms)
       step (inl (h, seven)) =
           record { exact = λ l. absurd (omega (arith, lawful-short t s (l .session))); harmless = inl (ap (λ (n : ℕ). refused n rooms) seven) }
-      step (inr f) = by f
+      step (inr f) = text-refused (LawfulBoth t g x s) comesTo meant rooms (lettersOf s) n whatever why f
 
   -- where its path leads is the listing of its letters
   served : (at : Listing) (c : Child) → at ≡ listingAt (x .nodes) c → c ≡ reached s → LawfulBoth t g x s
       → Listed (t .east) (t .north) (t .score) g (x .order) (x .entries) at t (lettersOf s)
-  served at c e came l = node-listed t g x (lettersOf s) at (l .set) (e ∙ ap (listingAt (x .nodes)) (came ∙ lawful-reached t s (l .session)))
+  served at c e came l = node-listed t g x (lettersOf s) at (e ∙ ap (listingAt (x .nodes)) (came ∙ lawful-reached t s (l .session))) (l .set)
 
   module _ (r : Rect) where
-    pub range-refused : (n : ℕ) → n ≡ lettersRefusal s → (n ≡ 0 → ⊥) → TypedRangePromise t g x s r rooms (refused n rooms)
-    range-refused n e some = refused-by _ _ n e (λ f. range-text-refused (LawfulBoth t g x s) t g (lettersOf s) rooms n f some r)
+    pub range-refused : (why : Refusal) → refusalNumber why ≡ lettersRefusal s → TypedRangePromise t g x s r rooms (refused (refusalNumber why) rooms)
+    range-refused = refused-by (λ n list. rangeOutcome n list rooms) (rangeList t g (lettersOf s) r) (rectRefusal r) (λ n list some. settled-refused n _ _ _ _ _ some)
 
     pub range-reached : (at : Listing) (c : Child) (o : Outcome) → lettersRefusal s ≡ 0 → at ≡ listingAt (x .nodes) c → c ≡ reached s
         → RangeFrom (t .east) (t .north) g (x .order) (x .entries) at r rooms o → TypedRangePromise t g x s r rooms o
     range-reached at c o fine e came w =
-        range-text-taken (LawfulBoth t g x s) t g (lettersOf s) rooms (taken s fine) o r
-        (from-kept _ _ _ rooms o w (LawfulBoth t g x s) t (lettersOf s) (served at c e came))
+        from-kept _ (λ t′ q. Listed (t .east) (t .north) (t′ .score) g (x .order) (x .entries) at t′ q) (λ n list. rangeOutcome n list rooms) (λ t p. rangeList t g p r) rooms o t (lettersOf s)
+        (rectRefusal r) (taken s fine) (served at c e came) w
 
   module _ (q : Ranking) where
-    pub ranked-refused : (n : ℕ) → n ≡ lettersRefusal s → (n ≡ 0 → ⊥) → TypedRankedPromise t g x s q rooms (refused n rooms)
-    ranked-refused n e some = refused-by _ _ n e (λ f. ranked-text-refused (LawfulBoth t g x s) t g (lettersOf s) rooms n f some q)
+    pub ranked-refused : (why : Refusal) → refusalNumber why ≡ lettersRefusal s → TypedRankedPromise t g x s q rooms (refused (refusalNumber why) rooms)
+    ranked-refused = refused-by (λ n hits. rankedOutcome n (q .k) hits rooms) (ranking t g (lettersOf s) q) (rankingRefusal g q) (λ n hits some. settled-refused n _ _ _ _ _ some)
 
     pub ranked-reached : (at : Listing) (c : Child) (o : Outcome) → lettersRefusal s ≡ 0 → at ≡ listingAt (x .nodes) c → c ≡ reached s
-        → RankedFrom (columns (t .east) (t .north) (t .score)) g (x .order) (x .entries) at q rooms o → TypedRankedPromise t g x s q rooms o
+        → RankedFrom (standColumns (t .east) (t .north) (t .score)) g (x .order) (x .entries) at q rooms o → TypedRankedPromise t g x s q rooms o
     ranked-reached at c o fine e came w =
-        ranked-text-taken (LawfulBoth t g x s) t g (lettersOf s) rooms (taken s fine) o q
-        (from-kept _ _ _ rooms o w (LawfulBoth t g x s) t (lettersOf s) (served at c e came))
+        from-kept _ (Listed (t .east) (t .north) (t .score) g (x .order) (x .entries) at) (λ n hits. rankedOutcome n (q .k) hits rooms) (λ t p. ranking t g p q) rooms o t (lettersOf s)
+        (rankingRefusal g q) (taken s fine) (served at c e came) w

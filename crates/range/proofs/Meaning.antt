@@ -28,11 +28,11 @@ use Rattle.grid.specs.declared.cells.Cells.{Cells}
 use Rattle.grid.specs.Cells.{cellsOf, hasCell, bothCells, regionsIn}
 use Rattle.grid.proofs.Listed.{both-listed}
 use Rattle.grid.proofs.Covers.{Edges, covered}
-use Rattle.trie.specs.Meaning.{noEntry}
-use Rattle.trie.proofs.Tables.{in-under}
-use Rattle.trie.proofs.Regions.{entry-slice, range-regions}
-use Rattle.trie.proofs.Listing.{order-means}
-use Rattle.trie.proofs.Entries.{entries-mean, entry-own, entry-there}
+use Rattle.meaning.specs.Meaning.{noEntry}
+use Rattle.meaning.proofs.Tables.{in-under}
+use Rattle.meaning.proofs.Regions.{entry-slice, range-regions}
+use Rattle.meaning.proofs.Listing.{order-means}
+use Rattle.meaning.proofs.Entries.{entries-mean, entry-own, entry-there}
 use Rattle.walk.specs.declared.entry.Entry.{Entry}
 use Rattle.walk.specs.Entries.{asRead}
 use Rattle.walk.proofs.Listed.{Lists}

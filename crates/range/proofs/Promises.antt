@@ -15,18 +15,27 @@ use Rattle.rules.specs.declared.Grid.{Grid}
 use Rattle.rules.specs.declared.Rect.{Rect}
 use Rattle.rules.specs.declared.RangeAnswer.{RangeAnswer}
 use Rattle.rules.specs.declared.RangeAnswer.the-variants.{Found, Refused}
+use Rattle.rules.specs.declared.Refusal.{Refusal}
 use Rattle.rules.specs.declared.Refusal.the-variants.{RectReversed}
+use Rattle.rules.specs.Numbers.{refusalNumber}
+use Rattle.rules.specs.Names.{textRefusal}
 use Rattle.rules.specs.Places.{regions, rectLawful, inRect}
 use Rattle.rules.specs.Tables.{Table, placeOf}
 use Rattle.rules.specs.Questions.{under, inRegion, byRegion, rangeList, rectRefusal}
 use Rattle.rules.specs.Outcomes.{Outcome, refused, rangeOutcome, rangeCame}
-use Rattle.rules.specs.Promises.{Harmless}
+use Rattle.rules.specs.Promises.{Harmless, RangePromise}
+use Rattle.rules.specs.Indexes.{Index}
 use Rattle.rules.proofs.Lawful.{set-parts}
+use Rattle.rules.proofs.Outcomes.{settled-refused}
 use Rattle.grid.specs.declared.cells.Cells.{Cells}
 use Rattle.grid.proofs.Covers.{Edges}
 use Rattle.walk.specs.declared.listing.Listing.{Listing}
 use Rattle.walk.specs.declared.listing.Listing.the-variants.{Entries, Nowhere, Broken}
+use Rattle.walk.specs.Walks.{nodeIn}
+use Rattle.walk.specs.Listings.{listingAt}
+use Rattle.walk.specs.Asked.{Listed}
 use Rattle.walk.proofs.Listed.{nowhere-none, never-broken, entries-listed}
+use Rattle.walk.proofs.Asked.{from-kept, text-refused, text-listed}
 use Rattle.range.specs.Fetches.{unlawful, fetched}
 use Rattle.range.specs.Promises.{RangeFrom}
 use Rattle.range.proofs.Fetching.{fetch-harmless}
@@ -80,3 +89,16 @@ module _ (east north : List ℤ) (g : Grid) (order entries : List ℕ) (at : Lis
               ∙ passed (rangeList t g p r);
           harmless = subst (Harmless (λ l. rangeOutcome (rectRefusal r) l (room ∷ [])) (room ∷ [])) (sym f) (rw straight (fetch-harmless east north g order entries cells first r room));
         }
+
+-- ---- from a text
+
+module _ (t : Table) (g : Grid) (x : Index) (p : List ℕ) (r : Rect) (room : List ℕ) where
+  pub of-refused : (why : Refusal) → refusalNumber why ≡ textRefusal p → RangePromise t g x p r (room ∷ []) (rangeCame (Refused why 0) room)
+  of-refused why e =
+      text-refused _ (λ n list. rangeOutcome n list (room ∷ [])) (rangeList t g p r) (room ∷ []) p (rectRefusal r) (λ n list some. settled-refused n _ _ _ _ _ some) why e
+
+  pub of-listed : (o : Outcome) (at : Listing) → textRefusal p ≡ 0 → at ≡ listingAt (x .nodes) (nodeIn (x .nodes) p)
+      → RangeFrom (t .east) (t .north) g (x .order) (x .entries) at r (room ∷ []) o → RangePromise t g x p r (room ∷ []) o
+  of-listed o at fine walked w =
+      from-kept _ (λ t′ q. Listed (t .east) (t .north) (t′ .score) g (x .order) (x .entries) at t′ q) (λ n list. rangeOutcome n list (room ∷ [])) (λ t p. rangeList t g p r) (room ∷ []) o t p
+      (rectRefusal r) fine (text-listed t g x p at walked) w

@@ -20,9 +20,9 @@ use Rattle.rules.specs.Questions.{under, regionOfStand, inRegion, hitOf}
 use Rattle.rules.specs.Indexes.{orderWords, entriesOf}
 use Rattle.rules.specs.Indexes as indexes
 use Rattle.grid.proofs.Values.{value-within-bound}
-use Rattle.trie.specs.Meaning.{StandUnder, noEntry, entryAt}
-use Rattle.trie.proofs.Listing.{under-rises, order-means, standsIn, in-region}
-use Rattle.trie.proofs.Entries.{entries-mean}
+use Rattle.meaning.specs.Meaning.{StandUnder, noEntry, entryAt}
+use Rattle.meaning.proofs.Listing.{under-rises, order-means, standsIn, in-region}
+use Rattle.meaning.proofs.Entries.{entries-mean}
 use Rattle.walk.specs.Entries.{asRead}
 use Rattle.best.proofs.Keys.{key-most}
 use Rattle.search.specs.Searches.{StandColumns, standColumns, readableStand, boundHit}

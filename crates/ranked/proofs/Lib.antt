@@ -3,5 +3,4 @@ pub mod Offers
 pub mod Entries
 pub mod Under
 pub mod Ways
-pub mod Asked
 pub mod Limits

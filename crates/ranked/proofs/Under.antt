@@ -20,9 +20,9 @@ use Rattle.rules.specs.Indexes as indexes
 use Rattle.rules.proofs.Lawful.{SetParts}
 use Rattle.grid.specs.declared.cells.Cells.{Cells}
 use Rattle.grid.specs.Cells.{regionsIn}
-use Rattle.trie.proofs.Tables.{in-under}
-use Rattle.trie.proofs.Regions.{by-region-shuffle}
-use Rattle.trie.proofs.Listing.{standsIn, order-means}
+use Rattle.meaning.proofs.Tables.{in-under}
+use Rattle.meaning.proofs.Regions.{by-region-shuffle}
+use Rattle.meaning.proofs.Listing.{standsIn, order-means}
 use Rattle.walk.specs.declared.entry.Entry.{Entry}
 use Rattle.walk.specs.declared.listing.Listing.the-variants.{Entries}
 use Rattle.walk.specs.Entries.{asRead}

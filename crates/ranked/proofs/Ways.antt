@@ -28,7 +28,7 @@ use Rattle.rules.specs.Promises.{Harmless, RankedPromise}
 use Rattle.rules.specs.Indexes.{Index, indexOf}
 use Rattle.rules.proofs.Lawful.{SetParts, set-parts}
 use Rattle.rules.proofs.Outcomes.{settled-refused}
-use Rattle.trie.proofs.Tables.{in-under}
+use Rattle.meaning.proofs.Tables.{in-under}
 use Rattle.grid.specs.declared.cells.Cells.{Cells}
 use Rattle.grid.specs.Cells.{regionsIn}
 use Rattle.walk.specs.declared.listing.Listing.{Listing}
@@ -37,6 +37,7 @@ use Rattle.walk.specs.Walks.{nodeIn}
 use Rattle.walk.specs.Listings.{listingAt, listingOf}
 use Rattle.walk.specs.Asked.{Listed}
 use Rattle.walk.proofs.Listed.{nowhere-none, never-broken}
+use Rattle.walk.proofs.Asked.{from-kept, text-refused, text-listed}
 use Rattle.best.specs.Keys.{keyOf, hitOfKey}
 use Rattle.best.specs.Holds.{bestOf}
 use Rattle.best.proofs.Streams.{found-hits}
@@ -45,7 +46,6 @@ use Rattle.search.proofs.Asking.{some-asked}
 use Rattle.ranked.specs.Promises.{RankedFrom}
 use Rattle.ranked.proofs.Entries.{tableColumns}
 use Rattle.ranked.proofs.Under.{listed-best}
-use Rattle.ranked.proofs.Asked.{from-kept, text-refused, text-listed}
 
 -- on a lawful set, what the keys held of a text's listing come to is what its ranking does
 module _ (t : Table) (g : Grid) (x : Index) (parts : SetParts t g x) (p : List ℕ) (q : Ranking) (rooms : List (List ℕ)) where

@@ -1,6 +1,6 @@
 -- What is settled of a question: a refusal whatever the list, never 7, and one outcome where the promise's ground holds.
 -- Assumes nothing.
-use mathlib.Core.Path.{_≡_, refl, sym, ap, _∙_, subst}
+use mathlib.Core.Path.{_≡_, refl, sym, ap, _∙_}
 use mathlib.Core.Logic.{_⊎_, inl, inr}
 use mathlib.Core.Bool.{Bool, true, false, not, cond}
 use mathlib.Core.List.{List, [], _∷_}
@@ -19,10 +19,9 @@ use Rattle.rules.specs.Numbers.{Told, firstGiven, rangeNumbers, rankedNu
 use Rattle.rules.specs.Names.{allowed, textRefusal}
 use Rattle.rules.specs.Places.{rectLawful}
 use Rattle.rules.specs.Tables.{Table}
-use Rattle.rules.specs.Questions.{rangeList, ranking, rankingLawful, rectRefusal, rankingRefusal, rangeRefusal, rankedRefusal}
+use Rattle.rules.specs.Questions.{rangeList, ranking, rankingLawful, rangeRefusal, rankedRefusal}
 use Rattle.rules.specs.Outcomes.{Outcome, outcome, refused, filled, roomFor, settled, rangeOutcome, rankedOutcome, rangeCame, rankedCame}
 use Rattle.rules.specs.Promises.{Harmless, Kept, RangeKept, RankedKept}
-use Rattle.rules.proofs.Refusals.{first-given}
 use Rattle.rules.proofs.Numbers.{one-range, one-ranked}
 
 -- ---- a refusal
@@ -36,28 +35,6 @@ settled-refused (suc n) places short told words rooms some = refl
 pub refused-kept : {Item : Type 0} (Lawful : Type 0) (comesTo : List Item → Outcome) (meant : List Item) (rooms : List (List ℕ)) (n : ℕ)
     → ((list : List Item) → comesTo list ≡ refused n rooms) → Kept Lawful comesTo meant rooms (refused n rooms)
 refused-kept Lawful comesTo meant rooms n h = record { exact = λ law. sym (h meant); harmless = inr (meant, sym (h meant)) }
-
--- of a text that is refused, in either question; and one that is not leaves the question's own refusal
-module _ (Lawful : Type 0) (t : Table) (g : Grid) (p : List ℕ) (rooms : List (List ℕ)) where
-  module _ (n : ℕ) (e : n ≡ textRefusal p) (some : n ≡ 0 → ⊥) where
-    first : (m : ℕ) → firstGiven (textRefusal p) m ≡ n
-    first m = first-given (textRefusal p) m (λ z. some (e ∙ z)) ∙ sym e
-
-    pub range-text-refused : (r : Rect) → RangeKept Lawful t g p r rooms (refused n rooms)
-    range-text-refused r =
-        refused-kept Lawful _ _ rooms n (λ list. ap (λ (m : ℕ). rangeOutcome m list rooms) (first (rectRefusal r)) ∙ settled-refused n _ _ _ _ rooms some)
-
-    pub ranked-text-refused : (q : Ranking) → RankedKept Lawful t g p q rooms (refused n rooms)
-    ranked-text-refused q =
-        refused-kept Lawful _ _ rooms n (λ hits. ap (λ (m : ℕ). rankedOutcome m (q .k) hits rooms) (first (rankingRefusal g q)) ∙ settled-refused n _ _ _ _ rooms some)
-
-  module _ (fine : textRefusal p ≡ 0) (o : Outcome) where
-    pub range-text-taken : (r : Rect) → Kept Lawful (λ list. rangeOutcome (rectRefusal r) list rooms) (rangeList t g p r) rooms o → RangeKept Lawful t g p r rooms o
-    range-text-taken r k = subst (λ (n : ℕ). Kept Lawful (λ list. rangeOutcome (firstGiven n (rectRefusal r)) list rooms) (rangeList t g p r) rooms o) (sym fine) k
-
-    pub ranked-text-taken : (q : Ranking) → Kept Lawful (λ hits. rankedOutcome (rankingRefusal g q) (q .k) hits rooms) (ranking t g p q) rooms o → RankedKept Lawful t g p q rooms o
-    ranked-text-taken q k =
-        subst (λ (n : ℕ). Kept Lawful (λ hits. rankedOutcome (firstGiven n (rankingRefusal g q)) (q .k) hits rooms) (ranking t g p q) rooms o) (sym fine) k
 
 -- ---- never 7
 

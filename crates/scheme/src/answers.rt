@@ -6,6 +6,8 @@ use crate::set::NORTH;
 use crate::set::SCORE;
 use crate::set::STARTS;
 use crate::set::TEXT;
+use finder::Built;
+use finder::Checked;
 use finder::Grid;
 use finder::Located;
 use finder::Place;
@@ -38,6 +40,48 @@ fn print_refusal(why: Refusal) {
 pub(crate) fn print_verdict(verdict: Verdict) {
     print(b"verdict");
     print_number(verdict.number() as u64);
+    print(b"\n");
+}
+
+pub(crate) fn print_built(answer: Built) {
+    match answer {
+        Built::Index { nodes, entries } => {
+            print(b"built");
+            print_number(nodes as u64);
+            print_number(entries as u64);
+        }
+        Built::Refused(why) => print_refusal(why),
+    }
+    print(b"\n");
+}
+
+pub(crate) fn print_checked(index: Index) {
+    let text = TEXT;
+    let starts = STARTS;
+    let east = EAST;
+    let north = NORTH;
+    let score = SCORE;
+    let order = index.order;
+    let nodes = index.nodes;
+    let entries = index.entries;
+    match finder::check(
+        &text,
+        &starts,
+        &east,
+        &north,
+        &score,
+        GRID,
+        &order,
+        &nodes,
+        &entries,
+    ) {
+        Checked::Lawful { nodes, entries } => {
+            print(b"lawful");
+            print_number(nodes as u64);
+            print_number(entries as u64);
+        }
+        Checked::Unlawful => print(b"unlawful"),
+    }
     print(b"\n");
 }
 

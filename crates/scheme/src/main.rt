@@ -1,9 +1,11 @@
 // The small scheme, reckoned with the finder's own calls, line by line of the rules; then tables that are refused, and rests of names.
-// What it prints is held to the file stdout.
+// Letters go by the steps under the calls on a lent session; tests/example.c has those. What is printed is held to the file stdout.
 mod answers;
 mod set;
 
 use answers::print;
+use answers::print_built;
+use answers::print_checked;
 use answers::print_path;
 use answers::print_range;
 use answers::print_ranked;
@@ -100,7 +102,7 @@ fn print_stroke(stroke: Stroke) -> Session {
 
 fn press(index: Index, session: Session, byte: u8) -> Session {
     let nodes = index.nodes;
-    print_stroke(session::typed(&nodes, session, byte))
+    print_stroke(session::with_letter(&nodes, session, byte))
 }
 
 // Line 11, and a question on the letters that stand at the end.
@@ -127,12 +129,34 @@ fn full(index: Index) {
     }
 }
 
-// The verdict on the scheme's table with these starts, scores and grid.
+// Line 2 by the check: of the set as it is, and with one word of the order bent.
+fn checks(index: Index) {
+    print(b"check\n");
+    print_checked(index);
+    let mut bent = index;
+    bent.order[0] = 1;
+    print_checked(bent);
+}
+
+// What building says of the scheme's table with these starts, scores and grid.
 fn print_table(starts: [u32; 6], score: [u32; 5], grid: Grid) {
     let text = TEXT;
     let east = EAST;
     let north = NORTH;
-    print_verdict(table::table_refusal(&text, &starts, &east, &north, &score, grid));
+    let mut order = [0u32; 5];
+    let mut nodes = [0u32; 96];
+    let mut entries = [0u32; 88];
+    print_built(finder::build(
+        &text,
+        &starts,
+        &east,
+        &north,
+        &score,
+        grid,
+        &mut order,
+        &mut nodes,
+        &mut entries,
+    ));
 }
 
 // The table as it is, and with one thing in it out of its limits.
@@ -164,6 +188,7 @@ fn rests() {
 fn main() {
     let index = Index::built();
     regions();
+    checks(index);
     ranges(index);
     rankings(index);
     limits(index);

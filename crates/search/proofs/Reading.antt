@@ -1,21 +1,18 @@
 -- What it says that a stand can be read and an entry be used, both ways.
 -- Assumes nothing.
-use mathlib.Core.Path.{_≡_, refl, sym, subst}
-use mathlib.Core.Bool.{Bool, true, false, cond, _&&_, and-true}
+use mathlib.Core.Path.{_≡_, sym}
+use mathlib.Core.Bool.{true, false, and-true}
 use mathlib.Core.List.{List}
-use Prim.Native.Nat.{ℕ, _/_, _≤_, _<_}
+use Prim.Native.Nat.{ℕ, _≤_, _<_}
 use lib.Dec.{ltb}
 use lib.ListN.{length, getD}
 use borrow.Author.Tests.{ltb-true, leb-true, lt-ltb, le-ltb, le-leb, lt-leb}
 use Rattle.base.specs.Lists.{every}
-use Rattle.base.proofs.Tests.{and-parts, every-at, every-of, every-not}
+use Rattle.base.proofs.Tests.{every-at, every-of, every-not}
 use Rattle.rules.specs.declared.Grid.{Grid}
 use Rattle.rules.specs.Places.{inGrid}
 use Rattle.rules.specs.Tables.{placeIn}
 use Rattle.walk.specs.declared.entry.Entry.{Entry}
-use Rattle.walk.specs.declared.entry.EntryRead.{EntryRead}
-use Rattle.walk.specs.declared.entry.EntryRead.the-variants.{At, Broken}
-use Rattle.walk.specs.Entries.{entryIn, within, entryRead}
 use Rattle.search.specs.Searches.{StandColumns, readableStand, usable}
 
 -- ---- a stand
@@ -75,19 +72,6 @@ module _ (c : StandColumns) (g : Grid) (s : ℕ) where
       rw (lt-ltb _ _ a, lt-ltb _ _ b, lt-ltb _ _ d, lt-ltb _ _ e, le-leb _ _ f) (sym (and-true (inGrid g (placeIn (c .east) (c .north) s))))
 
 -- ---- an entry
-
--- one that was read is there, and within the places
-pub read-facts : (words : List ℕ) (places number : ℕ) (x : Entry) → entryRead words places number ≡ At x → (number < length words / 4) × (within places x ≡ true)
-unfolding entryRead
-read-facts words places number x e = subst Facts e (step _ refl)
-  where
-    Facts : EntryRead → Type 0
-    Facts (At x) = (number < length words / 4) × (within places x ≡ true)
-    Facts Broken = Unit {0}
-
-    step : (b : Bool) → (ltb number (length words / 4) && within places (entryIn words number)) ≡ b → Facts (cond b (At (entryIn words number)) Broken)
-    step true h = let w = and-parts _ _ h in (ltb-true _ _ (w .0), w .1)
-    step false h = tt
 
 pub record EntryFacts (order : List ℕ) (x : Entry) : Type 0 where
   pub scored : x .score ≤ 1000

@@ -19,8 +19,8 @@ use Rattle.rules.specs.Names.{allowed}
 use Rattle.rules.specs.Indexes.{beginnings, numberIn, nodeWords}
 use Rattle.rules.specs.Sessions.{nodeOr0, sessionOf}
 use Rattle.rules.proofs.Lawful.{set-parts}
-use Rattle.trie.proofs.Tables.{beginnings-tree}
-use Rattle.trie.proofs.Walking.{node-in, node-out}
+use Rattle.meaning.proofs.Tables.{beginnings-tree}
+use Rattle.meaning.proofs.Walking.{node-in, node-out}
 use Rattle.walk.specs.declared.Child.the-variants.{At, Nowhere}
 use Rattle.walk.specs.Walks.{node, childIn}
 use Rattle.walk.specs.Nodes.{nodeOf}

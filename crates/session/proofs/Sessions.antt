@@ -20,7 +20,7 @@ use Rattle.rules.specs.Indexes.{beginnings, butLast}
 use Rattle.rules.specs.Sessions.{nodeOr0, sessionOf, freshSession, lettersOf, LawfulSession, lettersTyped, rubRefusal}
 use Rattle.rules.proofs.Bytes.{text-parts, text-taken}
 use Rattle.rules.proofs.Numbers.{one-verdict}
-use Rattle.trie.proofs.Walking.{node-in}
+use Rattle.meaning.proofs.Walking.{node-in}
 use Rattle.walk.specs.declared.Child.the-variants.{At}
 use Rattle.walk.specs.Walks.{node}
 use Rattle.walk.specs.Nodes.{nodeOf}

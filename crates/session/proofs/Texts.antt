@@ -18,9 +18,9 @@ use Rattle.rules.specs.Tables.{Table, Ordered}
 use Rattle.rules.specs.Names.{textRefusal}
 use Rattle.rules.specs.Indexes.{beginnings, butLast}
 use Rattle.rules.specs.Sessions.{nodeOr0, pathAt, sessionOf, freshSession, lettersOf, LawfulSession}
-use Rattle.trie.proofs.Tree.{number-in}
-use Rattle.trie.proofs.Tables.{root-first, beginnings-tree}
-use Rattle.trie.proofs.Walking.{node-in, node-gone}
+use Rattle.meaning.proofs.Tree.{number-in}
+use Rattle.meaning.proofs.Tables.{root-first, beginnings-tree}
+use Rattle.meaning.proofs.Walking.{node-in, node-gone}
 use Rattle.session.specs.Strokes.{lengthened, shortened}
 
 -- ---- a text with zeros behind it, in n places

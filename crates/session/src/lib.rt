@@ -78,7 +78,7 @@ fn leads(nodes: &[u32], letters: usize, last: Node, byte: u8) -> Led
 
 // A letter typed, by value: one look among the children of the last letter's node, however long the text. One local is the session all
 // the way to the one return, changed only where the letter is taken, so that the record is copied once in and once out.
-pub fn typed(nodes: &[u32], session: Session, byte: u8) -> Stroke
+pub fn with_letter(nodes: &[u32], session: Session, byte: u8) -> Stroke
     ensures { λ r. ⌜ r ≡ typedOn (given nodes) session byte ⌝ }
 {
     let mut after = session;
@@ -143,7 +143,7 @@ pub fn reached(session: Session) -> Child
 pub fn type_byte(nodes: &[u32], session: &mut Session, byte: u8) -> Verdict
     ensures { λ r. ⌜ TypePromise (given nodes) byte (given session) (after session) r ⌝ }
 {
-    let out = typed(nodes, *session, byte);
+    let out = with_letter(nodes, *session, byte);
     *session = out.session;
     out.verdict
 }

@@ -1,2 +1,3 @@
--- The laws that the proofs of `table` cite beyond those of base and rules.
+-- The laws that the proofs of `table` cite beyond those of base and rules; and that the rest of a name has one outcome.
 pub mod Parts
+pub mod Outcomes

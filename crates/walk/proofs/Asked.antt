@@ -1,33 +1,49 @@
--- A promise from a listing is a promise of the text or the session that led there.
--- Assumes nothing.
-use mathlib.Core.Path.{_≡_, refl, _∙_}
+-- What a question promises that starts from a listing is what it promises of the text, or of the session, that led there.
+-- comesTo is what a refusal and a list come to. Assumes nothing.
+use mathlib.Core.Path.{_≡_, refl, sym, ap, _∙_}
 use mathlib.Core.Bool.{true}
 use mathlib.Core.List.{List}
 use Prim.Native.Nat.{ℕ}
 use Rattle.rules.specs.declared.Grid.{Grid}
+use Rattle.rules.specs.declared.Refusal.{Refusal}
+use Rattle.rules.specs.Numbers.{refusalNumber, firstGiven}
+use Rattle.rules.specs.Names.{textRefusal}
 use Rattle.rules.specs.Tables.{Table}
-use Rattle.rules.specs.Outcomes.{Outcome}
+use Rattle.rules.specs.Outcomes.{Outcome, refused}
 use Rattle.rules.specs.Promises.{Kept}
 use Rattle.rules.specs.Indexes.{Index, setLawful}
 use Rattle.rules.proofs.Lawful.{set-parts}
+use Rattle.rules.proofs.Numbers.{refusal-some}
+use Rattle.rules.proofs.Refusals.{first-given}
+use Rattle.rules.proofs.Outcomes.{refused-kept}
 use Rattle.walk.specs.declared.listing.Listing.{Listing}
 use Rattle.walk.specs.Walks.{nodeIn}
 use Rattle.walk.specs.Nodes.{nodeOf}
-use Rattle.walk.specs.Listings.{listingAt}
+use Rattle.walk.specs.Listings.{listingAt, listingOf}
 use Rattle.walk.specs.Asked.{Listed, FromPromise}
 use Rattle.walk.proofs.Listed.{listing-reached, listing-found}
 
-pub from-kept : {Item : Type 0} (Serves : Table → List ℕ → Type 0) (comesTo : List Item → Outcome) (meant : Table → List ℕ → List Item) (rooms : List (List ℕ)) (o : Outcome)
-    → FromPromise Serves comesTo meant rooms o → (Lawful : Type 0) (t : Table) (p : List ℕ) → (Lawful → Serves t p) → Kept Lawful comesTo (meant t p) rooms o
-from-kept Serves comesTo meant rooms o w Lawful t p serves = record { exact = λ law. w .exact t p (serves law); harmless = w .harmless }
+-- a text that is not refused
+pub from-kept : {Item : Type 0} (Lawful : Type 0) (Serves : Table → List ℕ → Type 0) (comesTo : ℕ → List Item → Outcome) (meant : Table → List ℕ → List Item) (rooms : List (List ℕ))
+    (o : Outcome) (t : Table) (p : List ℕ) (n : ℕ) → textRefusal p ≡ 0 → (Lawful → Serves t p) → FromPromise Serves (comesTo n) meant rooms o
+    → Kept Lawful (comesTo (firstGiven (textRefusal p) n)) (meant t p) rooms o
+from-kept Lawful Serves comesTo meant rooms o t p n fine serves w = rw fine (record { exact = λ law. w .exact t p (serves law); harmless = w .harmless })
 
-module _ (t : Table) (g : Grid) (x : Index) (p : List ℕ) (at : Listing) (law : setLawful t g x ≡ true) where
-  -- from a walk along the text
-  pub text-listed : at ≡ listingAt (x .nodes) (nodeIn (x .nodes) p) → Listed (t .east) (t .north) (t .score) g (x .order) (x .entries) at t p
-  text-listed e =
-      record { easts = refl; norths = refl; scores = refl; nodes = x .nodes; lawful = law; listing = e ∙ listing-found t g x (set-parts t g x law) p }
+-- a text that is
+pub text-refused : {Item : Type 0} (Lawful : Type 0) (comesTo : ℕ → List Item → Outcome) (meant : List Item) (rooms : List (List ℕ)) (p : List ℕ) (n : ℕ)
+    → ((m : ℕ) (list : List Item) → (m ≡ 0 → ⊥) → comesTo m list ≡ refused m rooms) → (why : Refusal) → refusalNumber why ≡ textRefusal p
+    → Kept Lawful (comesTo (firstGiven (textRefusal p) n)) meant rooms (refused (refusalNumber why) rooms)
+text-refused Lawful comesTo meant rooms p n whatever why e =
+    let given : firstGiven (textRefusal p) n ≡ refusalNumber why = ap (λ (m : ℕ). firstGiven m n) (sym e) ∙ first-given (refusalNumber why) n (refusal-some why) in
+    refused-kept Lawful _ meant rooms (refusalNumber why) (λ list. ap (λ (m : ℕ). comesTo m list) given ∙ whatever (refusalNumber why) list (refusal-some why))
 
-  -- from the text's node, where it is known
-  pub node-listed : at ≡ listingAt (x .nodes) (nodeOf t p) → Listed (t .east) (t .north) (t .score) g (x .order) (x .entries) at t p
-  node-listed e =
-      record { easts = refl; norths = refl; scores = refl; nodes = x .nodes; lawful = law; listing = e ∙ listing-reached t g x (set-parts t g x law) p }
+-- a walk along a text serves it, and so does the text's node where that is known
+module _ (t : Table) (g : Grid) (x : Index) (p : List ℕ) (at : Listing) where
+  listed : at ≡ listingOf t g p → setLawful t g x ≡ true → Listed (t .east) (t .north) (t .score) g (x .order) (x .entries) at t p
+  listed same law = record { easts = refl; norths = refl; scores = refl; nodes = x .nodes; lawful = law; listing = same }
+
+  pub text-listed : at ≡ listingAt (x .nodes) (nodeIn (x .nodes) p) → setLawful t g x ≡ true → Listed (t .east) (t .north) (t .score) g (x .order) (x .entries) at t p
+  text-listed walked law = listed (walked ∙ listing-found t g x (set-parts t g x law) p) law
+
+  pub node-listed : at ≡ listingAt (x .nodes) (nodeOf t p) → setLawful t g x ≡ true → Listed (t .east) (t .north) (t .score) g (x .order) (x .entries) at t p
+  node-listed reached law = listed (reached ∙ listing-reached t g x (set-parts t g x law) p) law

@@ -15,17 +15,16 @@ use Rattle.base.proofs.Tests.{which, le-or-lt}
 use Rattle.base.proofs.Members.{getD-in}
 use Rattle.base.proofs.Begins.{begins-at, begins-length, begins-append, in-or-out}
 use Rattle.rules.specs.declared.Grid.{Grid}
-use Rattle.rules.specs.declared.Node.{Node}
 use Rattle.rules.specs.Tables.{Table, Ordered}
 use Rattle.rules.specs.Indexes.{beginnings, numberIn, lastByte, pastOf, nodeRow, nodeWords, nodeCount}
-use Rattle.trie.specs.Trees.{Tree, Looking, textOf}
-use Rattle.trie.proofs.Tree.{number-in, number-out}
-use Rattle.trie.proofs.Tables.{beginnings-tree}
-use Rattle.trie.proofs.Words.{nodes-length, node-word}
-use Rattle.trie.proofs.Children.{past-bounds, child-past}
-use Rattle.trie.proofs.Walking.{look-start, look-next, look-found, look-none}
+use Rattle.meaning.specs.Trees.{Tree, Looking, textOf}
+use Rattle.meaning.proofs.Tree.{number-in, number-out}
+use Rattle.meaning.proofs.Tables.{beginnings-tree}
+use Rattle.meaning.proofs.Words.{nodes-length, node-word}
+use Rattle.meaning.proofs.Children.{past-bounds, child-past}
+use Rattle.meaning.proofs.Walking.{look-start, look-next, look-found, look-none}
 use Rattle.walk.specs.declared.Child.{Child}
-use Rattle.walk.specs.declared.Child.the-variants.{At, Nowhere, Broken}
+use Rattle.walk.specs.declared.Child.the-variants.{At, Nowhere}
 use Rattle.walk.specs.Walks.{node, nodeWord, siblings, childIn, onFrom, nodeFrom, nodeIn}
 use Rattle.walk.specs.Nodes.{nodeOf}
 use Rattle.walk.proofs.Steps.{siblings-past, siblings-here, siblings-next, child-siblings}
@@ -40,24 +39,6 @@ module _ (t : Table) (p : List ℕ) where
   node-of-out h =
       let e = number-out p (beginnings t) h in
       rw (le-ltb (numberIn p (beginnings t)) (length (beginnings t)) (omega arith))
-
-  -- what each outcome says of the text
-  pub at-means : (n : ℕ) → nodeOf t p ≡ At (node n) → In p (beginnings t) × (n ≡ numberIn p (beginnings t))
-  at-means n e = step (in-or-out p (beginnings t))
-    where
-      step : In p (beginnings t) ⊎ (In p (beginnings t) → ⊥) → In p (beginnings t) × (n ≡ numberIn p (beginnings t))
-      step (inl h) = let same : node n ≡ node (numberIn p (beginnings t)) = cc (e, node-of-in h) in (h, ap (λ (x : Node). x .0) same)
-      step (inr h) = let z : _≡_ {A = ℕ} 0 1 = cc (e, node-of-out h) in absurd (omega arith)
-
-  pub nowhere-means : nodeOf t p ≡ Nowhere → In p (beginnings t) → ⊥
-  nowhere-means e h = let z : _≡_ {A = ℕ} 0 1 = cc (e, node-of-in h) in absurd (omega arith)
-
-  pub never-broken : nodeOf t p ≡ Broken → ⊥
-  never-broken e = step (in-or-out p (beginnings t))
-    where
-      step : In p (beginnings t) ⊎ (In p (beginnings t) → ⊥) → ⊥
-      step (inl h) = let z : _≡_ {A = ℕ} 0 1 = cc (e, node-of-in h) in omega arith
-      step (inr h) = let z : _≡_ {A = ℕ} 0 1 = cc (e, node-of-out h) in omega arith
 
 -- a search among node j's children for the byte b, from sibling c on, finds what is there
 abbrev Finds : Table → List ℕ → ℕ → ℕ → ℕ → ℕ → Type 0

@@ -21,10 +21,10 @@ use Rattle.rules.proofs.Lawful.{SetParts}
 use Rattle.grid.specs.declared.cells.Cells.{Cells}
 use Rattle.grid.specs.Cells.{cellsBy, regionsIn}
 use Rattle.grid.proofs.Listed.{listed-by}
-use Rattle.trie.specs.Trees.{textOf}
-use Rattle.trie.proofs.Tree.{number-in, number-out}
-use Rattle.trie.proofs.Tables.{beginnings-of}
-use Rattle.trie.proofs.Words.{entries-length}
+use Rattle.meaning.specs.Trees.{textOf}
+use Rattle.meaning.proofs.Tree.{number-in, number-out}
+use Rattle.meaning.proofs.Tables.{beginnings-of}
+use Rattle.meaning.proofs.Words.{entries-length}
 use Rattle.walk.specs.declared.listing.Listing.{Listing}
 use Rattle.walk.specs.declared.listing.Listing.the-variants.{Entries, Nowhere, Broken}
 use Rattle.walk.specs.Walks.{nodeIn}

@@ -1,8 +1,7 @@
 -- One entry's words: the ways that it is read; and that on the words that building writes a node's entries are the rules'.
 -- Assumes nothing.
-use mathlib.Core.Path.{_≡_, refl, sym, ap, _∙_}
-use mathlib.Core.Logic.{_⊎_, inl, inr}
-use mathlib.Core.Bool.{true, false, _&&_}
+use mathlib.Core.Path.{_≡_, refl, sym, ap, _∙_, subst}
+use mathlib.Core.Bool.{Bool, true, false, cond, _&&_}
 use mathlib.Core.List.{List, [], _∷_}
 use Prim.Native.Nat.{ℕ, suc, _+_, _*_, _/_, _≤_, _<_}
 use native.Mathlib.Omega.{arith}
@@ -10,7 +9,7 @@ use lib.Dec.{ltb, leb}
 use lib.ListN.{length, getD}
 use borrow.Author.Tests.{lt-ltb, le-ltb, le-leb, lt-leb, ltb-true, leb-true}
 use Rattle.base.specs.Lists.{each}
-use Rattle.base.proofs.Tests.{which, and-parts}
+use Rattle.base.proofs.Tests.{and-parts}
 use Rattle.base.proofs.Members.{length-each, getD-each, getD-in}
 use Rattle.base.proofs.Begins.{begins-length, begins-at}
 use Rattle.rules.specs.declared.Grid.{Grid}
@@ -19,11 +18,12 @@ use Rattle.rules.specs.Tables.{Table, stands}
 use Rattle.rules.specs.Indexes.{Index, nodeCount, nodeRow, entriesOf, entryRow, entryWords}
 use Rattle.rules.specs.Indexes as rules
 use Rattle.rules.proofs.Lawful.{SetParts}
-use Rattle.trie.specs.Trees.{textOf}
-use Rattle.trie.specs.Meaning.{noEntry, entryAt}
-use Rattle.trie.proofs.Words.{entries-length, entry-words-length, entries-fit, entry-word}
-use Rattle.trie.proofs.Entries.{entries-mean, entry-own}
+use Rattle.meaning.specs.Trees.{textOf}
+use Rattle.meaning.specs.Meaning.{noEntry, entryAt}
+use Rattle.meaning.proofs.Words.{entries-length, entry-words-length, entries-fit, entry-word}
+use Rattle.meaning.proofs.Entries.{entries-mean, entry-own}
 use Rattle.walk.specs.declared.entry.Entry.{Entry}
+use Rattle.walk.specs.declared.entry.EntryRead.{EntryRead}
 use Rattle.walk.specs.declared.entry.EntryRead.the-variants.{At, Broken}
 use Rattle.walk.specs.Entries.{entryWord, entryIn, within, entryRead, asRead, Spelled}
 
@@ -61,18 +61,18 @@ module _ (words : List ℕ) (places number : ℕ) where
     unfolding entryRead
     entry-is h = rw (lt-ltb _ _ there, h)
 
-  -- what is known of an entry that could be read
-  pub read-facts : (e : Entry) → entryRead words places number ≡ At e → (e .region < 64) × (e .past .0 ≤ places)
-  unfolding entryRead
-  read-facts e q = step (which (ltb number (length words / 4) && within places (entryIn words number)))
-    where
-      step : (ltb number (length words / 4) && within places (entryIn words number) ≡ true) ⊎ (ltb number (length words / 4) && within places (entryIn words number) ≡ false)
-          → (e .region < 64) × (e .past .0 ≤ places)
-      step (inl w) =
-          let same : At (entryIn words number) ≡ At e = sym (rw w) ∙ q in
-          let it : entryIn words number ≡ e = cc in
-          rw (sym it) (within-facts places (entryIn words number) (and-parts (ltb number (length words / 4)) (within places (entryIn words number)) w .1))
-      step (inr w) = let z : _≡_ {A = ℕ} 0 1 = cc (rw w at q) in absurd (omega arith)
+-- one that was read is there, and within the places
+pub read-facts : (words : List ℕ) (places number : ℕ) (x : Entry) → entryRead words places number ≡ At x → (number < length words / 4) × (within places x ≡ true)
+unfolding entryRead
+read-facts words places number x e = subst Facts e (step _ refl)
+  where
+    Facts : EntryRead → Type 0
+    Facts (At x) = (number < length words / 4) × (within places x ≡ true)
+    Facts Broken = Unit {0}
+
+    step : (b : Bool) → (ltb number (length words / 4) && within places (entryIn words number)) ≡ b → Facts (cond b (At (entryIn words number)) Broken)
+    step true h = let w = and-parts _ _ h in (ltb-true _ _ (w .0), w .1)
+    step false h = tt
 
 -- entries that are read one by one stand one after the other
 spelled-by : (words : List ℕ) (places : ℕ) (d : Entry) (es : List Entry) (number : ℕ) → ((i : ℕ) → i < length es → entryRead words places (number + i) ≡ At (getD es i d))

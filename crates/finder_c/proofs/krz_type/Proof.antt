@@ -58,10 +58,10 @@ use Rattle.session.proofs.Thin.{sessionVal, strokeVal, verdict-is, session-is, 
 use Rattle.session.specs.declared.Stroke.{Stroke}
 use Rattle.session.proofs.Stroke as P
 use Rattle.session.proofs.Stroke.Laws as P′
-use Rattle.session.proofs.typed as g
-use Rattle.session.proofs.typed.Symbol as g-def
-use Rattle.session.proofs.typed.Symbol.{name as #g}
-use Rattle.session.proofs.typed.Met as g-thm
+use Rattle.session.proofs.with_letter as g
+use Rattle.session.proofs.with_letter.Symbol as g-def
+use Rattle.session.proofs.with_letter.Symbol.{name as #g}
+use Rattle.session.proofs.with_letter.Met as g-thm
 use Rattle.finder_c.proofs.Lent.{gridVal, Number, to-m, goes-m, said-m}
 use Rattle.finder_c.proofs.krz_type.Key.{name as #f}
 use Rattle.finder_c.proofs.krz_type as f

@@ -2,7 +2,6 @@
 use mathlib.Core.Path.{sym, ap, _∙_}
 use borrow.Author.Needs.{needs}
 use Rattle.rules.specs.Numbers.{verdictNumber}
-use Rattle.rules.proofs.Numbers.{refusal-some}
 use Rattle.letters.proofs.Ways.{range-refused, range-reached}
 use Rattle.letters.proofs.range_typed.Statement.{statement}
 use Rattle.letters.proofs.range_typed.Tie as tie
@@ -14,7 +13,7 @@ enum-known-why : tie.Need-enum-known-why
 enum-known-why c = search needs
 
 returns : tie.Need-returns
-returns c = range-refused _ _ _ _ _ _ _ (ap verdictNumber (sym (c .before .why .given .1)) ∙ c .before .before .before .letters-verdict .ensures) (refusal-some (c .before .why .given .0 .0))
+returns c = range-refused _ _ _ _ _ _ (c .before .why .given .0 .0) (ap verdictNumber (sym (c .before .why .given .1)) ∙ c .before .before .before .letters-verdict .ensures)
 
 enum-told : tie.Need-enum-told
 enum-told c = search needs

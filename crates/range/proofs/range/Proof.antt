@@ -2,9 +2,7 @@
 -- Assumes nothing.
 use mathlib.Core.Path.{sym, ap, _∙_}
 use Rattle.rules.specs.Numbers.{verdictNumber}
-use Rattle.rules.proofs.Numbers.{refusal-some}
-use Rattle.rules.proofs.Outcomes.{range-text-refused, range-text-taken}
-use Rattle.walk.proofs.Asked.{from-kept, text-listed}
+use Rattle.range.proofs.Promises.{of-refused, of-listed}
 use borrow.Author.Needs.{needs}
 use Rattle.range.proofs.range.Statement.{statement}
 use Rattle.range.proofs.range.Tie as tie
@@ -16,7 +14,7 @@ enum-known-why : tie.Need-enum-known-why
 enum-known-why c = search needs
 
 returns : tie.Need-returns
-returns c = range-text-refused _ _ _ _ _ _ (ap verdictNumber (sym (c .before .why .given .1)) ∙ c .before .before .before .text-verdict .ensures) (refusal-some (c .before .why .given .0 .0)) _
+returns c = of-refused _ _ _ _ _ _ (c .before .why .given .0 .0) (ap verdictNumber (sym (c .before .why .given .1)) ∙ c .before .before .before .text-verdict .ensures)
 
 enum-told : tie.Need-enum-told
 enum-told c = search needs
@@ -32,10 +30,9 @@ same-length c = search needs
 
 returns-2 : tie.Need-returns-2
 returns-2 c =
-    range-text-taken _ _ _ _ _
+    of-listed _ _ _ _ _ _ _ _
     (sym (c .before .before .before .before .before .before .before .text-verdict .ensures) ∙ ap verdictNumber (c .before .before .before .before .before .enum-told .given .1))
-    _ _
-    (from-kept _ _ _ _ _ (c .before .before .range-from .ensures) _ _ _ (λ law. text-listed _ _ _ _ _ law (c .before .before .before .before .listing-of .ensures)))
+    (c .before .before .before .before .listing-of .ensures) (c .before .before .range-from .ensures)
 
 pub range-spec : {M : Type 1} → statement M
 range-spec =

@@ -54,10 +54,10 @@ use Rattle.session.proofs.Promises.{type-keeps}
 use Rattle.session.proofs.Thin.{sessionVal, verdictVal, strokeVal, verdict-is, session-is, text-full, session-typed, verdict-typed, stroke-typed}
 use Rattle.session.proofs.Stroke as P
 use Rattle.session.proofs.Stroke.Laws as P′
-use Rattle.session.proofs.typed as g
-use Rattle.session.proofs.typed.Symbol as g-def
-use Rattle.session.proofs.typed.Symbol.{name as #g}
-use Rattle.session.proofs.typed.Met as g-thm
+use Rattle.session.proofs.with_letter as g
+use Rattle.session.proofs.with_letter.Symbol as g-def
+use Rattle.session.proofs.with_letter.Symbol.{name as #g}
+use Rattle.session.proofs.with_letter.Met as g-thm
 use Rattle.session.proofs.type_byte.Key.{name as #f}
 use Rattle.session.proofs.type_byte as f
 use Rattle.session.proofs.type_byte.Statement as stated

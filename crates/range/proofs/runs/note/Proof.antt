@@ -3,7 +3,7 @@
 use Prim.Native.Nat.{_-_, _<_}
 use mathlib.Core.Path.{sym, _∙_}
 use native.Mathlib.Omega.{arith}
-use Rattle.walk.proofs.Spelled.{read-facts}
+use Rattle.walk.proofs.Spelled.{within-facts, read-facts}
 use Rattle.range.proofs.Turns.{Noting, note-begins, note-breaks, note-more, note-ends}
 use borrow.Author.Needs.{needs}
 use Rattle.range.proofs.runs.note.Statement.{statement}
@@ -40,13 +40,13 @@ mul-firsts : tie.Need-mul-firsts Inv-loop μ-loop
 mul-firsts c = search needs
 
 element-write-firsts : tie.Need-element-write-firsts Inv-loop μ-loop
-element-write-firsts c = read-facts _ _ _ _ (sym (c .before .before .before .before .entry-at .ensures) ∙ c .before .before .entry .given .1) .0
+element-write-firsts c = within-facts _ _ (read-facts _ _ _ _ (sym (c .before .before .before .before .entry-at .ensures) ∙ c .before .before .entry .given .1) .1) .0
 
 mul-pasts : tie.Need-mul-pasts Inv-loop μ-loop
 mul-pasts c = search needs
 
 element-write-pasts : tie.Need-element-write-pasts Inv-loop μ-loop
-element-write-pasts c = read-facts _ _ _ _ (sym (c .before .before .before .before .entry-at .ensures) ∙ c .before .before .entry .given .1) .0
+element-write-pasts c = within-facts _ _ (read-facts _ _ _ _ (sym (c .before .before .before .before .entry-at .ensures) ∙ c .before .before .entry .given .1) .1) .0
 
 add-e : tie.Need-add-e Inv-loop μ-loop
 add-e c = search needs

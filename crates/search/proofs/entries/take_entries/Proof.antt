@@ -7,7 +7,7 @@ use Rattle.base.proofs.Tests.{breaks, holds}
 use Rattle.best.proofs.Streams.{nothing-held}
 use Rattle.search.specs.Searches.{standColumns, entriesTaken}
 use Rattle.search.proofs.Asking.{some-asked, few-asked}
-use Rattle.search.proofs.Reading.{read-facts}
+use Rattle.walk.proofs.Spelled.{read-facts}
 use Rattle.search.proofs.Taking.{Taking, take-done, unread, unusable, take-next, take-stop}
 use Rattle.search.proofs.entries.take_entries.Statement.{statement}
 use Rattle.search.proofs.entries.take_entries.Tie as tie

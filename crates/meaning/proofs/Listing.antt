@@ -18,9 +18,9 @@ use Rattle.rules.specs.Places.{regions, inRect}
 use Rattle.rules.specs.Tables.{Table, stands, nameOf, placeOf, LawfulTable}
 use Rattle.rules.specs.Questions.{under, regionOfStand, inRegion, byRegion}
 use Rattle.rules.specs.Indexes.{occupied}
-use Rattle.trie.specs.Meaning.{StandUnder, UnderMeans, RegionFirst, ListedByRegion, OrderMeans, RangeMeans, RegionHeld}
-use Rattle.trie.proofs.Tables.{under-in, in-under}
-use Rattle.trie.proofs.Regions.{by-region-shuffle}
+use Rattle.meaning.specs.Meaning.{StandUnder, UnderMeans, RegionFirst, ListedByRegion, OrderMeans, RangeMeans, RegionHeld}
+use Rattle.meaning.proofs.Tables.{under-in, in-under}
+use Rattle.meaning.proofs.Regions.{by-region-shuffle}
 
 -- ---- the stands under a text
 

@@ -17,8 +17,8 @@ use Rattle.base.proofs.Pairs.{pairs-append, pairs-keep, pairs-at, pairs-weaken,
 use Rattle.rules.specs.Names.{inOrder}
 use Rattle.rules.specs.Indexes.{beginningsOf, numberIn}
 use Rattle.rules.proofs.Orders.{StrictlyRising, order-refl, begins-order, begins-above, begins-strict, strict-after}
-use Rattle.trie.specs.Trees.{Sorted, Tree, fresh, trieFrom, trieOf, Chain}
-use Rattle.trie.proofs.Fresh.{in-fresh, fresh-in}
+use Rattle.meaning.specs.Trees.{Sorted, Tree, fresh, trieFrom, trieOf, Chain}
+use Rattle.meaning.proofs.Fresh.{in-fresh, fresh-in}
 
 -- `x` strictly before `y`
 abbrev Before : List ℕ → List ℕ → Type 0

@@ -1,4 +1,4 @@
--- `session::typed` meets its contract: each return by where the letter leads (proofs/Steps.antt). Assumes nothing.
+-- `session::with_letter` meets its contract: each return by where the letter leads (proofs/Steps.antt). Assumes nothing.
 use mathlib.Core.Path.{_≡_, sym, ap, _∙_}
 use mathlib.Core.Logic.{⊎-elim}
 use Prim.Native.Nat.{_<_}
@@ -6,8 +6,8 @@ use native.Mathlib.Omega.{arith}
 use borrow.Author.Needs.{needs}
 use Rattle.session.specs.Strokes.{lengthened, struck, typedOn}
 use Rattle.session.proofs.Steps.{led-room, typed-led}
-use Rattle.session.proofs.typed.Statement.{statement}
-use Rattle.session.proofs.typed.Tie as tie
+use Rattle.session.proofs.with_letter.Statement.{statement}
+use Rattle.session.proofs.with_letter.Tie as tie
 
 cast-len : tie.Need-cast-len
 cast-len c = search needs
@@ -61,8 +61,8 @@ returns c = sym (led (c .before .before .before) ∙ ap (struck _ _) (c .before 
 returns-2 : tie.Need-returns-2
 returns-2 c = sym (led (c .before .before .before) ∙ ap (struck _ _) (c .before .why .given .1))
 
-pub typed-spec : {M : Type 1} → statement M
-typed-spec =
+pub with-letter-spec : {M : Type 1} → statement M
+with-letter-spec =
     tie.close
     (tie.spec
     cast-len

@@ -16,8 +16,8 @@ use Rattle.rules.specs.declared.Ranking.{Ranking}
 use Rattle.rules.specs.declared.Hit.{Hit}
 use Rattle.rules.specs.Tables.{Table}
 use Rattle.rules.specs.Questions.{under, better, hitOf}
-use Rattle.trie.specs.Meaning.{StandUnder, Better, noHit, RankedMeans}
-use Rattle.trie.proofs.Listing.{under-rises, stand-under, under-stand}
+use Rattle.meaning.specs.Meaning.{StandUnder, Better, noHit, RankedMeans}
+use Rattle.meaning.proofs.Listing.{under-rises, stand-under, under-stand}
 
 module _ (t : Table) (g : Grid) (p : List ℕ) (q : Ranking) where
   hits : List Hit

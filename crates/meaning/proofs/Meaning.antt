@@ -15,17 +15,17 @@ use Rattle.rules.specs.Tables.{Table, stands, nameOf, Ordered, tableRefusal}
 use Rattle.rules.specs.Indexes.{beginnings, nodeCount, butLast}
 use Rattle.rules.specs.Sessions.{nodeOr0}
 use Rattle.rules.proofs.Lawful.{lawful}
-use Rattle.trie.specs.Trees.{Tree, textOf}
-use Rattle.trie.specs.Meaning.{StandUnder, BeginningsMean, NodeMeans, TableMeans}
-use Rattle.trie.proofs.Tree.{sorted-once, number-in, number-at}
-use Rattle.trie.proofs.Children.{subtree-in, subtree-only, way-child, child-way, child-bytes, child-parent, parent-child}
-use Rattle.trie.proofs.Tables.{beginnings-tree, beginnings-of, beginnings-from, root-first}
-use Rattle.trie.proofs.Walking.{node-in, node-out}
-use Rattle.trie.proofs.Sizes.{sizes-bounded, sizes-by-text}
-use Rattle.trie.proofs.Listing.{under-means, order-means, range-means}
-use Rattle.trie.proofs.Entries.{entries-mean}
-use Rattle.trie.proofs.NodeWords.{row-means}
-use Rattle.trie.proofs.Ranking.{ranked-means}
+use Rattle.meaning.specs.Trees.{Tree, textOf}
+use Rattle.meaning.specs.Meaning.{StandUnder, BeginningsMean, NodeMeans, TableMeans}
+use Rattle.meaning.proofs.Tree.{sorted-once, number-in, number-at}
+use Rattle.meaning.proofs.Children.{subtree-in, subtree-only, way-child, child-way, child-bytes, child-parent, parent-child}
+use Rattle.meaning.proofs.Tables.{beginnings-tree, beginnings-of, beginnings-from, root-first}
+use Rattle.meaning.proofs.Walking.{node-in, node-out}
+use Rattle.meaning.proofs.Sizes.{sizes-bounded, sizes-by-text}
+use Rattle.meaning.proofs.Listing.{under-means, order-means, range-means}
+use Rattle.meaning.proofs.Entries.{entries-mean}
+use Rattle.meaning.proofs.NodeWords.{row-means}
+use Rattle.meaning.proofs.Ranking.{ranked-means}
 
 module _ (t : Table) (o : Ordered t) where
   abbrev B : List (List ℕ)

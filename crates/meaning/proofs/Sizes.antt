@@ -27,13 +27,13 @@ use Rattle.rules.specs.Questions.{under, inRegion}
 use Rattle.rules.specs.Indexes.{beginnings, nodeCount, occupied, regionsUnder, entryCount}
 use Rattle.rules.proofs.Lawful.{start-inside, name-part}
 use Rattle.rules.proofs.Orders.{begins-order}
-use Rattle.trie.specs.Trees.{Sorted}
-use Rattle.trie.specs.Adding.{nodesBefore}
-use Rattle.trie.specs.Meaning.{SizesBounded, SizesByText}
-use Rattle.trie.proofs.Tables.{beginnings-tree, root-first, in-under}
-use Rattle.trie.proofs.Words.{nodes-length, entries-counted, entry-words-length}
-use Rattle.trie.proofs.Adding.{nodes-step, nodes-all}
-use Rattle.trie.proofs.Regions.{by-region-shuffle}
+use Rattle.meaning.specs.Trees.{Sorted}
+use Rattle.meaning.specs.Adding.{nodesBefore}
+use Rattle.meaning.specs.Meaning.{SizesBounded, SizesByText}
+use Rattle.meaning.proofs.Tables.{beginnings-tree, root-first, in-under}
+use Rattle.meaning.proofs.Words.{nodes-length, entries-counted, entry-words-length}
+use Rattle.meaning.proofs.Adding.{nodes-step, nodes-all}
+use Rattle.meaning.proofs.Regions.{by-region-shuffle}
 
 -- texts strictly in order that begin one name: each is longer than those before, so they are at most one for each length
 beginnings-few : (n : List ℕ) (B : List (List ℕ)) → Sorted B → length (keep (λ p. begins p n) B) ≤ suc (length n)

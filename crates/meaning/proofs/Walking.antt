@@ -16,9 +16,9 @@ use Rattle.base.proofs.Begins.{take-begins}
 use Rattle.rules.specs.Tables.{Table}
 use Rattle.rules.specs.Indexes.{beginnings, numberIn, lastByte, pastOf}
 use Rattle.rules.specs.Sessions.{nodeOr0}
-use Rattle.trie.specs.Trees.{Tree, Child, Looking}
-use Rattle.trie.proofs.Tree.{number-in, number-out, number-at}
-use Rattle.trie.proofs.Children.{past-bounds, child-after, child-past, child-first, child-next, child-gap, child-text, member-child}
+use Rattle.meaning.specs.Trees.{Tree, Child, Looking}
+use Rattle.meaning.proofs.Tree.{number-in, number-out, number-at}
+use Rattle.meaning.proofs.Children.{past-bounds, child-after, child-past, child-first, child-next, child-gap, child-text, member-child}
 
 module _ (B : List (List ℕ)) (t : Tree B) (j : ℕ) (lt : j < length B) (b : ℕ) where
   pub look-start : Looking B j b (suc j)

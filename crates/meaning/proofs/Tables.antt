@@ -16,10 +16,10 @@ use Rattle.rules.specs.Tables.{Table, stands, nameOf, Ordered}
 use Rattle.rules.specs.Questions.{under}
 use Rattle.rules.specs.Indexes.{newAt, beginnings, nodeCount, pastOf}
 use Rattle.rules.proofs.Orders.{rising}
-use Rattle.trie.specs.Trees.{Tree, textOf, namesOf, trieFrom, trieOf, Chain}
-use Rattle.trie.proofs.Blocks.{block-run, block-in, block-out}
-use Rattle.trie.proofs.Fresh.{fresh-all}
-use Rattle.trie.proofs.Tree.{Beginning, tree-member, tree-every, tree-of}
+use Rattle.meaning.specs.Trees.{Tree, textOf, namesOf, trieFrom, trieOf, Chain}
+use Rattle.meaning.proofs.Blocks.{block-run, block-in, block-out}
+use Rattle.meaning.proofs.Fresh.{fresh-all}
+use Rattle.meaning.proofs.Tree.{Beginning, tree-member, tree-every, tree-of}
 
 module _ (t : Table) where
   -- ---- its beginnings

@@ -17,10 +17,10 @@ use Rattle.base.proofs.Begins.{begins-cases, begins-trans, begins-both, begins-
 use Rattle.rules.specs.Names.{inOrder}
 use Rattle.rules.specs.Indexes.{numberIn, lastByte, butLast, pastOf}
 use Rattle.rules.proofs.Orders.{order-less, order-same, order-append}
-use Rattle.trie.specs.Trees.{Sorted, Tree, Child, OnWay}
-use Rattle.trie.specs.Trees as trees
-use Rattle.trie.proofs.Blocks.{blockOf, block-from, block-begins, block-past}
-use Rattle.trie.proofs.Tree.{sorted-at, sorted-once, number-in, number-at}
+use Rattle.meaning.specs.Trees.{Sorted, Tree, Child, OnWay}
+use Rattle.meaning.specs.Trees as trees
+use Rattle.meaning.proofs.Blocks.{blockOf, block-from, block-begins, block-past}
+use Rattle.meaning.proofs.Tree.{sorted-at, sorted-once, number-in, number-at}
 
 -- ---- subtrees
 

@@ -18,12 +18,12 @@ use Rattle.rules.specs.Tables.{Table, stands, nameOf, Ordered}
 use Rattle.rules.specs.Questions.{under}
 use Rattle.rules.specs.Indexes.{newAt, beginnings, nodeCount, numberIn, lastByte, butLast, pastOf}
 use Rattle.rules.proofs.Orders.{order-antisym, begins-order}
-use Rattle.trie.specs.Trees.{Tree, fresh, textOf}
-use Rattle.trie.specs.Adding.{nameBefore, sharedAt, nodesBefore}
-use Rattle.trie.proofs.Fresh.{fresh-takes, fresh-all}
-use Rattle.trie.proofs.Tree.{number-in, number-at}
-use Rattle.trie.proofs.Children.{subtree-in, subtree-only, past-bounds, last-snoc}
-use Rattle.trie.proofs.Tables.{beginnings-tree, beginnings-of, under-from, under-only}
+use Rattle.meaning.specs.Trees.{Tree, fresh, textOf}
+use Rattle.meaning.specs.Adding.{nameBefore, sharedAt, nodesBefore}
+use Rattle.meaning.proofs.Fresh.{fresh-takes, fresh-all}
+use Rattle.meaning.proofs.Tree.{number-in, number-at}
+use Rattle.meaning.proofs.Children.{subtree-in, subtree-only, past-bounds, last-snoc}
+use Rattle.meaning.proofs.Tables.{beginnings-tree, beginnings-of, under-from, under-only}
 
 -- ---- the nodes that name i adds: its beginnings longer than what it shares, in a row
 

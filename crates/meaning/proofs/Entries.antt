@@ -18,9 +18,9 @@ use Rattle.rules.specs.Places.{regions}
 use Rattle.rules.specs.Tables.{Table, stands, scoreOf, LawfulTable}
 use Rattle.rules.specs.Questions.{under, regionOfStand, inRegion}
 use Rattle.rules.specs.Indexes.{orderWords, occupied, regionsUnder, Entry, entryOf, ahead, entriesOf}
-use Rattle.trie.specs.Meaning.{StandUnder, noEntry, entryAt, EntriesMean}
-use Rattle.trie.proofs.Regions.{entry-slice, region-small}
-use Rattle.trie.proofs.Listing.{in-region, region-in, standsIn, held-occupied, order-means}
+use Rattle.meaning.specs.Meaning.{StandUnder, noEntry, entryAt, EntriesMean}
+use Rattle.meaning.proofs.Regions.{entry-slice, region-small}
+use Rattle.meaning.proofs.Listing.{in-region, region-in, standsIn, held-occupied, order-means}
 
 module _ (t : Table) (g : Grid) (l : LawfulTable t g) (p : List ℕ) where
   abbrev entries : List Entry

@@ -21,7 +21,7 @@ use Rattle.rules.specs.Tables.{Table, stands, placeOf, Ordered, LawfulTable}
 use Rattle.rules.specs.Questions.{under, regionOfStand, inRegion, byRegion, rangeList}
 use Rattle.rules.specs.Indexes.{orderWords, occupied, regionsUnder, entryOf}
 use Rattle.rules.proofs.Places.{region-among}
-use Rattle.trie.proofs.Tables.{under-run, under-fits}
+use Rattle.meaning.proofs.Tables.{under-run, under-fits}
 
 -- ---- n stands put by region ρ, of which there are m; a run of c stands from f on, and those of it in region r
 

@@ -13,13 +13,13 @@ use Rattle.base.proofs.Words.{bit-asks}
 use Rattle.rules.specs.declared.Grid.{Grid}
 use Rattle.rules.specs.Tables.{Table, Ordered}
 use Rattle.rules.specs.Indexes.{beginnings, nodeCount, numberIn, lastByte, butLast, occupied, nodeRow, nodeWords, entryWords}
-use Rattle.trie.specs.Trees.{Tree, textOf}
-use Rattle.trie.specs.Meaning.{noEntry, RegionHeld, RowMeans}
-use Rattle.trie.proofs.Tree.{number-at}
-use Rattle.trie.proofs.Children.{subtree-in, subtree-only, child-text, parent-child}
-use Rattle.trie.proofs.Tables.{beginnings-tree, root-first, under-from, under-only}
-use Rattle.trie.proofs.Words.{node-word, entries-length, entry-word}
-use Rattle.trie.proofs.Listing.{occupied-held, held-occupied}
+use Rattle.meaning.specs.Trees.{Tree, textOf}
+use Rattle.meaning.specs.Meaning.{noEntry, RegionHeld, RowMeans}
+use Rattle.meaning.proofs.Tree.{number-at}
+use Rattle.meaning.proofs.Children.{subtree-in, subtree-only, child-text, parent-child}
+use Rattle.meaning.proofs.Tables.{beginnings-tree, root-first, under-from, under-only}
+use Rattle.meaning.proofs.Words.{node-word, entries-length, entry-word}
+use Rattle.meaning.proofs.Listing.{occupied-held, held-occupied}
 
 module _ (t : Table) (g : Grid) (o : Ordered t) (j : ℕ) (lt : j < nodeCount t) where
   abbrev B : List (List ℕ)

@@ -17,7 +17,7 @@ use Rattle.rules.specs.Tables.{Table, stands, nameOf, placeOf, scoreOf}
 use Rattle.rules.specs.Questions.{under, regionOfStand, inRegion, rangeList, hitOf, rankedList}
 use Rattle.rules.specs.Indexes.{orderWords, beginnings, nodeCount, numberIn, lastByte, butLast, pastOf, nodeWords, Entry, entriesOf, entryRow, entryWords, entryCount}
 use Rattle.rules.specs.Sessions.{nodeOr0}
-use Rattle.trie.specs.Trees.{Child, OnWay, textOf}
+use Rattle.meaning.specs.Trees.{Child, OnWay, textOf}
 
 -- a stand of the table whose name begins with the text p
 pub record StandUnder (t : Table) (p : List ℕ) (i : ℕ) : Type 0 where

@@ -12,7 +12,7 @@ use Rattle.base.proofs.Members.{in-keep, keep-in, keep-none, keep-every, keep-a
 use Rattle.base.proofs.Runs.{in-from, from-in, from-split}
 use Rattle.base.proofs.Begins.{begins-length, take-begins, begins-is-take, shared-le-other, shared-begins, past-shared}
 use Rattle.rules.specs.Indexes.{beginningsOf}
-use Rattle.trie.specs.Trees.{fresh}
+use Rattle.meaning.specs.Trees.{fresh}
 
 pub fresh-takes : (m n : List ℕ) → fresh m n ≡ each (λ l. take l n) (fromOn (suc (sharedLength m n)) (length n - sharedLength m n))
 fresh-takes m n = keep-each (λ p. not (begins p m)) (λ l. take l n) (fromOn 1 (length n)) ∙ ap (each (λ l. take l n)) lengths
