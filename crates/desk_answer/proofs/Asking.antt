@@ -3,7 +3,7 @@
 use mathlib.Core.Path.{_≡_, refl, sym, ap, _∙_}
 use mathlib.Core.Logic.{_⊎_, inl, inr}
 use mathlib.Core.Bool.{true, false, cond}
-use mathlib.Core.List.{List, _++_, append-assoc}
+use mathlib.Core.List.{List, _++_}
 use Prim.Native.Nat.{ℕ, _≤_, _<_}
 use native.Mathlib.Omega.{arith}
 use lib.ListN.{length, getD, List·getD-append}
@@ -29,15 +29,14 @@ use Rattle.trie.proofs.Meaning.{table-means}
 use Rattle.rules.proofs.Refusals.{first-none}
 use Rattle.ranked.specs.Promises.{Exact, tooShort}
 use Rattle.ranked.proofs.Told.{told-refused, told-list}
-use Rattle.desk_line.specs.Writing.{ascii, decimalOf, line}
+use Rattle.lines.specs.Writing.{ascii, decimalOf, line}
 use Rattle.desk_form.specs.Printed.{printedRefusal, printedHit, printedHits, replyTo}
-use Rattle.desk_answer.specs.Puts.{lineOf, hitLines, hitsTo, foundLines, Listed}
+use Rattle.desk_answer.specs.Printing.{hitLines, hitsTo, foundLines, Listed}
 
 -- a hit's lines, by its columns and by its table
 same-lines : (t : Table) (h : Hit) → hitLines (t .text) (t .starts) (h .stand) (h .value) ≡ printedHit t h
 unfolding hitLines printedHit line
-same-lines t h =
-    sym (append-assoc (line "object=" (decimalOf (h .stand))) (line "name=" (nameOf t (h .stand))) (line "value=" (decimalOf (h .value))))
+same-lines t h = refl
 
 module _ (g : Grid) (p : List ℕ) (q : Ranking) where
   -- a question that is not refused asks for at most 16
@@ -128,7 +127,7 @@ module _ (t : Table) (g : Grid) (x : Index) (p : List ℕ) (q : Ranking) (room v
 
   pub hits-told : (n : ℕ) → Exact t g p q (Found n) room values room′ values′ → foundLines (t .text) (t .starts) room′ values′ n ≡ replyTo t g p q
   unfolding hits foundLines hitsTo printedHits line
-  hits-told n x = rw (a .counted) (ap (λ l. lineOf (ascii "found=") (decimalOf (length hits)) ++ l) each-hit ∙ reply-hits t g p q fine (a .asked))
+  hits-told n x = rw (a .counted) (ap (λ l. line (ascii "found=") (decimalOf (length hits)) ++ l) each-hit ∙ reply-hits t g p q fine (a .asked))
     where
       a : Answered n
       a = answered n x
