@@ -3,11 +3,11 @@
 use mathlib.Core.Path.{_≡_, refl, sym, ap, _∙_}
 use mathlib.Core.Logic.{_⊎_, inl, inr}
 use mathlib.Core.Bool.{true, false, cond}
-use mathlib.Core.List.{List, _++_, append-assoc}
+use mathlib.Core.List.{List, [], _∷_, _++_}
 use Prim.Native.Nat.{ℕ, _≤_, _<_}
 use native.Mathlib.Omega.{arith}
 use lib.ListN.{length, getD, List·getD-append}
-use borrow.Author.Tests.{le-ltb, leb-true, ne-eqb}
+use borrow.Author.Tests.{le-leb, leb-true, ne-eqb}
 use Rattle.base.specs.Lists.{In, upTo, each, eachList, written}
 use Rattle.base.proofs.Members.{getD-in, length-each, getD-each, eachList-each, eachList-same}
 use Rattle.base.proofs.Runs.{each-getD, in-from}
@@ -16,28 +16,28 @@ use Rattle.rules.specs.declared.Grid.{Grid}
 use Rattle.rules.specs.declared.Ranking.{Ranking}
 use Rattle.rules.specs.declared.Hit.{Hit}
 use Rattle.rules.specs.declared.Refusal.{Refusal}
+use Rattle.rules.specs.declared.RankedAnswer.{RankedAnswer}
 use Rattle.rules.specs.declared.RankedAnswer.the-variants.{Found, Refused}
-use Rattle.rules.specs.Numbers.{Told, refusalNumber}
+use Rattle.rules.specs.Numbers.{refusalNumber, telling}
 use Rattle.rules.specs.Names.{name, textRefusal}
 use Rattle.rules.specs.Tables.{Table, nameOf, tableRefusal}
-use Rattle.rules.specs.Questions.{rankedList, rankingLawful, rankedRefusal}
+use Rattle.rules.specs.Questions.{ranking, rankedList, rankingLawful, rankedRefusal}
+use Rattle.rules.specs.Outcomes.{Outcome, outcome, refused, standsOf, valuesOf, rankedOutcome, rankedCame}
 use Rattle.rules.specs.Indexes.{Index, setLawful}
 use Rattle.rules.proofs.Lawful.{lawful, taken, set-parts}
 use Rattle.rules.proofs.Numbers.{refusal-some}
+use Rattle.rules.proofs.Outcomes.{settled-refused}
 use Rattle.meaning.specs.Meaning.{noHit}
 use Rattle.meaning.proofs.Meaning.{table-means}
 use Rattle.rules.proofs.Refusals.{first-none}
-use Rattle.ranked.specs.Promises.{Exact, tooShort}
-use Rattle.ranked.proofs.Told.{told-refused, told-list}
-use Rattle.desk_line.specs.Writing.{ascii, decimalOf, line}
+use Rattle.lines.specs.Writing.{ascii, decimalOf, line}
 use Rattle.desk_form.specs.Printed.{printedRefusal, printedHit, printedHits, replyTo}
-use Rattle.desk_answer.specs.Puts.{lineOf, hitLines, hitsTo, foundLines, Listed}
+use Rattle.desk_answer.specs.Printing.{hitLines, hitsTo, foundLines, Listed}
 
 -- a hit's lines, by its columns and by its table
 same-lines : (t : Table) (h : Hit) → hitLines (t .text) (t .starts) (h .stand) (h .value) ≡ printedHit t h
 unfolding hitLines printedHit line
-same-lines t h =
-    sym (append-assoc (line "object=" (decimalOf (h .stand))) (line "name=" (nameOf t (h .stand))) (line "value=" (decimalOf (h .value))))
+same-lines t h = refl
 
 module _ (g : Grid) (p : List ℕ) (q : Ranking) where
   -- a question that is not refused asks for at most 16
@@ -65,53 +65,60 @@ module _ (t : Table) (g : Grid) (x : Index) (p : List ℕ) (q : Ranking) (room v
   fine : tableRefusal t g ≡ 0
   fine = taken t g (set-parts t g x law .table)
 
-  enough : rankedRefusal g p q ≡ 0 → tooShort (q .k) room values ≡ false
-  enough e =
-      let k = k-most g p q e in
-      rw (le-ltb (length room) (q .k) (omega arith), le-ltb (length values) (q .k) (omega arith))
+  -- what the rules' ranking comes to
+  abbrev comes : Outcome
+  comes = rankedOutcome (rankedRefusal g p q) (q .k) (ranking t g p q) (room ∷ values ∷ [])
 
-  pub refusal-told : (why : Refusal) → Exact t g p q (Refused why) room values room′ values′ → printedRefusal (refusalNumber why) ≡ replyTo t g p q
+  abbrev Exact : RankedAnswer → Type 0
+  Exact a = rankedCame a room′ values′ ≡ comes
+
+  comes-refused : 0 < rankedRefusal g p q → comes ≡ refused (rankedRefusal g p q) (room ∷ values ∷ [])
+  comes-refused h = settled-refused (rankedRefusal g p q) _ _ _ _ _ (λ e. omega arith)
+
+  comes-listed : rankedRefusal g p q ≡ 0 → comes ≡ outcome (telling (length hits)) (written (standsOf hits) room ∷ written (valuesOf hits) values ∷ [])
+  unfolding hits
+  comes-listed e =
+      let k = k-most g p q e in
+      rw (e, le-leb (q .k) (length room) (omega arith), le-leb (q .k) (length values) (omega arith))
+
+  pub refusal-told : (why : Refusal) → Exact (Refused why) → printedRefusal (refusalNumber why) ≡ replyTo t g p q
   refusal-told why x = step (le-or-lt (rankedRefusal g p q) 0)
     where
       step : (rankedRefusal g p q ≤ 0) ⊎ (0 < rankedRefusal g p q) → printedRefusal (refusalNumber why) ≡ replyTo t g p q
-      step (inl h) =
-          let e : rankedRefusal g p q ≡ 0 = omega arith in
-          let z : refusalNumber why ≡ 0 = ap (λ (a : Told). a .refusal) (x .told ∙ told-list t g p q room values e (enough e)) in
-          absurd (refusal-some why z)
+      step (inl h) = absurd (refusal-some why (ap (λ (o : Outcome). o .told .refusal) (x ∙ comes-listed (omega arith))))
       step (inr h) =
-          let e : refusalNumber why ≡ rankedRefusal g p q = ap (λ (a : Told). a .refusal) (x .told ∙ told-refused t g p q room values (rankedRefusal g p q) h refl) in
+          let e : refusalNumber why ≡ rankedRefusal g p q = ap (λ (o : Outcome). o .told .refusal) (x ∙ comes-refused h) in
           rw e (reply-refused t g p q fine h)
 
   -- what an answer with a count says
   record Answered (n : ℕ) : Type 0 where
     asked : rankedRefusal g p q ≡ 0
     counted : n ≡ length hits
-    found : room′ ≡ written (each (λ h. h .stand) hits) room
-    worths : values′ ≡ written (each (λ h. h .value) hits) values
+    found : room′ ≡ written (standsOf hits) room
+    worths : values′ ≡ written (valuesOf hits) values
 
-  answered : (n : ℕ) → Exact t g p q (Found n) room values room′ values′ → Answered n
-  unfolding hits
+  answered : (n : ℕ) → Exact (Found n) → Answered n
   answered n x = step (le-or-lt (rankedRefusal g p q) 0)
     where
       step : (rankedRefusal g p q ≤ 0) ⊎ (0 < rankedRefusal g p q) → Answered n
       step (inl h) =
           let e : rankedRefusal g p q ≡ 0 = omega arith in
-          let told = told-list t g p q room values e (enough e) in
+          let same = x ∙ comes-listed e in
           record {
             asked = e;
-            counted = ap (λ (a : Told). a .number) (x .told ∙ told);
-            found = rw told at (x .found);
-            worths = rw told at (x .worths);
+            counted = ap (λ (o : Outcome). o .told .number) same;
+            found = ap (λ (o : Outcome). getD (o .rooms) 0 []) same;
+            worths = ap (λ (o : Outcome). getD (o .rooms) 1 []) same;
           }
       step (inr h) =
-          let z : 0 ≡ rankedRefusal g p q = ap (λ (a : Told). a .refusal) (x .told ∙ told-refused t g p q room values (rankedRefusal g p q) h refl) in
+          let z : 0 ≡ rankedRefusal g p q = ap (λ (o : Outcome). o .told .refusal) (x ∙ comes-refused h) in
           absurd (omega arith)
 
   -- a place of a room after its question
   at-room : (f : Hit → ℕ) (l : List Hit) (before : List ℕ) (i : ℕ) → i < length l → getD (written (each f l) before) i 0 ≡ f (getD l i noHit)
   at-room f l before i h = List·getD-append (each f l) _ 0 i (rw (length-each f l) h) ∙ getD-each f l i noHit 0 h
 
-  pub names-short : (n : ℕ) → Exact t g p q (Found n) room values room′ values′ → Listed (t .text) (t .starts) room′ n
+  pub names-short : (n : ℕ) → Exact (Found n) → Listed (t .text) (t .starts) room′ n
   unfolding hits
   names-short n x =
       let a = answered n x in
@@ -126,9 +133,9 @@ module _ (t : Table) (g : Grid) (x : Index) (p : List ℕ) (q : Ranking) (room v
           let e : getD room′ i 0 ≡ o .0 = ap (λ l. getD l i 0) (a .found) ∙ at-room (λ h. h .stand) hits room i inside ∙ ap (λ (h : Hit). h .stand) (o .2) in
           rw e (lawful t g fine .short (o .0) (o .1 .stand))
 
-  pub hits-told : (n : ℕ) → Exact t g p q (Found n) room values room′ values′ → foundLines (t .text) (t .starts) room′ values′ n ≡ replyTo t g p q
+  pub hits-told : (n : ℕ) → Exact (Found n) → foundLines (t .text) (t .starts) room′ values′ n ≡ replyTo t g p q
   unfolding hits foundLines hitsTo printedHits line
-  hits-told n x = rw (a .counted) (ap (λ l. lineOf (ascii "found=") (decimalOf (length hits)) ++ l) each-hit ∙ reply-hits t g p q fine (a .asked))
+  hits-told n x = rw (a .counted) (ap (λ l. line (ascii "found=") (decimalOf (length hits)) ++ l) each-hit ∙ reply-hits t g p q fine (a .asked))
     where
       a : Answered n
       a = answered n x

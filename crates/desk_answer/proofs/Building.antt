@@ -1,6 +1,6 @@
 -- Building into the program's rooms: 64 stands always fit, so only the table can be refused, and checking accepts what was built.
 -- Assumes nothing.
-use mathlib.Core.Path.{_≡_, ap}
+use mathlib.Core.Path.{_≡_, sym, ap, _∙_}
 use mathlib.Core.Logic.{_⊎_, inl, inr}
 use mathlib.Core.Bool.{true, false, cond}
 use mathlib.Core.List.{List}
@@ -14,17 +14,19 @@ use Rattle.rules.specs.declared.Ranking.{Ranking}
 use Rattle.rules.specs.declared.Refusal.{Refusal}
 use Rattle.rules.specs.declared.Built.the-variants as built
 use Rattle.rules.specs.declared.Checked.the-variants as checked
+use Rattle.rules.specs.declared.Verdict.the-variants as verdict
 use Rattle.rules.specs.Numbers.{BuildTold, CheckTold, refusalNumber, checkedNumbers}
 use Rattle.rules.specs.Tables.{Table, stands, tableRefusal}
 use Rattle.rules.specs.Questions.{rankedRefusal}
 use Rattle.rules.specs.Indexes.{Index, nodeCount, entryCount, tooSmall, buildRefusal, buildTold, setLawful, checkTold}
-use Rattle.rules.proofs.Lawful.{lawful}
+use Rattle.rules.proofs.Lawful.{lawful, taken, set-parts}
 use Rattle.rules.proofs.Numbers.{refusal-some}
 use Rattle.meaning.proofs.Sizes.{sizes-bounded}
 use Rattle.index.specs.Promises.{BuildPromise}
 use Rattle.index.proofs.Outcomes.{build-then-check}
 use Rattle.rules.proofs.Refusals.{first-given}
 use Rattle.desk_form.specs.Printed.{printedRefusal, replyTo}
+use Rattle.desk_answer.specs.Promises.{MakesIndex}
 
 -- the program's rooms have at least so many words
 pub record Rooms (x : Index) : Type 0 where
@@ -33,9 +35,12 @@ pub record Rooms (x : Index) : Type 0 where
   pub entries : 6400 ≤ length (x .entries)
 
 module _ (t : Table) (g : Grid) where
-  reply-first : (p : List ℕ) (q : Ranking) → 0 < tableRefusal t g → printedRefusal (tableRefusal t g) ≡ replyTo t g p q
+  -- a table's refusal is the reply
+  pub made-refused : (y : Index) (p : List ℕ) (q : Ranking) (why : Refusal) → MakesIndex t g (verdict.Refused why) y → printedRefusal (refusalNumber why) ≡ replyTo t g p q
   unfolding replyTo
-  reply-first p q h = rw (first-given (tableRefusal t g) (rankedRefusal g p q) (λ e. omega arith), ne-eqb (tableRefusal t g) 0 (λ e. omega arith))
+  made-refused y p q why m =
+      let some : tableRefusal t g ≡ 0 → ⊥ = λ e. refusal-some why (m .refusal ∙ e) in
+      rw (m .refusal, first-given (tableRefusal t g) (rankedRefusal g p q) some, ne-eqb (tableRefusal t g) 0 some)
 
   -- a lawful set is not told to be none
   pub never-unlawful : {A : Type 0} (x : Index) → setLawful t g x ≡ true → checkedNumbers checked.Unlawful ≡ checkTold t g x → A
@@ -55,6 +60,11 @@ module _ (t : Table) (g : Grid) where
             let z : _≡_ {A = ℕ} 0 1 = cc in
             absurd (omega arith)
 
+    pub index-passed : (n e : ℕ) (y : Index) → BuildPromise t g x (built.Index n e) y → MakesIndex t g verdict.Passed y
+    index-passed n e y p =
+        let law = built-lawful n e y p in
+        record { refusal = sym (taken t g (set-parts t g y law .table)); lawful = λ _. law }
+
     module _ (few : stands t ≤ 64) (rooms : Rooms x) where
       enough : tableRefusal t g ≡ 0 → buildRefusal t g x ≡ 0
       unfolding buildRefusal tooSmall
@@ -67,16 +77,14 @@ module _ (t : Table) (g : Grid) where
             le-ltb (length (x .entries)) (4 * entryCount t g) (omega (arith, rooms .entries, s .entries)),
           )
 
-      pub build-refused : (p : List ℕ) (q : Ranking) (why : Refusal) (y : Index) → BuildPromise t g x (built.Refused why) y → printedRefusal (refusalNumber why) ≡ replyTo t g p q
+      pub index-refused : (why : Refusal) (y : Index) → BuildPromise t g x (built.Refused why) y → MakesIndex t g (verdict.Refused why) y
       unfolding buildRefusal buildTold
-      build-refused p q why y b = step (le-or-lt (tableRefusal t g) 0)
+      index-refused why y b = record { refusal = step (le-or-lt (tableRefusal t g) 0); lawful = λ e. absurd (refusal-some why e) }
         where
-          step : (tableRefusal t g ≤ 0) ⊎ (0 < tableRefusal t g) → printedRefusal (refusalNumber why) ≡ replyTo t g p q
+          step : (tableRefusal t g ≤ 0) ⊎ (0 < tableRefusal t g) → refusalNumber why ≡ tableRefusal t g
           step (inl h) =
               let none : buildRefusal t g x ≡ 0 = enough (omega arith) in
-              let z : refusalNumber why ≡ 0 = ap (λ (a : BuildTold). a .refusal) (rw (eq-eqb (buildRefusal t g x) 0 none) at (b .told)) in
-              absurd (refusal-some why z)
+              absurd (refusal-some why (ap (λ (a : BuildTold). a .refusal) (rw (eq-eqb (buildRefusal t g x) 0 none) at (b .told))))
           step (inr h) =
               let first : buildRefusal t g x ≡ tableRefusal t g = first-given (tableRefusal t g) (cond (tooSmall t g x) 6 0) (λ e. omega arith) in
-              let z : refusalNumber why ≡ buildRefusal t g x = ap (λ (a : BuildTold). a .refusal) (rw (ne-eqb (buildRefusal t g x) 0 (λ e. omega arith)) at (b .told)) in
-              rw (z, first) (reply-first p q h)
+              ap (λ (a : BuildTold). a .refusal) (rw (ne-eqb (buildRefusal t g x) 0 (λ e. omega arith)) at (b .told)) ∙ first

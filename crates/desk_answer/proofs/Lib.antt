@@ -1,7 +1,4 @@
--- Laws of what is printed: digits, lines one behind the other, what building and asking come to, what was read; and that there is one
--- output.
-pub mod Digits
-pub mod Appending
+-- Laws of what is printed: hits one behind the other, what building and asking come to, what was read; and that there is one output.
 pub mod Listing
 pub mod Asking
 pub mod Building

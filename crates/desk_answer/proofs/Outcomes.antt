@@ -1,12 +1,12 @@
 -- For the reader: an input has one output, whatever its bytes. No two satisfy the promise.
 -- Assumes nothing.
-use mathlib.Core.Path.{_≡_, sym, ap, _∙_}
+use mathlib.Core.Path.{_≡_, sym, ap, _∙_, ap₂}
 use mathlib.Core.Logic.{_⊎_, inl, inr}
-use mathlib.Core.List.{List}
+use mathlib.Core.List.{List, _++_}
 use Prim.Native.Nat.{ℕ}
-use lib.ListN.{take, length}
+use lib.ListN.{take, drop, length, take-append-drop}
 use Rattle.desk_form.specs.Printed.{Prints}
-use Rattle.desk_answer.specs.Promises.{Answers}
+use Rattle.desk_answer.specs.Promises.{AnswersInput}
 use Rattle.desk_answer.proofs.Readings.{OfForm, of-form-or-not}
 
 pub one-output : (input a b : List ℕ) → Prints input a → Prints input b → a ≡ b
@@ -16,8 +16,9 @@ one-output input a b p q = step (of-form-or-not input)
     step (inl f) = p .of-form (f .0) (f .1) (f .2) ∙ sym (q .of-form (f .0) (f .1) (f .2))
     step (inr n) = p .other (λ r h t. n (r, h, t)) ∙ sym (q .other (λ r h t. n (r, h, t)))
 
--- so its bytes and their number are settled
-pub one-answer : (input out out′ : List ℕ) (r r′ : ℕ) → Answers input out r → Answers input out′ r′ → (r ≡ r′) × (take r out ≡ take r′ out′)
-one-answer input out out′ r r′ a b =
-    let e = one-output input (take r out) (take r′ out′) (a .prints) (b .prints) in
-    (a .counts .1 ∙ ap length e ∙ sym (b .counts .1), e)
+-- so how many bytes are printed is settled, and with them the whole room
+pub one-answer : (input out after after′ : List ℕ) (r r′ : ℕ) → AnswersInput input out after r → AnswersInput input out after′ r′ → (r ≡ r′) × (after ≡ after′)
+one-answer input out after after′ r r′ a b =
+    let e = one-output input (take r after) (take r′ after′) (a .prints) (b .prints) in
+    let n : r ≡ r′ = a .counts .1 ∙ ap length e ∙ sym (b .counts .1) in
+    (n, sym (take-append-drop r after) ∙ ap₂ _++_ e (a .rest ∙ ap (λ m. drop m out) n ∙ sym (b .rest)) ∙ take-append-drop r′ after′)

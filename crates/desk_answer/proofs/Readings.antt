@@ -13,38 +13,39 @@ use Rattle.rules.specs.declared.Grid.{Grid}
 use Rattle.rules.specs.declared.Ranking.{Ranking}
 use Rattle.rules.specs.declared.Refusal.{Refusal}
 use Rattle.rules.specs.Tables.{Table, tableOf}
-use Rattle.desk_line.specs.Writing.{ascii, signedOf, decimalOf, line}
-use Rattle.desk_line.specs.Says.{part}
-use Rattle.desk_line.specs.Reads.{Found, found, nothing}
-use Rattle.desk_line.proofs.Lines.{lost}
-use Rattle.desk_form.specs.Form.{StandLines, Input, gridText, standText, questionText, textOf, InRanges}
-use Rattle.desk_form.specs.Columns.{namesOf, startsFrom, tableFrom, laid, laidTable, textAt}
-use Rattle.desk_form.specs.Answers.{readingOf, ReadsInput}
+use Rattle.rules.proofs.Numbers.{refusal-some}
+use Rattle.lines.specs.Writing.{ascii, signedOf, decimalOf, line}
+use Rattle.lines.specs.Puts.{Puts}
+use Rattle.lines.specs.Says.{part}
+use Rattle.lines.specs.Reads.{Got, got, nothing}
+use Rattle.lines.proofs.Lines.{lost}
+use Rattle.desk_form.specs.Form.{StandLines, Input, gridText, standText, questionText, inputText, InRanges}
+use Rattle.desk_form.specs.Columns.{joinedNames, startsFrom, tableFrom, laidOver, laidTable, textAt}
+use Rattle.desk_form.specs.Answers.{ReadingTold, readingNumbers, readingOf, ReadsInput}
 use Rattle.desk_form.specs.Reads.{readInput}
-use Rattle.desk_form.specs.Printed.{printedRefusal, replyTo, outputOf}
+use Rattle.desk_form.specs.Printed.{printedRefusal, replyTo, outputOf, Prints}
 use Rattle.desk_form.specs.declared.Reading.the-variants.{Of, Refused}
-use Rattle.desk_form.proofs.Inputs.{read-back, read-sound}
+use Rattle.desk_form.proofs.Inputs.{input-back, input-sound}
 use Rattle.desk_form.proofs.Layouts.{length-starts, same-table}
-use Rattle.desk_answer.specs.Puts.{Puts}
-use Rattle.desk_answer.specs.Promises.{Answers}
+use Rattle.desk_answer.specs.Promises.{AnswersInput}
 
 -- any input is of the form, or is not
 abbrev pub OfForm : List ℕ → Type 0
-OfForm input = (r : Input) × InRanges r × (textOf r ≡ input)
+OfForm input = (r : Input) × InRanges r × (inputText r ≡ input)
 
 pub of-form-or-not : (input : List ℕ) → OfForm input ⊎ (OfForm input → ⊥)
 of-form-or-not input = step (readInput input) refl
   where
-    step : (f : Found Input) → readInput input ≡ f → OfForm input ⊎ (OfForm input → ⊥)
-    step (found r rest) e = let s = read-sound input r rest e in inl (r, s .0, s .1)
-    step nothing e = inr (λ f. lost (sym e ∙ ap readInput (sym (f .2)) ∙ read-back (f .0) (f .1)))
+    step : (f : Got Input) → readInput input ≡ f → OfForm input ⊎ (OfForm input → ⊥)
+    step (got r rest) e = let s = input-sound input r rest e in inl (r, s .0, s .1)
+    step nothing e = inr (λ f. lost (sym e ∙ ap readInput (sym (f .2)) ∙ input-back (f .0) (f .1)))
 
 -- the first n of a list are these
 pub record Front {A : Type 0} (n : ℕ) (l w : List A) : Type 0 where
   pub within : n ≤ length l
   pub is : take n l ≡ w
 
-front : {A : Type 0} (n : ℕ) (w room : List A) → n ≡ length w → Front n (laid w room) w
+front : {A : Type 0} (n : ℕ) (w room : List A) → n ≡ length w → Front n (laidOver w room) w
 front n w room e =
     record { within = omega (arith, length-append w (drop (length w) room)); is = rw e (take-append-seam w (drop (length w) room)) }
 
@@ -71,10 +72,10 @@ regrouped grid stands key text feed east north weight k = simp append-assoc
 abbrev beforeText : Input → List ℕ
 beforeText r = gridText (r .grid) (length (r .stands)) ++ eachList standText (r .stands) ++ ascii "text="
 
-text-between : (r : Input) → (rest : List ℕ) × (textOf r ≡ beforeText r ++ (r .text ++ rest))
-unfolding textOf questionText line
+text-between : (r : Input) → (rest : List ℕ) × (inputText r ≡ beforeText r ++ (r .text ++ rest))
+unfolding inputText questionText line
 text-between r =
-    (_, regrouped (gridText (r .grid) (length (r .stands))) (eachList standText (r .stands)) (ascii "text=") (r .text) (ascii "\n") (line "east=" (signedOf (r .ranking .place .east))) (line "north=" (signedOf (r .ranking .place .north))) (line "weight=" (decimalOf (r .ranking .weight))) (line "k=" (decimalOf (r .ranking .k))))
+    (_, regrouped (gridText (r .grid) (length (r .stands))) (eachList standText (r .stands)) (ascii "text=") (r .text) (ascii "\n") (line (ascii "east=") (signedOf (r .ranking .place .east))) (line (ascii "north=") (signedOf (r .ranking .place .north))) (line (ascii "weight=") (decimalOf (r .ranking .weight))) (line (ascii "k=") (decimalOf (r .ranking .k))))
 
 cut : (a b c input : List ℕ) (from past : ℕ) → input ≡ a ++ (b ++ c) → from ≡ length a → past ≡ length a + length b → (past ≤ length input) × (part from past input ≡ b)
 cut a b c input from past e f h =
@@ -82,19 +83,19 @@ cut a b c input from past e f h =
     (omega (arith, ap length e, length-append a (b ++ c), length-append b c), rw (k, e, f, drop-append-seam a (b ++ c)) (take-append-seam b c))
 
 module _ (input : List ℕ) (rooms after : Table) (stands bytes : ℕ) (grid : Grid) (from past : ℕ) (ranking : Ranking) where
-  parts : (r : Input) → InRanges r → textOf r ≡ input → Of stands bytes grid from past ranking ≡ readingOf r → after ≡ laidTable (tableFrom (r .stands)) rooms
+  parts : (r : Input) → InRanges r → inputText r ≡ input → readingNumbers (Of stands bytes grid from past ranking) ≡ readingOf r → after ≡ laidTable (tableFrom (r .stands)) rooms
       → Parts input after stands bytes from past (tableFrom (r .stands)) (r .text)
   unfolding tableFrom laidTable textAt
   parts r ranges e s l =
-      let n : stands ≡ length (r .stands) = cc in
-      let b : bytes ≡ length (namesOf (r .stands)) = cc in
-      let f : from ≡ textAt r = cc in
-      let h : past ≡ textAt r + length (r .text) = cc in
+      let n : stands ≡ length (r .stands) = ap (λ (a : ReadingTold). a .stands) s in
+      let b : bytes ≡ length (joinedNames (r .stands)) = ap (λ (a : ReadingTold). a .bytes) s in
+      let f : from ≡ textAt r = ap (λ (a : ReadingTold). a .from) s in
+      let h : past ≡ textAt r + length (r .text) = ap (λ (a : ReadingTold). a .past) s in
       let m = text-between r in
       let question = cut (beforeText r) (r .text) (m .0) input from past (sym e ∙ m .1) f h in
       record {
         few = omega (arith, ranges .few);
-        text = rw l (front bytes (namesOf (r .stands)) (rooms .text) b);
+        text = rw l (front bytes (joinedNames (r .stands)) (rooms .text) b);
         starts = rw l (front (stands + 1) (startsFrom 0 (r .stands)) (rooms .starts) (omega (arith, length-starts 0 (r .stands))));
         east = rw l (front stands (each (λ s. s .east) (r .stands)) (rooms .east) (omega (arith, length-each (λ (s : StandLines). s .east) (r .stands))));
         north = rw l (front stands (each (λ s. s .north) (r .stands)) (rooms .north) (omega (arith, length-each (λ (s : StandLines). s .north) (r .stands))));
@@ -113,44 +114,38 @@ module _ (input : List ℕ) (rooms after : Table) (stands bytes : ℕ) (grid : G
           let a = reads .of-form (f .0) (f .1) (f .2) in
           (f .0, parts (f .0) (f .1) (f .2) (a .0) (a .1))
       step (inr n) =
-          let none : Of stands bytes grid from past ranking ≡ Refused _ = reads .other (λ r h t. n (r, h, t)) in
-          let z : _≡_ {A = ℕ} 0 1 = cc in
+          let z : _≡_ {A = ℕ} 0 14 = ap (λ (a : ReadingTold). a .refusal) (reads .other (λ r h t. n (r, h, t))) in
           absurd (omega arith)
 
-counts : {bytes out out′ : List ℕ} {most r : ℕ} → Puts bytes most out 0 out′ r → (r ≤ length out′) × (r ≡ length (take r out′))
-counts {bytes} {out} {out′} {most} {r} p =
-    let long : length (take r out′) ≡ length bytes = ap length (p .is) in
-    let e : r ≡ length (take r out′) = omega (arith, p .next) in
-    (omega (arith, length-take r out′), e)
+module _ (input : List ℕ) (rooms after : Table) {bytes out out′ : List ℕ} {r : ℕ} (p : Puts bytes out 0 out′ r) where
+  answers : Prints input bytes → AnswersInput input out out′ r
+  answers prints =
+      let long : length (take r out′) ≡ length bytes = ap length (p .front) in
+      let e : r ≡ length (take r out′) = omega (arith, p .next) in
+      record { counts = (omega (arith, length-take r out′), e); prints = rw (p .front) prints; rest = p .rest }
 
-module _ (input : List ℕ) (rooms after : Table) {out out′ : List ℕ} {r : ℕ} where
-  pub refused-14 : (why : Refusal) → ReadsInput input rooms (Refused why) after → Puts (printedRefusal 14) 29 out 0 out′ r → Answers input out′ r
-  refused-14 why reads p = record { counts = counts p; prints = record { of-form = form; other = λ no. p .is } }
+  pub refused-14 : (why : Refusal) → ReadsInput input rooms (Refused why) after → bytes ≡ printedRefusal 14 → AnswersInput input out out′ r
+  refused-14 why reads is = answers (record { of-form = form; other = λ no. is })
     where
-      form : (s : Input) → InRanges s → textOf s ≡ input → take r out′ ≡ outputOf s
-      form s h t =
-          let e : Refused why ≡ readingOf s = reads .of-form s h t .0 in
-          let z : _≡_ {A = ℕ} 0 1 = cc in
-          absurd (omega arith)
+      form : (s : Input) → InRanges s → inputText s ≡ input → bytes ≡ outputOf s
+      form s h t = absurd (refusal-some why (ap (λ (a : ReadingTold). a .refusal) (reads .of-form s h t .0)))
 
-  pub replied : (stands bytes : ℕ) (grid : Grid) (from past : ℕ) (ranking : Ranking) → ReadsInput input rooms (Of stands bytes grid from past ranking) after
-      → Puts (replyTo (tableOf (take bytes (after .text)) (take (stands + 1) (after .starts)) (take stands (after .east)) (take stands (after .north)) (take stands (after .score))) grid (part from past input) ranking) 1600 out 0 out′ r
-      → Answers input out′ r
+  pub replied : (stands bytes₀ : ℕ) (grid : Grid) (from past : ℕ) (ranking : Ranking) → ReadsInput input rooms (Of stands bytes₀ grid from past ranking) after
+      → bytes ≡ replyTo (tableOf (take bytes₀ (after .text)) (take (stands + 1) (after .starts)) (take stands (after .east)) (take stands (after .north)) (take stands (after .score))) grid (part from past input) ranking
+      → AnswersInput input out out′ r
   unfolding outputOf
-  replied stands bytes grid from past ranking reads p = record { counts = counts p; prints = record { of-form = form; other = other } }
+  replied stands bytes₀ grid from past ranking reads is = answers (record { of-form = form; other = other })
     where
-      form : (s : Input) → InRanges s → textOf s ≡ input → take r out′ ≡ outputOf s
+      form : (s : Input) → InRanges s → inputText s ≡ input → bytes ≡ outputOf s
       form s h t =
           let a = reads .of-form s h t in
-          let q = parts input rooms after stands bytes grid from past ranking s h t (a .0) (a .1) in
-          let e : Of stands bytes grid from past ranking ≡ readingOf s = a .0 in
-          let g : grid ≡ s .grid = cc in
-          let k : ranking ≡ s .ranking = cc in
+          let q = parts input rooms after stands bytes₀ grid from past ranking s h t (a .0) (a .1) in
+          let g : grid ≡ s .grid = ap (λ (a : ReadingTold). a .grid) (a .0) in
+          let k : ranking ≡ s .ranking = ap (λ (a : ReadingTold). a .ranking) (a .0) in
           let table = same-table (q .text .is) (q .starts .is) (q .east .is) (q .north .is) (q .score .is) in
-          p .is ∙ rw (g, k, q .typed) (ap (λ u. replyTo u (s .grid) (s .text) (s .ranking)) table)
+          is ∙ rw (g, k, q .typed) (ap (λ u. replyTo u (s .grid) (s .text) (s .ranking)) table)
 
-      other : ((s : Input) → InRanges s → textOf s ≡ input → ⊥) → take r out′ ≡ printedRefusal 14
+      other : ((s : Input) → InRanges s → inputText s ≡ input → ⊥) → bytes ≡ printedRefusal 14
       other none =
-          let e : Of stands bytes grid from past ranking ≡ Refused _ = reads .other none in
-          let z : _≡_ {A = ℕ} 0 1 = cc in
+          let z : _≡_ {A = ℕ} 0 14 = ap (λ (a : ReadingTold). a .refusal) (reads .other none) in
           absurd (omega arith)

@@ -1,3 +1,3 @@
 -- What the desk program's answer promises, from its input's bytes to the bytes that it prints.
-pub mod Puts
+pub mod Printing
 pub mod Promises

@@ -1,18 +1,18 @@
 // The desk program without its reading and writing: from the bytes of an input to the bytes that are printed.
-mod hits;
-mod lines;
+mod printing;
 mod reply;
 
 use desk_form::Reading;
 use desk_form::read_input;
-use lines::put_refusal;
+use finder::Ranking;
+use finder::Refusal;
+use finder::Stand;
+use printing::put_refusal;
 use reply::reply;
-use rules::Ranking;
-use rules::Refusal;
-use rules::Stand;
 use rules::layout::ENTRY_WORDS;
 use rules::layout::NODE_WORDS;
-ghost use Rattle.desk_answer.specs.Promises.{Answers};
+ghost use Rattle.base.specs.Lent.{given, after};
+ghost use Rattle.desk_answer.specs.Promises.{AnswersInput};
 
 // Room for the index of as many stands as an input has at most: a root and a node for each byte of a name, and for each stand an
 // entry in each node that it is under.
@@ -27,8 +27,8 @@ pub const HITS_MOST: usize = Ranking::K_MOST as usize;
 // How many bytes are printed at most: some 30 for the first line, and at most 96 for a hit.
 pub const OUTPUT_MOST: usize = 2_048;
 
-// Reads an input, finds what it asks for, and puts what is printed at the start of `out`; the answer is how many bytes that is.
-// The other rooms are for the table and its index.
+// Reads an input, finds what it asks for, and puts what is printed at the start of `out`, which past it stays as it was; the answer
+// is how many bytes that is. The other rooms are for the table and its index.
 pub fn answer(
     input: &[u8],
     text: &mut [u8; Reading::BYTES_MOST],
@@ -41,7 +41,7 @@ pub fn answer(
     entries: &mut [u32; ENTRIES_ROOM],
     out: &mut [u8; OUTPUT_MOST],
 ) -> usize
-    ensures { λ r. ⌜ Answers (now (input .entry)) (now (out .exit)) r ⌝ }
+    ensures { λ r. ⌜ AnswersInput (given input) (given out) (after out) r ⌝ }
 {
     let reading = read_input(input, text, starts, east, north, score);
     let Reading::Of {

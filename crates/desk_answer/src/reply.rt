@@ -4,27 +4,77 @@ use crate::HITS_MOST;
 use crate::NODES_ROOM;
 use crate::ORDER_ROOM;
 use crate::OUTPUT_MOST;
-use crate::hits::put_hits;
-use crate::lines::put_refusal;
-use index::build;
-use index::check;
-use ranked::ranked;
-use rules::Built;
-use rules::Checked;
-use rules::Grid;
-use rules::RankedAnswer;
-use rules::Ranking;
-use rules::Refusal;
+use crate::printing::put_hits;
+use crate::printing::put_refusal;
+use finder::Built;
+use finder::Checked;
+use finder::Grid;
+use finder::RankedAnswer;
+use finder::Ranking;
+use finder::Refusal;
+use finder::Verdict;
+use finder::build;
+use finder::check;
+use finder::ranked;
 ghost use mathlib.Core.Path.{_≡_};
 ghost use mathlib.Core.Bool.{true};
 ghost use Prim.Native.Nat.{_≤_};
 ghost use lib.ListN.{length};
-ghost use Rattle.rules.specs.Tables.{tableOf};
+ghost use Rattle.base.specs.Lent.{given, after};
+ghost use Rattle.rules.specs.Tables.{tableOf, tableIn};
 ghost use Rattle.rules.specs.Indexes.{indexOf, setLawful};
+ghost use Rattle.lines.specs.Puts.{Puts};
 ghost use Rattle.desk_form.specs.Printed.{replyTo};
-ghost use Rattle.desk_answer.specs.Puts.{Puts};
+ghost use Rattle.desk_answer.specs.Promises.{MakesIndex};
 
-// The ranked question, on an index that was checked.
+// Builds an index and checks it. The rooms are enough for 64 stands, so a table is refused only for what it is; and what was built
+// is lawful, so the check's refusal is never given.
+fn index_made(
+    text: &[u8],
+    starts: &[u32],
+    east: &[i32],
+    north: &[i32],
+    score: &[u32],
+    grid: Grid,
+    order: &mut [u32; ORDER_ROOM],
+    nodes: &mut [u32; NODES_ROOM],
+    entries: &mut [u32; ENTRIES_ROOM],
+) -> Verdict
+    requires { ⌜ length (now score) ≤ 64 ⌝ }
+    ensures { λ r. ⌜ MakesIndex (tableIn text starts east north score) grid r (indexOf (after order) (after nodes) (after entries)) ⌝ }
+{
+    let built = build(
+        text,
+        starts,
+        east,
+        north,
+        score,
+        grid,
+        order,
+        nodes,
+        entries,
+    );
+    if let Built::Refused(why) = built {
+        return Verdict::Refused(why);
+    }
+    let checked = check(
+        text,
+        starts,
+        east,
+        north,
+        score,
+        grid,
+        order,
+        nodes,
+        entries,
+    );
+    let Checked::Lawful { .. } = checked else {
+        return Verdict::Refused(Refusal::NotLawful);
+    };
+    Verdict::Passed
+}
+
+// The ranked question, on a lawful set.
 fn ask(
     out: &mut [u8; OUTPUT_MOST],
     text: &[u8],
@@ -40,7 +90,7 @@ fn ask(
     asked: Ranking,
 ) -> usize
     requires { ⌜ setLawful (tableOf (now text) (now starts) (now east) (now north) (now score)) grid (indexOf (now order) (now nodes) (now entries)) ≡ true ⌝ }
-    ensures { λ r. ⌜ Puts (replyTo (tableOf (now (text .entry)) (now (starts .entry)) (now (east .entry)) (now (north .entry)) (now (score .entry))) grid (now (typed .entry)) asked) 1600 (now (out .entry)) 0 (now (out .exit)) r ⌝ }
+    ensures { λ r. ⌜ Puts (replyTo (tableIn text starts east north score) grid (given typed) asked) (given out) 0 (after out) r ⌝ }
 {
     let mut found = [0u32; HITS_MOST];
     let mut values = [0u64; HITS_MOST];
@@ -65,55 +115,6 @@ fn ask(
     }
 }
 
-// Checks an index, then asks. On a lawful set the refusal here is never given.
-fn check_and_ask(
-    out: &mut [u8; OUTPUT_MOST],
-    text: &[u8],
-    starts: &[u32],
-    east: &[i32],
-    north: &[i32],
-    score: &[u32],
-    grid: Grid,
-    order: &[u32],
-    nodes: &[u32],
-    entries: &[u32],
-    typed: &[u8],
-    asked: Ranking,
-) -> usize
-    requires { ⌜ setLawful (tableOf (now text) (now starts) (now east) (now north) (now score)) grid (indexOf (now order) (now nodes) (now entries)) ≡ true ⌝ }
-    ensures { λ r. ⌜ Puts (replyTo (tableOf (now (text .entry)) (now (starts .entry)) (now (east .entry)) (now (north .entry)) (now (score .entry))) grid (now (typed .entry)) asked) 1600 (now (out .entry)) 0 (now (out .exit)) r ⌝ }
-{
-    let checked = check(
-        text,
-        starts,
-        east,
-        north,
-        score,
-        grid,
-        order,
-        nodes,
-        entries,
-    );
-    let Checked::Lawful { .. } = checked else {
-        return put_refusal(out, Refusal::NotLawful);
-    };
-    ask(
-        out,
-        text,
-        starts,
-        east,
-        north,
-        score,
-        grid,
-        order,
-        nodes,
-        entries,
-        typed,
-        asked,
-    )
-}
-
-// The rooms are enough for 64 stands, so building refuses a table only for what the table is.
 pub fn reply(
     out: &mut [u8; OUTPUT_MOST],
     text: &[u8],
@@ -129,9 +130,9 @@ pub fn reply(
     asked: Ranking,
 ) -> usize
     requires { ⌜ length (now score) ≤ 64 ⌝ }
-    ensures { λ r. ⌜ Puts (replyTo (tableOf (now (text .entry)) (now (starts .entry)) (now (east .entry)) (now (north .entry)) (now (score .entry))) grid (now (typed .entry)) asked) 1600 (now (out .entry)) 0 (now (out .exit)) r ⌝ }
+    ensures { λ r. ⌜ Puts (replyTo (tableIn text starts east north score) grid (given typed) asked) (given out) 0 (after out) r ⌝ }
 {
-    let built = build(
+    let made = index_made(
         text,
         starts,
         east,
@@ -142,10 +143,10 @@ pub fn reply(
         nodes,
         entries,
     );
-    if let Built::Refused(why) = built {
+    if let Verdict::Refused(why) = made {
         return put_refusal(out, why);
     }
-    check_and_ask(
+    ask(
         out,
         text,
         starts,

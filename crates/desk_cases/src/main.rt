@@ -6,8 +6,8 @@ use desk_answer::ORDER_ROOM;
 use desk_answer::OUTPUT_MOST;
 use desk_answer::answer;
 use desk_form::Reading;
-use desk_form::lay_bytes;
 use libc::STDOUT_FILENO;
+use lines::put;
 
 // One byte more than an input may have.
 const INPUT_ROOM: usize = Reading::BYTES_MOST + 1;
@@ -46,28 +46,26 @@ fn print_answer(room: &[u8], count: usize) {
 }
 
 // Puts bytes behind those before `at`, if there is room.
-fn put(input: &mut [u8], at: usize, bytes: &[u8]) -> usize {
-    let count = bytes.len();
+fn put_if_room(input: &mut [u8], at: usize, bytes: &[u8]) -> usize {
     if input.len() < at {
         return at;
     }
-    if input.len() - at < count {
+    if input.len() - at < bytes.len() {
         return at;
     }
-    lay_bytes(input, at, bytes, 0, count);
-    at + count
+    put(input, at, bytes)
 }
 
 // The input is a head, some lines so many times, and a tail.
 fn print_case(name: &[u8], head: &[u8], lines: &[u8], times: usize, tail: &[u8]) {
     let mut input = [0u8; INPUT_ROOM];
-    let mut at = put(&mut input, 0, head);
+    let mut at = put_if_room(&mut input, 0, head);
     let mut i = 0;
     while i < times {
-        at = put(&mut input, at, lines);
+        at = put_if_room(&mut input, at, lines);
         i += 1;
     }
-    at = put(&mut input, at, tail);
+    at = put_if_room(&mut input, at, tail);
     print(name);
     print(b"\n");
     print_answer(&input, at);

@@ -1,4 +1,4 @@
--- From the lines that were found, or not, to what reading a whole input promises.
+-- From the lines that were got, or not, to what reading a whole input promises.
 -- Assumes nothing.
 use mathlib.Core.Path.{_≡_, refl, sym, ap, _∙_}
 use mathlib.Core.Logic.{_⊎_, inl, inr}
@@ -16,35 +16,35 @@ use Rattle.rules.specs.declared.Grid.{Grid}
 use Rattle.rules.specs.declared.Ranking.{Ranking}
 use Rattle.rules.specs.declared.Refusal.the-variants.{InputMalformed}
 use Rattle.rules.specs.Tables.{Table}
-use Rattle.desk_line.specs.Writing.{ascii}
-use Rattle.desk_form.specs.Form.{Input, gridText, standText, textOf, InRanges}
+use Rattle.lines.specs.Writing.{ascii}
+use Rattle.desk_form.specs.Form.{Input, gridText, standText, inputText, InRanges}
 use Rattle.desk_form.specs.Columns.{tableFrom, laidTable, textAt}
-use Rattle.desk_form.specs.Answers.{readingOf, ReadsInput}
-use Rattle.desk_line.specs.Reads.{found, nothing, onward}
+use Rattle.desk_form.specs.Answers.{readingNumbers, readingOf, ReadsInput}
+use Rattle.lines.specs.Reads.{got, nothing, onward}
 use Rattle.desk_form.specs.Reads.{gridLines, allStands, questionLines, inputOf, allLines, readInput}
-use Rattle.desk_line.specs.Says.{part, Reached}
+use Rattle.lines.specs.Says.{part, Reached}
 use Rattle.desk_form.specs.Says.{StandsReached, QuestionReached}
 use Rattle.desk_form.specs.declared.Reading.{Reading}
 use Rattle.desk_form.specs.declared.Reading.the-variants.{Of, Refused}
-use Rattle.desk_line.proofs.Lines.{lost}
-use Rattle.desk_form.proofs.Inputs.{grid-law, stands-sound, read-back, read-sound}
+use Rattle.lines.proofs.Lines.{lost}
+use Rattle.desk_form.proofs.Inputs.{grid-law, stands-sound, input-back, input-sound}
 
 same-reading : {stands stands′ bytes bytes′ from from′ past past′ : ℕ} {grid : Grid} {ranking : Ranking} → stands ≡ stands′ → bytes ≡ bytes′ → from ≡ from′
-    → past ≡ past′ → Of stands bytes grid from past ranking ≡ Of stands′ bytes′ grid from′ past′ ranking
+    → past ≡ past′ → readingNumbers (Of stands bytes grid from past ranking) ≡ readingNumbers (Of stands′ bytes′ grid from′ past′ ranking)
 same-reading a b c d = rw (a, b, c, d)
 
 module _ (l : List ℕ) (rooms after : Table) where
   refused : readInput l ≡ nothing → ReadsInput l rooms (Refused InputMalformed) after
-  refused e = record { of-form = λ r h t. lost (sym e ∙ ap readInput (sym t) ∙ read-back r h); other = λ no. refl }
+  refused e = record { of-form = λ r h t. lost (sym e ∙ ap readInput (sym t) ∙ input-back r h); other = λ no. refl }
 
-  accepted : (answer : Reading) (r : Input) (rest : List ℕ) → readInput l ≡ found r rest → answer ≡ readingOf r
+  accepted : (answer : Reading) (r : Input) (rest : List ℕ) → readInput l ≡ got r rest → readingNumbers answer ≡ readingOf r
       → after ≡ laidTable (tableFrom (r .stands)) rooms → ReadsInput l rooms answer after
   accepted answer r rest e a b =
-      record { of-form = same; other = λ no. absurd (no r (read-sound l r rest e .0) (read-sound l r rest e .1)) }
+      record { of-form = same; other = λ no. absurd (no r (input-sound l r rest e .0) (input-sound l r rest e .1)) }
     where
-      same : (s : Input) → InRanges s → textOf s ≡ l → (answer ≡ readingOf s) × (after ≡ laidTable (tableFrom (s .stands)) rooms)
+      same : (s : Input) → InRanges s → inputText s ≡ l → (readingNumbers answer ≡ readingOf s) × (after ≡ laidTable (tableFrom (s .stands)) rooms)
       same s h t =
-          let q : found r rest ≡ found s [] = sym e ∙ ap readInput (sym t) ∙ read-back s h in
+          let q : got r rest ≡ got s [] = sym e ∙ ap readInput (sym t) ∙ input-back s h in
           let i : r ≡ s = cc in
           (rw i at a, rw i at b)
 

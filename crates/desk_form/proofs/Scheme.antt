@@ -6,12 +6,12 @@ use Rattle.rules.specs.Worth.{distance², diagonal², valueAt, valueOf}
 use Rattle.rules.specs.Names.{allowed, nameAllowed, textRefusal, spanned, name}
 use Rattle.rules.specs.Tables.{rising, shapeLawful, namesAllowed, namesInOrder, standLawful, standsLawful, tableRefusal}
 use Rattle.rules.specs.Questions.{under, rankingLawful}
-use Rattle.desk_line.specs.Writing.{digitsOf, decimalOf, signedOf, line}
-use Rattle.desk_form.specs.Form.{gridText, standText, questionText, textOf}
+use Rattle.lines.specs.Writing.{digitsOf, decimalOf, signedOf, line}
+use Rattle.desk_form.specs.Form.{gridText, standText, questionText, inputText}
 use Rattle.desk_form.specs.Columns.{startsFrom, tableFrom}
 use Rattle.desk_form.specs.Printed.{printedRefusal, printedHit, printedHits, replyTo, outputOf}
 use Rattle.desk_form.specs.Scheme.{SchemeAtDesk}
 
 pub scheme-at-desk : SchemeAtDesk
-unfolding every edgeLawful gridLawful within inGrid distance² diagonal² valueAt valueOf allowed nameAllowed textRefusal spanned name rising shapeLawful namesAllowed namesInOrder standLawful standsLawful tableRefusal under rankingLawful digitsOf decimalOf signedOf line gridText standText questionText textOf startsFrom tableFrom printedRefusal printedHit printedHits replyTo outputOf
+unfolding every edgeLawful gridLawful within inGrid distance² diagonal² valueAt valueOf allowed nameAllowed textRefusal spanned name rising shapeLawful namesAllowed namesInOrder standLawful standsLawful tableRefusal under rankingLawful digitsOf decimalOf signedOf line gridText standText questionText inputText startsFrom tableFrom printedRefusal printedHit printedHits replyTo outputOf
 scheme-at-desk = record { columns = refl; lines = refl; printed = refl; refused = refl }

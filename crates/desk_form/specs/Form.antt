@@ -7,7 +7,7 @@ use lib.ListN.{length}
 use Rattle.base.specs.Lists.{In, eachList}
 use Rattle.rules.specs.declared.Grid.{Grid}
 use Rattle.rules.specs.declared.Ranking.{Ranking}
-use Rattle.desk_line.specs.Writing.{decimalOf, signedOf, line, Signed32, OneLine}
+use Rattle.lines.specs.Writing.{ascii, decimalOf, signedOf, line, Signed32, OneLine}
 
 pub record StandLines : Type 0 where
   pub name : List ℕ
@@ -24,28 +24,28 @@ pub record Input : Type 0 where
 -- the lines in their order: the grid and how many stands there are, each stand, the question
 unfoldable pub gridText : Grid → ℕ → List ℕ
 gridText grid stands =
-    line "west=" (signedOf (grid .west))
-    ++ line "south=" (signedOf (grid .south))
-    ++ line "cell=" (decimalOf (grid .cell))
-    ++ line "stands=" (decimalOf stands)
+    line (ascii "west=") (signedOf (grid .west))
+    ++ line (ascii "south=") (signedOf (grid .south))
+    ++ line (ascii "cell=") (decimalOf (grid .cell))
+    ++ line (ascii "stands=") (decimalOf stands)
 
 unfoldable pub standText : StandLines → List ℕ
 standText s =
-    line "name=" (s .name)
-    ++ line "east=" (signedOf (s .east))
-    ++ line "north=" (signedOf (s .north))
-    ++ line "score=" (decimalOf (s .score))
+    line (ascii "name=") (s .name)
+    ++ line (ascii "east=") (signedOf (s .east))
+    ++ line (ascii "north=") (signedOf (s .north))
+    ++ line (ascii "score=") (decimalOf (s .score))
 
 unfoldable pub questionText : List ℕ → Ranking → List ℕ
 questionText text ranking =
-    line "text=" text
-    ++ line "east=" (signedOf (ranking .place .east))
-    ++ line "north=" (signedOf (ranking .place .north))
-    ++ line "weight=" (decimalOf (ranking .weight))
-    ++ line "k=" (decimalOf (ranking .k))
+    line (ascii "text=") text
+    ++ line (ascii "east=") (signedOf (ranking .place .east))
+    ++ line (ascii "north=") (signedOf (ranking .place .north))
+    ++ line (ascii "weight=") (decimalOf (ranking .weight))
+    ++ line (ascii "k=") (decimalOf (ranking .k))
 
-unfoldable pub textOf : Input → List ℕ
-textOf r = gridText (r .grid) (length (r .stands)) ++ eachList standText (r .stands) ++ questionText (r .text) (r .ranking)
+unfoldable pub inputText : Input → List ℕ
+inputText r = gridText (r .grid) (length (r .stands)) ++ eachList standText (r .stands) ++ questionText (r .text) (r .ranking)
 
 pub record StandInRanges (s : StandLines) : Type 0 where
   pub name : OneLine (s .name)
@@ -70,4 +70,4 @@ pub record InRanges (r : Input) : Type 0 where
   pub stands : (s : StandLines) → In s (r .stands) → StandInRanges s
   pub text : OneLine (r .text)
   pub ranking : RankingInRanges (r .ranking)
-  pub short : length (textOf r) ≤ 16384
+  pub short : length (inputText r) ≤ 16384

@@ -13,18 +13,18 @@ use Rattle.rules.specs.declared.Hit.{Hit}
 use Rattle.rules.specs.Numbers.{firstGiven}
 use Rattle.rules.specs.Tables.{Table, nameOf, tableRefusal}
 use Rattle.rules.specs.Questions.{rankedList, rankedRefusal}
-use Rattle.desk_line.specs.Writing.{decimalOf, line}
-use Rattle.desk_form.specs.Form.{Input, textOf, InRanges}
+use Rattle.lines.specs.Writing.{ascii, decimalOf, line}
+use Rattle.desk_form.specs.Form.{Input, inputText, InRanges}
 use Rattle.desk_form.specs.Columns.{tableFrom}
 
 unfoldable pub printedRefusal : ℕ → List ℕ
-printedRefusal n = line "refused=" (decimalOf n)
+printedRefusal n = line (ascii "refused=") (decimalOf n)
 
 unfoldable pub printedHit : Table → Hit → List ℕ
-printedHit t h = line "object=" (decimalOf (h .stand)) ++ line "name=" (nameOf t (h .stand)) ++ line "value=" (decimalOf (h .value))
+printedHit t h = line (ascii "object=") (decimalOf (h .stand)) ++ line (ascii "name=") (nameOf t (h .stand)) ++ line (ascii "value=") (decimalOf (h .value))
 
 unfoldable pub printedHits : Table → List Hit → List ℕ
-printedHits t hits = line "found=" (decimalOf (length hits)) ++ eachList (printedHit t) hits
+printedHits t hits = line (ascii "found=") (decimalOf (length hits)) ++ eachList (printedHit t) hits
 
 -- what building refuses, then what the question does, or the best k of the stands
 unfoldable pub replyTo : Table → Grid → List ℕ → Ranking → List ℕ
@@ -38,5 +38,5 @@ outputOf r = replyTo (tableFrom (r .stands)) (r .grid) (r .text) (r .ranking)
 
 -- for any input: 14 comes before all others
 pub record Prints (input output : List ℕ) : Type 0 where
-  pub of-form : (r : Input) → InRanges r → textOf r ≡ input → output ≡ outputOf r
-  pub other : ((r : Input) → InRanges r → textOf r ≡ input → ⊥) → output ≡ printedRefusal 14
+  pub of-form : (r : Input) → InRanges r → inputText r ≡ input → output ≡ outputOf r
+  pub other : ((r : Input) → InRanges r → inputText r ≡ input → ⊥) → output ≡ printedRefusal 14

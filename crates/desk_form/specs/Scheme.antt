@@ -6,22 +6,22 @@ use Prim.Native.Nat.{ℕ}
 use Prim.Native.String.{String}
 use lib.IntN.{pos}
 use Rattle.rules.specs.Scheme.{grid, table, ki, asked}
-use Rattle.desk_line.specs.Writing.{ascii}
-use Rattle.desk_form.specs.Form.{StandLines, Input, textOf}
+use Rattle.lines.specs.Writing.{ascii}
+use Rattle.desk_form.specs.Form.{StandLines, Input, inputText}
 use Rattle.desk_form.specs.Columns.{tableFrom}
 use Rattle.desk_form.specs.Printed.{outputOf}
 
 abbrev pub stand : String → ℕ → ℕ → ℕ → StandLines
 stand name east north score = record { name = ascii name; east = pos east; north = pos north; score = score }
 
-abbrev pub stands : List StandLines
-stands = stand "kibo" 5 5 100 ∷ stand "kibo" 75 75 900 ∷ stand "kibori" 12 5 400 ∷ stand "kito" 9 9 400 ∷ stand "mto" 10 9 0 ∷ []
+abbrev pub fiveStands : List StandLines
+fiveStands = stand "kibo" 5 5 100 ∷ stand "kibo" 75 75 900 ∷ stand "kibori" 12 5 400 ∷ stand "kito" 9 9 400 ∷ stand "mto" 10 9 0 ∷ []
 
 abbrev pub input : ℕ → ℕ → Input
-input weight k = record { grid = grid; stands = stands; text = ki; ranking = asked weight k }
+input weight k = record { grid = grid; stands = fiveStands; text = ki; ranking = asked weight k }
 
 pub record SchemeAtDesk : Type 0 where
-  pub columns : tableFrom stands ≡ table
-  pub lines : textOf (input 8 2) ≡ ascii "west=0\nsouth=0\ncell=10\nstands=5\nname=kibo\neast=5\nnorth=5\nscore=100\nname=kibo\neast=75\nnorth=75\nscore=900\nname=kibori\neast=12\nnorth=5\nscore=400\nname=kito\neast=9\nnorth=9\nscore=400\nname=mto\neast=10\nnorth=9\nscore=0\ntext=ki\neast=5\nnorth=5\nweight=8\nk=2\n"
+  pub columns : tableFrom fiveStands ≡ table
+  pub lines : inputText (input 8 2) ≡ ascii "west=0\nsouth=0\ncell=10\nstands=5\nname=kibo\neast=5\nnorth=5\nscore=100\nname=kibo\neast=75\nnorth=75\nscore=900\nname=kibori\neast=12\nnorth=5\nscore=400\nname=kito\neast=9\nnorth=9\nscore=400\nname=mto\neast=10\nnorth=9\nscore=0\ntext=ki\neast=5\nnorth=5\nweight=8\nk=2\n"
   pub printed : outputOf (input 8 2) ≡ ascii "found=2\nobject=3\nname=kito\nvalue=143104000\nobject=2\nname=kibori\nvalue=142968000\n"
   pub refused : outputOf (input 17 2) ≡ ascii "refused=12\n"

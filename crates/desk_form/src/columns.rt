@@ -2,30 +2,16 @@
 // The parts are lent.
 use crate::group::StandRead;
 use crate::group::read_stand;
-ghost use mathlib.Core.Path.{_≡_};
-ghost use Prim.Native.Nat.{_+_, _-_, _≤_, _<_};
-ghost use lib.ListN.{length, drop, set};
-ghost use lib.Seq.{paste};
-ghost use Rattle.rules.specs.Tables.{tableOf};
-ghost use Rattle.desk_form.specs.Reads.{allStands};
-ghost use Rattle.desk_form.specs.Says.{RoomFor, SaysStands};
+use lines::put;
+ghost use Rattle.base.specs.Lent.{given};
+ghost use Rattle.rules.specs.Tables.{tableOf, tableIn};
+ghost use Rattle.desk_form.specs.Columns.{tableAfter};
+ghost use Rattle.desk_form.specs.Says.{RoomFor, SaysStands, NumbersRoom, NumbersLaid};
 
 // How many bytes the names have, and where the lines behind the stands begin.
 pub enum Stands {
     Laid { bytes: usize, next: usize },
     Malformed,
-}
-
-// Puts a part of some bytes at a place of a text, as a name's behind the names before it.
-pub fn lay_bytes(text: &mut [u8], to: usize, input: &[u8], from: usize, past: usize)
-    requires { ⌜ (from ≤ past) × (past ≤ length (now input)) × (to + (past - from) ≤ length (now text)) ⌝ }
-    ensures { λ _. ⌜ now (text .exit) ≡ paste (now (text .entry)) to (drop from (now (input .entry))) (past - from) ⌝ }
-{
-    let mut i = 0;
-    while i < past - from {
-        text[to + i] = input[from + i];
-        i += 1;
-    }
 }
 
 // Puts a stand's numbers in their columns, and where its name ends.
@@ -40,8 +26,8 @@ fn lay_numbers(
     north: &mut [i32],
     score: &mut [u32],
 )
-    requires { ⌜ (i + 1 < length (now starts)) × (i < length (now east)) × (i < length (now north)) × (i < length (now score)) ⌝ }
-    ensures { λ _. ⌜ (now (starts .exit) ≡ set (now (starts .entry)) (i + 1) end) × (now (east .exit) ≡ set (now (east .entry)) i x) × (now (north .exit) ≡ set (now (north .entry)) i y) × (now (score .exit) ≡ set (now (score .entry)) i value) ⌝ }
+    requires { ⌜ NumbersRoom i (now starts) (now east) (now north) (now score) ⌝ }
+    ensures { λ _. ⌜ NumbersLaid i end x y value starts east north score ⌝ }
 {
     starts[i + 1] = end;
     east[i] = x;
@@ -60,7 +46,7 @@ pub fn read_stands(
     score: &mut [u32],
 ) -> Stands
     requires { ⌜ RoomFor (now input) at stands (tableOf (now text) (now starts) (now east) (now north) (now score)) ⌝ }
-    ensures { λ r. ⌜ SaysStands (now (input .entry)) (allStands stands (drop at (now (input .entry)))) (tableOf (now (text .entry)) (now (starts .entry)) (now (east .entry)) (now (north .entry)) (now (score .entry))) (tableOf (now (text .exit)) (now (starts .exit)) (now (east .exit)) (now (north .exit)) (now (score .exit))) r ⌝ }
+    ensures { λ r. ⌜ SaysStands (given input) at stands (tableIn text starts east north score) (tableAfter text starts east north score) r ⌝ }
 {
     starts[0] = 0;
     let mut bytes = 0;
@@ -78,8 +64,7 @@ pub fn read_stands(
         else {
             return Stands::Malformed;
         };
-        lay_bytes(text, bytes, input, from, past);
-        bytes += past - from;
+        bytes = put(text, bytes, &input[from..past]);
         lay_numbers(i, bytes as u32, x, y, value, starts, east, north, score);
         next = behind;
         i += 1;

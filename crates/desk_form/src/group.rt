@@ -1,18 +1,19 @@
 // Lines that belong together: the grid's, a stand's, the question's. Each group is read where it begins, in the order of its lines.
 use crate::Reading;
-use desk_line::Bytes;
-use desk_line::Signed;
-use desk_line::Unsigned;
-use desk_line::bytes_line;
-use desk_line::signed_line;
-use desk_line::unsigned_line;
+use lines::Bytes;
+use lines::Signed;
+use lines::Unsigned;
+use lines::bytes_line;
+use lines::signed_line;
+use lines::unsigned_line;
 use rules::Grid;
 use rules::Place;
 use rules::Ranking;
-ghost use Prim.Native.Nat.{_+_, _≤_};
-ghost use lib.ListN.{length, drop};
-ghost use Rattle.desk_form.specs.Reads.{gridLines, headingLines, standLines, questionLines};
-ghost use Rattle.desk_form.specs.Says.{SaysOpening, SaysHeading, SaysStand, SaysQuestion};
+ghost use Prim.Native.Nat.{_≤_};
+ghost use lib.ListN.{length};
+ghost use Rattle.base.specs.Lent.{given};
+ghost use Rattle.lines.specs.Writing.{ascii};
+ghost use Rattle.desk_form.specs.Says.{SaysOpening, SaysStand, SaysQuestion};
 
 // The grid, how many stands follow, and where their lines begin.
 pub enum Opening {
@@ -24,19 +25,8 @@ pub enum Opening {
     Malformed,
 }
 
-// How a stand's lines and the question's begin: bytes, as a part of the input, and a place; and where the next line begins.
-enum Heading {
-    Lines {
-        from: usize,
-        past: usize,
-        east: i32,
-        north: i32,
-        next: usize,
-    },
-    Malformed,
-}
-
-// A stand, its name as a part of the input, and where the next lines begin.
+// A stand, its name as a part of the input, and where the next lines begin; or the first of its four lines that is not as it
+// should be, from 0.
 pub enum StandRead {
     Lines {
         from: usize,
@@ -46,7 +36,7 @@ pub enum StandRead {
         score: u32,
         next: usize,
     },
-    Malformed,
+    Malformed(u32),
 }
 
 // The question, its text as a part of the input, and where its lines end.
@@ -61,7 +51,7 @@ pub enum Question {
 }
 
 pub fn read_opening(input: &[u8]) -> Opening
-    ensures { λ r. ⌜ SaysOpening (now (input .entry)) (gridLines (now (input .entry))) r ⌝ }
+    ensures { λ r. ⌜ SaysOpening (given input) r ⌝ }
 {
     let Signed::Number(west, at) = signed_line(input, 0, b"west=") else {
         return Opening::Malformed;
@@ -83,45 +73,22 @@ pub fn read_opening(input: &[u8]) -> Opening
     }
 }
 
-fn read_heading(input: &[u8], at: usize, key: &[u8]) -> Heading
+// A stand's four lines, by the keys of the first and the last of them. The question begins with four like them, by other keys.
+fn read_by(input: &[u8], at: usize, first: &[u8], last: &[u8]) -> StandRead
     requires { ⌜ at ≤ length (now input) ⌝ }
-    ensures { λ r. ⌜ SaysHeading (now (input .entry)) (at + length (now (key .entry))) (headingLines (now (key .entry)) (drop at (now (input .entry)))) r ⌝ }
+    ensures { λ r. ⌜ SaysStand (given input) at (given first) (given last) r ⌝ }
 {
-    let Bytes::Part(from, past) = bytes_line(input, at, key) else {
-        return Heading::Malformed;
+    let Bytes::Part(from, past) = bytes_line(input, at, first) else {
+        return StandRead::Malformed(0);
     };
     let Signed::Number(east, at) = signed_line(input, past + 1, b"east=") else {
-        return Heading::Malformed;
+        return StandRead::Malformed(1);
     };
     let Signed::Number(north, at) = signed_line(input, at, b"north=") else {
-        return Heading::Malformed;
+        return StandRead::Malformed(2);
     };
-    Heading::Lines {
-        from,
-        past,
-        east,
-        north,
-        next: at,
-    }
-}
-
-pub fn read_stand(input: &[u8], at: usize) -> StandRead
-    requires { ⌜ at ≤ length (now input) ⌝ }
-    ensures { λ r. ⌜ SaysStand (now (input .entry)) (standLines (drop at (now (input .entry)))) r ⌝ }
-{
-    let Heading::Lines {
-        from,
-        past,
-        east,
-        north,
-        next,
-    } = read_heading(input, at, b"name=")
-    else {
-        return StandRead::Malformed;
-    };
-    let Unsigned::Number(score, next) = unsigned_line(input, next, b"score=", Reading::NUMBER_MOST)
-    else {
-        return StandRead::Malformed;
+    let Unsigned::Number(score, next) = unsigned_line(input, at, last, Reading::NUMBER_MOST) else {
+        return StandRead::Malformed(3);
     };
     StandRead::Lines {
         from,
@@ -133,26 +100,26 @@ pub fn read_stand(input: &[u8], at: usize) -> StandRead
     }
 }
 
+pub fn read_stand(input: &[u8], at: usize) -> StandRead
+    requires { ⌜ at ≤ length (now input) ⌝ }
+    ensures { λ r. ⌜ SaysStand (given input) at (ascii "name=") (ascii "score=") r ⌝ }
+{
+    read_by(input, at, b"name=", b"score=")
+}
+
 pub fn read_question(input: &[u8], at: usize) -> Question
     requires { ⌜ at ≤ length (now input) ⌝ }
-    ensures { λ r. ⌜ SaysQuestion (now (input .entry)) at (questionLines (drop at (now (input .entry)))) r ⌝ }
+    ensures { λ r. ⌜ SaysQuestion (given input) at r ⌝ }
 {
-    let Heading::Lines {
+    let StandRead::Lines {
         from,
         past,
         east,
         north,
+        score: weight,
         next,
-    } = read_heading(input, at, b"text=")
+    } = read_by(input, at, b"text=", b"weight=")
     else {
-        return Question::Malformed;
-    };
-    let Unsigned::Number(weight, next) = unsigned_line(
-        input,
-        next,
-        b"weight=",
-        Reading::NUMBER_MOST,
-    ) else {
         return Question::Malformed;
     };
     let Unsigned::Number(k, next) = unsigned_line(input, next, b"k=", Reading::NUMBER_MOST) else {

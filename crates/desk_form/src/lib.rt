@@ -4,7 +4,6 @@ mod columns;
 mod group;
 
 use columns::Stands;
-pub use columns::lay_bytes;
 use columns::read_stands;
 use group::Opening;
 use group::Question;
@@ -13,7 +12,9 @@ use group::read_question;
 use rules::Grid;
 use rules::Ranking;
 use rules::Refusal;
-ghost use Rattle.rules.specs.Tables.{tableOf};
+ghost use Rattle.base.specs.Lent.{given};
+ghost use Rattle.rules.specs.Tables.{tableIn};
+ghost use Rattle.desk_form.specs.Columns.{tableAfter};
 ghost use Rattle.desk_form.specs.Answers.{ReadsInput};
 
 // What an input says: how many stands it has and how many bytes their names, the grid, where in the input the question's text
@@ -55,7 +56,7 @@ pub fn read_input(
     north: &mut [i32; Reading::STANDS_ROOM],
     score: &mut [u32; Reading::STANDS_ROOM],
 ) -> Reading
-    ensures { λ r. ⌜ ReadsInput (now (input .entry)) (tableOf (now (text .entry)) (now (starts .entry)) (now (east .entry)) (now (north .entry)) (now (score .entry))) r (tableOf (now (text .exit)) (now (starts .exit)) (now (east .exit)) (now (north .exit)) (now (score .exit))) ⌝ }
+    ensures { λ r. ⌜ ReadsInput (given input) (tableIn text starts east north score) r (tableAfter text starts east north score) ⌝ }
 {
     if Reading::BYTES_MOST < input.len() {
         return Reading::Refused(Refusal::InputMalformed);

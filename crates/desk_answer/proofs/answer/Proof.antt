@@ -1,5 +1,6 @@
 -- `answer` reads, and hands the fronts of the columns and a part of the input to the finder; each helper says what was read.
 -- Assumes nothing.
+use mathlib.Core.Path.{refl}
 use native.Mathlib.Omega.{arith}
 use borrow.Author.Needs.{needs}
 use Rattle.rules.specs.Tables.{tableOf}
@@ -19,12 +20,12 @@ read : (c : tie.After-known-told) →
     ReadsInput (a .input .now) (tableOf (a .text .now) (a .starts .now) (a .east .now) (a .north .now) (a .score .now)) (Of (v .0) (v .1 .0) (v .1 .1 .0) (v .1 .1 .1 .0) (v .1 .1 .1 .1 .0) (v .1 .1 .1 .1 .1 .0)) (tableOf (l .1 .0) (l .1 .1 .0) (l .1 .1 .1 .0) (l .1 .1 .1 .1 .0) (l .1 .1 .1 .1 .1 .0))
 read c = rw (c .before .reading .given .1) at (c .before .before .before .read-input .ensures)
 
-got : (c : tie.After-known-told) →
+handed : (c : tie.After-known-told) →
     let a = c .before .before .before .before .before .before .before .before .before .before .args in
     let v = c .before .reading .given .0 in
     let l = c .before .before .before .read-input .last in
     (r : Input) × Parts (a .input .now) (tableOf (l .1 .0) (l .1 .1 .0) (l .1 .1 .1 .0) (l .1 .1 .1 .1 .0) (l .1 .1 .1 .1 .1 .0)) (v .0) (v .1 .0) (v .1 .1 .1 .0) (v .1 .1 .1 .1 .0) (tableFrom (r .stands)) (r .text)
-got c = parts-read _ _ _ _ _ _ _ _ _ (read c)
+handed c = parts-read _ _ _ _ _ _ _ _ _ (read c)
 
 read-input-requires : tie.Need-read-input-requires
 read-input-requires c κs = search needs
@@ -39,40 +40,40 @@ put-refusal-requires : tie.Need-put-refusal-requires
 put-refusal-requires c κs = search needs
 
 returns : tie.Need-returns
-returns c = refused-14 _ _ _ _ (rw (c .before .before .enum-told .given .1) at (c .before .before .before .before .read-input .ensures)) (c .put-refusal .ensures)
+returns c = refused-14 _ _ _ (c .put-refusal .ensures) _ (rw (c .before .before .enum-told .given .1) at (c .before .before .before .before .read-input .ensures)) refl
 
 slice-aggregate-reply : tie.Need-slice-aggregate-reply
-slice-aggregate-reply c = counted (got (c .before .before .before .before .before .before .before .before .before .before .before .before) .1 .text)
+slice-aggregate-reply c = counted (handed (c .before .before .before .before .before .before .before .before .before .before .before .before) .1 .text)
 
 add-reply : tie.Need-add-reply
-add-reply c = record { fits = omega (arith, got (c .before .before .before .before .before .before .before .before .before .before .before .before) .1 .few) }
+add-reply c = record { fits = omega (arith, handed (c .before .before .before .before .before .before .before .before .before .before .before .before) .1 .few) }
 
 slice-aggregate-reply-2 : tie.Need-slice-aggregate-reply-2
-slice-aggregate-reply-2 c = counted (got (c .before .before .before .before .before .before .before .before .before .before .before .before .before) .1 .starts)
+slice-aggregate-reply-2 c = counted (handed (c .before .before .before .before .before .before .before .before .before .before .before .before .before) .1 .starts)
 
 slice-aggregate-reply-3 : tie.Need-slice-aggregate-reply-3
-slice-aggregate-reply-3 c = counted (got (c .before .before .before .before .before .before .before .before .before .before .before .before .before .before) .1 .east)
+slice-aggregate-reply-3 c = counted (handed (c .before .before .before .before .before .before .before .before .before .before .before .before .before .before) .1 .east)
 
 slice-aggregate-reply-4 : tie.Need-slice-aggregate-reply-4
-slice-aggregate-reply-4 c = counted (got (c .before .before .before .before .before .before .before .before .before .before .before .before .before .before .before) .1 .north)
+slice-aggregate-reply-4 c = counted (handed (c .before .before .before .before .before .before .before .before .before .before .before .before .before .before .before) .1 .north)
 
 slice-aggregate-reply-5 : tie.Need-slice-aggregate-reply-5
-slice-aggregate-reply-5 c = counted (got (c .before .before .before .before .before .before .before .before .before .before .before .before .before .before .before .before) .1 .score)
+slice-aggregate-reply-5 c = counted (handed (c .before .before .before .before .before .before .before .before .before .before .before .before .before .before .before .before) .1 .score)
 
 sub-reply : tie.Need-sub-reply
-sub-reply c = got (c .before .before .before .before .before .before .before .before .before .before .before .before .before .before .before .before .before .before .before) .1 .forward
+sub-reply c = handed (c .before .before .before .before .before .before .before .before .before .before .before .before .before .before .before .before .before .before .before) .1 .forward
 
 part-reply-start : tie.Need-part-reply-start
-part-reply-start c = let p = got (c .before .before .before .before .before .before .before .before .before .before .before .before .before .before .before .before .before .before .before) .1 in omega (arith, p .forward, p .inside)
+part-reply-start c = let p = handed (c .before .before .before .before .before .before .before .before .before .before .before .before .before .before .before .before .before .before .before) .1 in omega (arith, p .forward, p .inside)
 
 part-reply-end : tie.Need-part-reply-end
-part-reply-end c = let p = got (c .before .before .before .before .before .before .before .before .before .before .before .before .before .before .before .before .before .before .before) .1 in omega (arith, p .forward, p .inside)
+part-reply-end c = let p = handed (c .before .before .before .before .before .before .before .before .before .before .before .before .before .before .before .before .before .before .before) .1 in omega (arith, p .forward, p .inside)
 
 reply-requires : tie.Need-reply-requires
-reply-requires c κs = let p = got (c .before .before .before .before .before .before .before .before .before .before .before .before .before .before .before .before .before .before .before .before) .1 in omega (arith, p .few, counted (p .score))
+reply-requires c κs = let p = handed (c .before .before .before .before .before .before .before .before .before .before .before .before .before .before .before .before .before .before .before .before) .1 in omega (arith, p .few, counted (p .score))
 
 returns-2 : tie.Need-returns-2
-returns-2 c = replied _ _ _ _ _ _ _ _ _ (read (c .before .before .before .before .before .before .before .before .before .before .before .before .before .before .before .before .before .before .before .before .before)) (c .reply .ensures)
+returns-2 c = replied _ _ _ (c .reply .ensures) _ _ _ _ _ _ (read (c .before .before .before .before .before .before .before .before .before .before .before .before .before .before .before .before .before .before .before .before .before)) refl
 
 pub answer-spec : {M : Type 1} → statement M
 answer-spec =

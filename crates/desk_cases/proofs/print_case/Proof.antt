@@ -13,20 +13,20 @@ Inv-loop name head lines times tail input₀ at₀ i₀ t9 input at i = (length 
 abbrev μ-loop : tie.MeasureT-loop
 μ-loop name head lines times tail input₀ at₀ i₀ t9 input at i = times - i
 
-slice-aggregate-put : tie.Need-slice-aggregate-put Inv-loop μ-loop
-slice-aggregate-put c = search needs
+slice-aggregate-put-if-room : tie.Need-slice-aggregate-put-if-room Inv-loop μ-loop
+slice-aggregate-put-if-room c = search needs
 
-put-requires : tie.Need-put-requires Inv-loop μ-loop
-put-requires c κs = search needs
+put-if-room-requires : tie.Need-put-if-room-requires Inv-loop μ-loop
+put-if-room-requires c κs = search needs
 
 loop-holds : tie.Need-loop-holds Inv-loop μ-loop
 loop-holds c = search needs
 
-slice-aggregate-put-2 : tie.Need-slice-aggregate-put-2 Inv-loop μ-loop
-slice-aggregate-put-2 c = search needs
+slice-aggregate-put-if-room-2 : tie.Need-slice-aggregate-put-if-room-2 Inv-loop μ-loop
+slice-aggregate-put-if-room-2 c = search needs
 
-put-requires-2 : tie.Need-put-requires-2 Inv-loop μ-loop
-put-requires-2 c κs = search needs
+put-if-room-requires-2 : tie.Need-put-if-room-requires-2 Inv-loop μ-loop
+put-if-room-requires-2 c κs = search needs
 
 add-i : tie.Need-add-i Inv-loop μ-loop
 add-i c = search needs
@@ -37,11 +37,11 @@ loop-less c = search needs
 loop-again : tie.Need-loop-again Inv-loop μ-loop
 loop-again c = search needs
 
-slice-aggregate-put-3 : tie.Need-slice-aggregate-put-3 Inv-loop μ-loop
-slice-aggregate-put-3 c = search needs
+slice-aggregate-put-if-room-3 : tie.Need-slice-aggregate-put-if-room-3 Inv-loop μ-loop
+slice-aggregate-put-if-room-3 c = search needs
 
-put-requires-3 : tie.Need-put-requires-3 Inv-loop μ-loop
-put-requires-3 c κs = search needs
+put-if-room-requires-3 : tie.Need-put-if-room-requires-3 Inv-loop μ-loop
+put-if-room-requires-3 c κs = search needs
 
 print-requires : tie.Need-print-requires Inv-loop μ-loop
 print-requires c κs = search needs
@@ -67,16 +67,16 @@ print-case-spec =
     (tie.spec
     Inv-loop
     μ-loop
-    slice-aggregate-put
-    put-requires
+    slice-aggregate-put-if-room
+    put-if-room-requires
     loop-holds
-    slice-aggregate-put-2
-    put-requires-2
+    slice-aggregate-put-if-room-2
+    put-if-room-requires-2
     add-i
     loop-less
     loop-again
-    slice-aggregate-put-3
-    put-requires-3
+    slice-aggregate-put-if-room-3
+    put-if-room-requires-3
     print-requires
     slice-aggregate-print
     print-requires-2

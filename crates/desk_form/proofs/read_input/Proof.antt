@@ -5,7 +5,7 @@ use lib.ListN.{drop}
 use borrow.Author.Needs.{needs}
 use Rattle.rules.specs.Tables.{tableOf}
 use Rattle.desk_form.specs.Reads.{gridLines, allStands, questionLines}
-use Rattle.desk_line.specs.Says.{Reached}
+use Rattle.lines.specs.Says.{Reached}
 use Rattle.desk_form.specs.Says.{StandsReached, QuestionReached}
 use Rattle.desk_form.proofs.Inputs.{grid-law}
 use Rattle.desk_form.proofs.Readings.{too-long, no-opening, no-stands, no-question, more-behind, all-read}

@@ -1,9 +1,7 @@
 -- `reply::ask`: on a lawful set the answer and both rooms are what the rules give, so that the lines are the reply.
 -- Assumes nothing.
 use mathlib.Core.Path.{refl}
-use native.Mathlib.Omega.{arith}
 use borrow.Author.Needs.{needs}
-use Rattle.desk_answer.proofs.Appending.{within}
 use Rattle.desk_answer.proofs.Asking.{refusal-told, names-short, hits-told}
 use Rattle.desk_answer.proofs.reply.ask.Statement.{statement}
 use Rattle.desk_answer.proofs.reply.ask.Tie as tie
@@ -42,7 +40,7 @@ returns c =
 returns-2 : tie.Need-returns-2
 returns-2 c =
     let law = c .before .before .before .before .before .before .before .before .before .before .before .before .before .before .before .before .before .pre in
-    within 1600 (omega arith) (rw (refusal-told _ _ _ _ _ _ _ _ _ law refl refl _ (rw (c .before .before .before .answer2 .given .1) at (c .before .before .before .before .before .before .before .ranked .ensures .lawful law))) at (c .put-refusal .ensures))
+    rw (refusal-told _ _ _ _ _ _ _ _ _ law refl refl _ (rw (c .before .before .before .answer2 .given .1) at (c .before .before .before .before .before .before .before .ranked .ensures .lawful law))) at (c .put-refusal .ensures)
 
 pub ask-spec : {M : Type 1} → statement M
 ask-spec =

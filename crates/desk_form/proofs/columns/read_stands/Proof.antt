@@ -1,14 +1,15 @@
 -- `columns::read_stands` lays out stand by stand: the invariant is Laying.
 -- Assumes nothing.
 use mathlib.Core.Path.{_∙_}
-use Prim.Native.Nat.{ℕ, _-_}
+use Prim.Native.Nat.{ℕ, _+_, _-_}
 use native.Mathlib.Omega.{arith}
-use lib.ListN.{drop, set, length-set}
+use lib.ListN.{length, drop, set, length-set}
 use borrow.Author.Needs.{needs}
 use mir.Syntax.{w32}
 use mir.Val.{SFits}
 use Rattle.base.proofs.Machine.{arrives}
 use Rattle.rules.specs.Tables.{tableOf}
+use Rattle.lines.specs.Writing.{ascii}
 use Rattle.desk_form.specs.Reads.{standLines}
 use Rattle.desk_form.specs.Says.{StandReached, RoomFor}
 use Rattle.desk_form.proofs.Layouts.{Laying, SameLong, with-first, grows, lay-none, lay-one, lay-long, no-stand, all-laid, first-start, from-entry}
@@ -36,7 +37,7 @@ long c = lay-long _ _ _ _ _ _ _ _ (room c) (c .loop .inv)
 there : (c : tie.After-known-told Inv-loop μ-loop) →
     let a = c .before .before .before .before .before .before .before .before .before .before .args in
     let s = c .before .from .given .0 in
-    StandReached (a .input .now) (standLines (drop (c .before .before .before .before .before .loop .next) (a .input .now))) (s .0) (s .1 .0) (s .1 .1 .0) (s .1 .1 .1 .0) (s .1 .1 .1 .1 .0) (s .1 .1 .1 .1 .1 .0)
+    StandReached (a .input .now) (c .before .before .before .before .before .loop .next + length (ascii "name=")) (standLines (drop (c .before .before .before .before .before .loop .next) (a .input .now))) (s .0) (s .1 .0) (s .1 .1 .0) (s .1 .1 .1 .0) (s .1 .1 .1 .1 .0) (s .1 .1 .1 .1 .1 .0)
 there c = rw (c .before .from .given .1) at (c .before .before .before .read-stand .ensures)
 
 east-fits : (c : tie.After-known-told Inv-loop μ-loop) → SFits w32 (c .before .from .given .0 .1 .1 .0)
@@ -78,43 +79,46 @@ same-length-5 : tie.Need-same-length-5 Inv-loop μ-loop
 same-length-5 c = long (c .before .before .before .before) .score
 
 returns : tie.Need-returns Inv-loop μ-loop
-returns c = no-stand _ _ _ _ _ _ _ _ (c .before .before .before .loop-test .taken) (rw (c .enum-told .given .1) at (c .before .before .read-stand .ensures)) (c .before .before .before .before .loop .inv)
+returns c = no-stand _ _ _ _ _ _ _ _ (c .before .before .before .loop-test .taken) (rw (c .enum-told .given .1) at (c .before .before .read-stand .ensures) .none) (c .before .before .before .before .loop .inv)
 
-lay-bytes-requires : tie.Need-lay-bytes-requires Inv-loop μ-loop
-lay-bytes-requires c κs =
-    let now = c .before .before .before .before .before .before in
-    let s = there (c .before) in
-    (s .forward, s .inside, omega (arith, grows _ _ _ _ _ _ _ _ _ _ _ _ _ _ s (now .loop .inv), long now .text, room now .text))
+sub-put : tie.Need-sub-put Inv-loop μ-loop
+sub-put c = there (c .before) .forward
 
-sub-bytes : tie.Need-sub-bytes Inv-loop μ-loop
-sub-bytes c = there (c .before .before .before .before) .forward
+part-put-start : tie.Need-part-put-start Inv-loop μ-loop
+part-put-start c = there (c .before) .forward
 
-add-bytes : tie.Need-add-bytes Inv-loop μ-loop
-add-bytes c = omega (arith, grows _ _ _ _ _ _ _ _ _ _ _ _ _ _ (there (c .before .before .before .before)) (c .before .before .before .before .before .before .before .before .before .loop .inv), room (c .before .before .before .before .before .before .before .before .before) .short)
+part-put-end : tie.Need-part-put-end Inv-loop μ-loop
+part-put-end c = there (c .before) .inside
+
+put-requires : tie.Need-put-requires Inv-loop μ-loop
+put-requires c κs =
+    let now = c .before .before .before .before .before .before .before in
+    omega (arith, grows _ _ _ _ _ _ _ _ _ _ _ _ _ _ _ (there (c .before .before)) (now .loop .inv), long now .text, room now .text)
 
 cast-lay-numbers : tie.Need-cast-lay-numbers Inv-loop μ-loop
-cast-lay-numbers c = omega (arith, grows _ _ _ _ _ _ _ _ _ _ _ _ _ _ (there (c .before .before .before .before)) (c .before .before .before .before .before .before .before .before .before .loop .inv), room (c .before .before .before .before .before .before .before .before .before) .short)
+cast-lay-numbers c =
+    let now = c .before .before .before .before .before .before .before .before .before .before in
+    omega (arith, c .before .before .put .ensures .next, grows _ _ _ _ _ _ _ _ _ _ _ _ _ _ _ (there (c .before .before .before .before .before)) (now .loop .inv), room now .short)
 
 lay-numbers-requires : tie.Need-lay-numbers-requires Inv-loop μ-loop
 lay-numbers-requires c κs =
-    let now = c .before .before .before .before .before .before .before .before .before .before .before .before .before in
-    let h = c .before .before .before .before .before .before .before .before .before .before .before .before .loop-test .taken in
-    (omega (arith, long now .starts, room now .starts), omega (arith, long now .east, room now .east), omega (arith, long now .north, room now .north), omega (arith, long now .score, room now .score))
+    let now = c .before .before .before .before .before .before .before .before .before .before .before .before .before .before in
+    let h = c .before .before .before .before .before .before .before .before .before .before .before .before .before .loop-test .taken in
+    record { start-fits = omega (arith, long now .starts, room now .starts); east-fits = omega (arith, long now .east, room now .east); north-fits = omega (arith, long now .north, room now .north); score-fits = omega (arith, long now .score, room now .score) }
 
 add-i : tie.Need-add-i Inv-loop μ-loop
-add-i c = omega (arith, c .before .before .before .before .before .before .before .before .before .before .before .before .before .before .before .before .before .before .before .loop-test .taken, c .before .before .before .before .before .before .before .before .before .before .before .before .before .before .before .before .before .before .before .before .before .before .before .before .before .fits .stands)
+add-i c = omega (arith, c .before .before .before .before .before .before .before .before .before .before .before .before .before .before .before .before .before .before .before .before .loop-test .taken, c .before .before .before .before .before .before .before .before .before .before .before .before .before .before .before .before .before .before .before .before .before .before .before .before .before .before .fits .stands)
 
 loop-less : tie.Need-loop-less Inv-loop μ-loop
 loop-less c = omega arith
 
 loop-again : tie.Need-loop-again Inv-loop μ-loop
 loop-again c =
-    let named = c .before .before .before .before .before .before .before .before .before .before .before .before .before .lay-bytes in
-    let put = c .before .before .before .before .before .before .lay-numbers in
-    let at = c .before .before .before .before .before .before .before .before .before .before .before .before .before .before .before in
+    let put = c .before .before .before .before .before .before .lay-numbers .ensures in
+    let at = c .before .before .before .before .before .before .before .before .before .before .before .before .before .before .before .before in
     let read = at .before .from .given .0 in
-    let now = c .before .before .before .before .before .before .before .before .before .before .before .before .before .before .before .before .before .before .before .before in
-    lay-one _ _ _ _ _ _ _ _ _ _ _ _ _ _ (there at) (now .loop .inv) (room now) (c .before .before .before .before .before .before .before .before .before .before .before .before .before .before .before .before .before .before .before .loop-test .taken) _ _ _ _ _ (named .ensures) (put .ensures .0) (put .ensures .1 ∙ arrives (set (now .loop .east) (now .loop .i)) (read .1 .1 .0) (east-fits at)) (put .ensures .2 ∙ arrives (set (now .loop .north) (now .loop .i)) (read .1 .1 .1 .0) (north-fits at)) (put .ensures .3)
+    let now = c .before .before .before .before .before .before .before .before .before .before .before .before .before .before .before .before .before .before .before .before .before in
+    lay-one _ _ _ _ _ _ _ _ _ _ _ _ _ _ _ (there at) (now .loop .inv) (room now) (c .before .before .before .before .before .before .before .before .before .before .before .before .before .before .before .before .before .before .before .before .loop-test .taken) _ _ _ _ _ _ (c .before .before .before .before .before .before .before .before .before .before .before .before .before .put .ensures) (put .end-is) (put .x-is ∙ arrives (set (now .loop .east) (now .loop .i)) (read .1 .1 .0) (east-fits at)) (put .y-is ∙ arrives (set (now .loop .north) (now .loop .i)) (read .1 .1 .1 .0) (north-fits at)) (put .value-is)
 
 same-length-6 : tie.Need-same-length-6 Inv-loop μ-loop
 same-length-6 c = long (c .before) .text
@@ -151,9 +155,10 @@ read-stands-spec =
     same-length-4
     same-length-5
     returns
-    lay-bytes-requires
-    sub-bytes
-    add-bytes
+    sub-put
+    part-put-start
+    part-put-end
+    put-requires
     cast-lay-numbers
     lay-numbers-requires
     add-i

@@ -4,10 +4,10 @@ use mir.Syntax.{w32}
 use mir.Facts.{toZ-ofZ}
 use lib.ListN.{drop}
 use borrow.Author.Needs.{needs}
-use Rattle.desk_line.specs.Writing.{ascii}
-use Rattle.desk_line.specs.Reads.{onward, signedLine, unsignedLine}
+use Rattle.lines.specs.Writing.{ascii}
+use Rattle.lines.specs.Reads.{onward, signedLine, unsignedLine}
 use Rattle.desk_form.specs.Reads.{gridLines}
-use Rattle.desk_line.specs.Says.{Reached}
+use Rattle.lines.specs.Says.{Reached}
 use Rattle.desk_form.proofs.group.read_opening.Statement.{statement}
 use Rattle.desk_form.proofs.group.read_opening.Tie as tie
 

@@ -1,5 +1,0 @@
--- Lines of key=value, by how they are written. Reads and Says have no meaning of their own: Reads is what the code computes, and
--- Says what its answers say of that.
-pub mod Writing
-pub mod Reads
-pub mod Says
