@@ -24,7 +24,7 @@ cast-put-hits c = search needs
 put-hits-requires : tie.Need-put-hits-requires
 put-hits-requires c κs =
     let law = c .before .before .before .before .before .before .before .before .before .before .before .before .before .before .before .before .before .before .pre in
-    names-short _ _ _ _ _ _ _ _ _ law refl refl _ (rw (c .before .before .before .before .answer .given .1) at (c .before .before .before .before .before .before .before .before .ranked .ensures .lawful law))
+    names-short _ _ _ _ _ _ _ _ _ law refl refl _ (rw (c .before .before .before .before .answer .given .1) at (c .before .before .before .before .before .before .before .before .ranked .ensures .exact law))
 
 enum-known-answer-2 : tie.Need-enum-known-answer-2
 enum-known-answer-2 c = search needs
@@ -35,12 +35,12 @@ put-refusal-requires c κs = search needs
 returns : tie.Need-returns
 returns c =
     let law = c .before .before .before .before .before .before .before .before .before .before .before .before .before .before .before .before .before .before .before .pre in
-    rw (hits-told _ _ _ _ _ _ _ _ _ law refl refl _ (rw (c .before .before .before .before .before .answer .given .1) at (c .before .before .before .before .before .before .before .before .before .ranked .ensures .lawful law))) at (c .put-hits .ensures)
+    rw (hits-told _ _ _ _ _ _ _ _ _ law refl refl _ (rw (c .before .before .before .before .before .answer .given .1) at (c .before .before .before .before .before .before .before .before .before .ranked .ensures .exact law))) at (c .put-hits .ensures)
 
 returns-2 : tie.Need-returns-2
 returns-2 c =
     let law = c .before .before .before .before .before .before .before .before .before .before .before .before .before .before .before .before .before .pre in
-    rw (refusal-told _ _ _ _ _ _ _ _ _ law refl refl _ (rw (c .before .before .before .answer2 .given .1) at (c .before .before .before .before .before .before .before .ranked .ensures .lawful law))) at (c .put-refusal .ensures)
+    rw (refusal-told _ _ _ _ _ _ _ _ _ law refl refl _ (rw (c .before .before .before .answer2 .given .1) at (c .before .before .before .before .before .before .before .ranked .ensures .exact law))) at (c .put-refusal .ensures)
 
 pub ask-spec : {M : Type 1} → statement M
 ask-spec =
