@@ -50,9 +50,9 @@ record Came (S : State) (p : List ℕ) (d : Deed) (s′ : Session) : Type 0 wher
 
 module _ (S : State) (law : Lawful S) (p : List ℕ) (fine : textRefusal p ≡ 0) where
   abbrev t : Table
+  t = S .table
 
   abbrev here : State
-  t = S .table
   here = withSession S (sessionOf t p)
 
   came : (d : Deed) (s′ : Session) → Promises here d s′ → Came S p d s′

@@ -10,7 +10,7 @@ use Rattle.rules.specs.Indexes.{Index, setLawful}
 use Rattle.rules.specs.Sessions.{sessionOf}
 use Rattle.rules.specs.Scheme.{table, grid, ki}
 use Rattle.rules.proofs.Scheme.{small-scheme}
-use Rattle.finder.specs.Runs.{State, Deed, Done, Run, lastState, fresh}
+use Rattle.finder.specs.Runs.{State, Deed, Done, Run, standing, fresh}
 use Rattle.finder.proofs.Runs.{run-ends, run-set}
 
 -- a call, and the state that it leaves
@@ -26,5 +26,5 @@ pub line-11 : (x : Index) → setLawful table grid x ≡ true → (v₁ v₂ v�
 line-11 x law v₁ v₂ v₃ v₄ S₁ S₂ S₃ S₄ r =
     let run : List Done = kiz-and-back v₁ v₂ v₃ v₄ S₁ S₂ S₃ S₄ in
     run-ends table grid x law run r .session
-    ∙ ap (λ (R : State). sessionOf (R .table) _) (run-set (fresh table grid x) run r)
+    ∙ ap (λ (R : State). sessionOf (R .table) (standing [] run)) (run-set (fresh table grid x) run r)
     ∙ ap (sessionOf table) (small-scheme .line11-letters)
