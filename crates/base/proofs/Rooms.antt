@@ -6,15 +6,12 @@ use Prim.Native.Nat.{ℕ, suc, _≤_, _<_}
 use native.Mathlib.Omega.{arith}
 use native.Mathlib.Numerals.{add-one}
 use lib.ListN.{length, drop, getD, set, length-append, length-drop}
-use lib.Seq.{drop-cons, drop-append-seam, set-at}
+use lib.Seq.{drop-cons, set-at}
 use Rattle.base.specs.Lists.{written}
 
 module _ (words room : List ℕ) where
   pub length-written : length words ≤ length room → length (written words room) ≡ length room
   length-written h = omega (arith, length-append words (drop (length words) room), length-drop (length words) room)
-
-  pub past-written : drop (length words) (written words room) ≡ drop (length words) room
-  past-written = drop-append-seam words (drop (length words) room)
 
   pub written-next : (x : ℕ) → length words < length room → set (written words room) (length words) x ≡ written (words ++ (x ∷ [])) room
   written-next x h =

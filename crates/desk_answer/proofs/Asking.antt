@@ -20,7 +20,7 @@ use Rattle.rules.specs.declared.RankedAnswer.{RankedAnswer}
 use Rattle.rules.specs.declared.RankedAnswer.the-variants.{Found, Refused}
 use Rattle.rules.specs.Numbers.{refusalNumber, telling}
 use Rattle.rules.specs.Names.{name, textRefusal}
-use Rattle.rules.specs.Tables.{Table, nameOf, tableRefusal}
+use Rattle.rules.specs.Tables.{Table, tableRefusal}
 use Rattle.rules.specs.Questions.{ranking, rankedList, rankingLawful, rankedRefusal}
 use Rattle.rules.specs.Outcomes.{Outcome, outcome, refused, standsOf, valuesOf, rankedOutcome, rankedCame}
 use Rattle.rules.specs.Indexes.{Index, setLawful}
@@ -32,7 +32,7 @@ use Rattle.meaning.proofs.Meaning.{table-means}
 use Rattle.rules.proofs.Refusals.{first-none}
 use Rattle.lines.specs.Writing.{ascii, decimalOf, line}
 use Rattle.desk_form.specs.Printed.{printedRefusal, printedHit, printedHits, replyTo}
-use Rattle.desk_answer.specs.Printing.{hitLines, hitsTo, foundLines, Listed}
+use Rattle.desk_answer.specs.Printing.{hitLines, hitsTo, foundLines, NamesListed}
 
 -- a hit's lines, by its columns and by its table
 same-lines : (t : Table) (h : Hit) → hitLines (t .text) (t .starts) (h .stand) (h .value) ≡ printedHit t h
@@ -118,7 +118,7 @@ module _ (t : Table) (g : Grid) (x : Index) (p : List ℕ) (q : Ranking) (room v
   at-room : (f : Hit → ℕ) (l : List Hit) (before : List ℕ) (i : ℕ) → i < length l → getD (written (each f l) before) i 0 ≡ f (getD l i noHit)
   at-room f l before i h = List·getD-append (each f l) _ 0 i (rw (length-each f l) h) ∙ getD-each f l i noHit 0 h
 
-  pub names-short : (n : ℕ) → Exact (Found n) → Listed (t .text) (t .starts) room′ n
+  pub names-short : (n : ℕ) → Exact (Found n) → NamesListed (t .text) (t .starts) room′ n
   unfolding hits
   names-short n x =
       let a = answered n x in

@@ -24,6 +24,6 @@ pub record PutsHit (text starts : List ℕ) (stand value : ℕ) (out : List ℕ)
   pub short : length (hitLines text starts stand value) ≤ 96
 
 -- so many stands were found, with names that a table may have
-pub record Listed (text starts found : List ℕ) (count : ℕ) : Type 0 where
+pub record NamesListed (text starts found : List ℕ) (count : ℕ) : Type 0 where
   pub few : count ≤ 16
   pub short : (i : ℕ) → i < count → length (name text starts (getD found i 0)) ≤ 24

@@ -13,7 +13,7 @@ ghost use Rattle.rules.specs.Numbers.{refusalNumber};
 ghost use Rattle.rules.specs.Names.{name};
 ghost use Rattle.lines.specs.Puts.{Puts};
 ghost use Rattle.desk_form.specs.Printed.{printedRefusal};
-ghost use Rattle.desk_answer.specs.Printing.{foundLines, Listed, PutsHit};
+ghost use Rattle.desk_answer.specs.Printing.{foundLines, NamesListed, PutsHit};
 
 // A refusal is one line.
 pub fn put_refusal(out: &mut [u8; OUTPUT_MOST], why: Refusal) -> usize
@@ -49,7 +49,7 @@ pub fn put_hits(
     values: &[u64; HITS_MOST],
     count: usize,
 ) -> usize
-    requires { ⌜ Listed (now text) (now starts) (now found) count ⌝ }
+    requires { ⌜ NamesListed (now text) (now starts) (now found) count ⌝ }
     ensures { λ r. ⌜ Puts (foundLines (given text) (given starts) (given found) (given values) count) (given out) 0 (after out) r ⌝ }
 {
     let mut at = put_number(out, 0, b"found=", count as u64);

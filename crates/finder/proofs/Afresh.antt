@@ -5,7 +5,7 @@ use mathlib.Core.Bool.{true}
 use mathlib.Core.List.{List, [], _∷_, _++_, append-assoc}
 use Prim.Native.Nat.{ℕ, _-_, _<_}
 use native.Mathlib.Omega.{arith}
-use lib.ListN.{length, length-append, length-replicate, replicate}
+use lib.ListN.{length, length-append, length-replicate}
 use Rattle.base.specs.Lists.{all}
 use Rattle.base.proofs.Tests.{and-parts}
 use Rattle.base.proofs.Scans.{all-right}
@@ -18,11 +18,10 @@ use Rattle.rules.specs.Sessions.{sessionOf, lettersTyped}
 use Rattle.rules.proofs.Bytes.{text-parts, text-taken}
 use Rattle.session.specs.declared.Stroke.{Stroke}
 use Rattle.session.specs.Promises.{TypePromise}
-use Rattle.session.specs.Strokes.{typedOn, passed}
 use Rattle.session.proofs.Letters.{type-taken, typed-allowed, rubbed-allowed}
 use Rattle.session.proofs.Lawful.{typed-served}
 use Rattle.session.proofs.Promises.{type-keeps}
-use Rattle.finder.specs.Runs.{State, Lawful, withSession, Deed, Done, Run, lastState, lettersAfter, standing, Stands, lettersIn, rubsIn, fresh, typing}
+use Rattle.finder.specs.Runs.{State, Lawful, withSession, Deed, Done, Run, lastState, lettersAfter, standing, Stands, lettersIn, rubsIn, freshState, typing}
 use Rattle.finder.proofs.Runs.{taken-typing, fresh-stands, run-means, run-ends, run-set, types-stand}
 
 -- ---- two runs from the fresh session
@@ -36,14 +35,14 @@ same-state S R R′ p e e′ w w′ =
 
 module _ (t : Table) (g : Grid) (x : Index) (law : setLawful t g x ≡ true) where
   -- the state is the one of any run in which only the standing letters were accepted
-  pub as-typed : (run other : List Done) → Run (fresh t g x) run → Run (fresh t g x) other → rubsIn other ≡ 0 → lettersIn other ≡ standing [] run
-      → lastState (fresh t g x) run ≡ lastState (fresh t g x) other
+  pub as-typed : (run other : List Done) → Run (freshState t g x) run → Run (freshState t g x) other → rubsIn other ≡ 0 → lettersIn other ≡ standing [] run
+      → lastState (freshState t g x) run ≡ lastState (freshState t g x) other
   as-typed run other r o none same =
-      let letters : standing [] other ≡ standing [] run = types-stand (fresh t g x) other none [] (run-means t g x law other o) ∙ same in
-      same-state (fresh t g x) (lastState (fresh t g x) run) (lastState (fresh t g x) other) (standing [] run)
-      (run-set (fresh t g x) run r) (run-set (fresh t g x) other o)
+      let letters : standing [] other ≡ standing [] run = types-stand (freshState t g x) other none [] (run-means t g x law other o) ∙ same in
+      same-state (freshState t g x) (lastState (freshState t g x) run) (lastState (freshState t g x) other) (standing [] run)
+      (run-set (freshState t g x) run r) (run-set (freshState t g x) other o)
       (run-ends t g x law run r)
-      (subst (Stands (lastState (fresh t g x) other)) letters (run-ends t g x law other o))
+      (subst (Stands (lastState (freshState t g x) other)) letters (run-ends t g x law other o))
 
 -- ---- a text typed letter by letter
 
@@ -96,10 +95,10 @@ standing-allowed p fine (d ∷ run) = standing-allowed (lettersAfter p (d .deed)
     step (Deed.asksRanked q rooms o) = fine
 
 -- whatever was done, typing the standing letters from fresh is accepted letter by letter and comes to the same state
-pub as-typed-afresh : (t : Table) (g : Grid) (x : Index) → setLawful t g x ≡ true → (run : List Done) → Run (fresh t g x) run
-    → Run (fresh t g x) (typing (fresh t g x) [] (standing [] run)) × (lastState (fresh t g x) run ≡ lastState (fresh t g x) (typing (fresh t g x) [] (standing [] run)))
+pub as-typed-afresh : (t : Table) (g : Grid) (x : Index) → setLawful t g x ≡ true → (run : List Done) → Run (freshState t g x) run
+    → Run (freshState t g x) (typing (freshState t g x) [] (standing [] run)) × (lastState (freshState t g x) run ≡ lastState (freshState t g x) (typing (freshState t g x) [] (standing [] run)))
 as-typed-afresh t g x law run r =
-    let S : State = fresh t g x in
+    let S : State = freshState t g x in
     let l : List ℕ = standing [] run in
     let o : Run S (typing S [] l) = typing-run S law [] l (fresh-stands t g x law .session) (standing-allowed [] (text-taken [] (omega arith) refl) run) in
     (o, as-typed t g x law run (typing S [] l) r o (typing-rubs S [] l) (typing-letters S [] l))

@@ -16,12 +16,12 @@ use Rattle.rules.specs.Numbers.{refusalNumber}
 use Rattle.rules.specs.Names.{textRefusal}
 use Rattle.rules.specs.Tables.{Table}
 use Rattle.rules.specs.Indexes.{Index, setLawful, butLast}
-use Rattle.rules.specs.Sessions.{sessionOf, freshSession, lettersOf, LawfulSession, typeRefusal, lettersTyped, rubRefusal, lettersRubbed}
+use Rattle.rules.specs.Sessions.{sessionOf, lettersOf, LawfulSession, typeRefusal, lettersTyped, rubRefusal, lettersRubbed}
 use Rattle.rules.proofs.Bytes.{text-taken}
 use Rattle.rules.proofs.Numbers.{refusal-some}
 use Rattle.session.proofs.Letters.{typed-allowed, rubbed-allowed}
 use Rattle.session.proofs.Texts.{letters-of, session-lawful, fresh-is}
-use Rattle.finder.specs.Runs.{State, Lawful, withSession, Deed, Done, Promises, Promised, Run, lastState, lettersAfter, standing, Meant, Stands, AsMeant, withLetter, lettersIn, withRub, rubsIn, fresh}
+use Rattle.finder.specs.Runs.{State, Lawful, withSession, Deed, Done, Promises, Promised, Run, lastState, lettersAfter, standing, Meant, Stands, AsMeant, withLetter, lettersIn, withRub, rubsIn, freshState}
 
 -- ---- letters alone
 
@@ -115,15 +115,15 @@ last-from S p w [] m = w
 last-from S p w (d ∷ run) m = last-from (d .state) (lettersAfter p (d .deed)) (m .1) run (m .2)
 
 module _ (t : Table) (g : Grid) (x : Index) (law : setLawful t g x ≡ true) where
-  pub fresh-stands : Stands (fresh t g x) []
+  pub fresh-stands : Stands (freshState t g x) []
   fresh-stands = record { lawful = law; session = fresh-is t }
 
   -- from the fresh session
-  pub run-means : (run : List Done) → Run (fresh t g x) run → AsMeant (fresh t g x) [] run
-  run-means run r = run-from (fresh t g x) [] fresh-stands (text-taken [] (omega arith) refl) run r
+  pub run-means : (run : List Done) → Run (freshState t g x) run → AsMeant (freshState t g x) [] run
+  run-means run r = run-from (freshState t g x) [] fresh-stands (text-taken [] (omega arith) refl) run r
 
-  pub run-ends : (run : List Done) → Run (fresh t g x) run → Stands (lastState (fresh t g x) run) (standing [] run)
-  run-ends run r = last-from (fresh t g x) [] fresh-stands run (run-means run r)
+  pub run-ends : (run : List Done) → Run (freshState t g x) run → Stands (lastState (freshState t g x) run) (standing [] run)
+  run-ends run r = last-from (freshState t g x) [] fresh-stands run (run-means run r)
 
 -- ---- only the letters that stand count
 

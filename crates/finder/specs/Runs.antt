@@ -128,8 +128,8 @@ rubsIn (d ∷ run) = withRub (d .deed) (rubsIn run)
 -- ---- typing afresh
 
 -- a set with the fresh session, and a text typed into it, each letter accepted
-abbrev pub fresh : Table → Grid → Index → State
-fresh t g x = record { table = t; grid = g; index = x; session = freshSession }
+abbrev pub freshState : Table → Grid → Index → State
+freshState t g x = record { table = t; grid = g; index = x; session = freshSession }
 
 abbrev pub typing : State → List ℕ → List ℕ → List Done
 typing S p [] = []

@@ -36,8 +36,8 @@ foundIn r found = outcome (foundTold r) (after found ∷ [])
 abbrev pub foundsIn : Found → Lent (List ℕ) → Lent (List ℕ) → Outcome
 foundsIn r found values = outcome (foundTold r) (after found ∷ after values ∷ [])
 
-abbrev pub asked : Place → ℕ → ℕ → Ranking
-asked place weight k = record { place = place; weight = weight; k = k }
+abbrev pub rankingOf : Place → ℕ → ℕ → Ranking
+rankingOf place weight k = record { place = place; weight = weight; k = k }
 
 -- these are the numbers of an answer that keeps a promise
 pub record Tells {Answer Numbers : Type 0} (numbers : Answer → Numbers) (Promise : Answer → Type 0) (told : Numbers) : Type 0 where

@@ -1,4 +1,5 @@
-// The finder for C: each call takes a slice as a pointer and a length, hands on to the finder's own call, and gives its answer as numbers.
+// The finder for C: a slice is a pointer and a length, an answer its numbers. The questions, building and checking hand on to the finder's
+// own calls; the keystrokes and the rest of a name to the steps by value under these, since a lent record is walked by hand.
 // include/krzewido.h says the same to C. Nothing is asked of any argument: what the calls under these promise, these promise of the numbers.
 ghost use mathlib.Core.Path.{_≡_};
 ghost use Rattle.base.specs.Lent.{given, after};
@@ -11,7 +12,7 @@ ghost use Rattle.rules.specs.Sessions.{freshSession};
 ghost use Rattle.rules.specs.Promises.{RangePromise, RankedPromise, TypedRangePromise, TypedRankedPromise};
 ghost use Rattle.index.specs.Promises.{BuildPromise, indexLeft};
 ghost use Rattle.session.specs.Promises.{TypePromise, RubPromise};
-ghost use Rattle.finder_c.specs.Told.{Tells, locatedTold, builtTold, checkedTold, foundTold, foundIn, foundsIn, asked, RestPart};
+ghost use Rattle.finder_c.specs.Told.{Tells, locatedTold, builtTold, checkedTold, foundTold, foundIn, foundsIn, rankingOf, RestPart};
 use finder::Grid;
 use finder::Place;
 use finder::RangeAnswer;
@@ -250,7 +251,7 @@ pub extern "C" fn krz_ranked(
     found: &mut [u32],
     values: &mut [u64],
 ) -> Found
-    ensures { λ r. ⌜ RankedPromise (tableIn text starts east north score) grid (indexIn order nodes entries) (given typed) (asked place weight k) (roomsIn found values) (foundsIn r found values) ⌝ }
+    ensures { λ r. ⌜ RankedPromise (tableIn text starts east north score) grid (indexIn order nodes entries) (given typed) (rankingOf place weight k) (roomsIn found values) (foundsIn r found values) ⌝ }
 {
     Found::of_ranked(finder::ranked(
         text,
@@ -320,7 +321,7 @@ pub extern "C" fn krz_ranked_typed(
     found: &mut [u32],
     values: &mut [u64],
 ) -> Found
-    ensures { λ r. ⌜ TypedRankedPromise (tableIn text starts east north score) grid (indexIn order nodes entries) session (asked place weight k) (roomsIn found values) (foundsIn r found values) ⌝ }
+    ensures { λ r. ⌜ TypedRankedPromise (tableIn text starts east north score) grid (indexIn order nodes entries) session (rankingOf place weight k) (roomsIn found values) (foundsIn r found values) ⌝ }
 {
     Found::of_ranked(finder::ranked_typed(
         text,

@@ -3,9 +3,9 @@
 ghost use mathlib.Core.Path.{_≡_};
 ghost use mathlib.Core.Bool.{true};
 ghost use Prim.Native.Nat.{_+_, _*_, _≤_, _<_};
-ghost use Rattle.rules.specs.Places.{gridLawful, inGrid, lifted};
+ghost use Rattle.rules.specs.Places.{gridLawful, lifted};
 ghost use Rattle.rules.specs.Worth.{apart, squared, distance², diagonal², nearest, nearestIn, regionDistance², valueAt, valueOf, boundOf};
-ghost use Rattle.grid.specs.Weights.{Weighable};
+ghost use Rattle.grid.specs.Weights.{Weighable, BothIn, SeenFrom, Strip};
 use super::metres::apart;
 use super::metres::lift;
 use super::metres::metres_between;
@@ -25,7 +25,7 @@ pub fn diagonal(grid: Grid) -> u64
 
 // The squared distance of two places of the grid.
 pub fn distance(grid: Grid, a: Place, b: Place) -> u64
-    requires { ⌜ (gridLawful grid ≡ true) × (inGrid grid a ≡ true) × (inGrid grid b ≡ true) ⌝ }
+    requires { ⌜ BothIn grid a b ⌝ }
     ensures { λ r. ⌜ r ≡ distance² a b ⌝ }
 {
     squares(
@@ -36,7 +36,7 @@ pub fn distance(grid: Grid, a: Place, b: Place) -> u64
 
 // The squared distance from a place of the grid to the nearest metre of a region's cell.
 pub fn region_distance(grid: Grid, region: u32, place: Place) -> u64
-    requires { ⌜ (gridLawful grid ≡ true) × (inGrid grid place ≡ true) × (region < 64) ⌝ }
+    requires { ⌜ SeenFrom grid region place ⌝ }
     ensures { λ r. ⌜ r ≡ regionDistance² grid region place ⌝ }
 {
     let across = gap(grid.west, grid.cell, region % Grid::SIDE, place.east);
@@ -59,7 +59,7 @@ fn value_at(grid: Grid, weight: u32, score: u32, distance: u64) -> u64
 
 // The value of a stand for one who asks at a place.
 pub fn value(grid: Grid, weight: u32, score: u32, stand: Place, place: Place) -> u64
-    requires { ⌜ (Weighable grid weight score) × (inGrid grid stand ≡ true) × (inGrid grid place ≡ true) ⌝ }
+    requires { ⌜ (Weighable grid weight score) × (BothIn grid stand place) ⌝ }
     ensures { λ r. ⌜ r ≡ valueOf grid weight score stand place ⌝ }
 {
     value_at(grid, weight, score, distance(grid, stand, place))
@@ -67,7 +67,7 @@ pub fn value(grid: Grid, weight: u32, score: u32, stand: Place, place: Place) ->
 
 // The most that a stand of a region, with a score up to this one, is worth there.
 pub fn bound(grid: Grid, weight: u32, score: u32, region: u32, place: Place) -> u64
-    requires { ⌜ (Weighable grid weight score) × (inGrid grid place ≡ true) × (region < 64) ⌝ }
+    requires { ⌜ (Weighable grid weight score) × (SeenFrom grid region place) ⌝ }
     ensures { λ r. ⌜ r ≡ boundOf grid weight score region place ⌝ }
 {
     value_at(grid, weight, score, region_distance(grid, region, place))
@@ -98,7 +98,7 @@ fn nearest(low: u64, cell: u32, x: u64) -> u64
 
 // How far x is from the nearest metre of a column or row.
 fn gap(edge: i32, cell: u32, strip: u32, x: i32) -> u64
-    requires { ⌜ (0 < cell) × (cell ≤ 8192) × (strip < 8) ⌝ }
+    requires { ⌜ Strip cell strip ⌝ }
     ensures { λ r. ⌜ r ≡ apart (nearestIn edge cell strip x) (lifted x) ⌝ }
 {
     let low = lift(edge) + (strip as u64) * (cell as u64);

@@ -5,7 +5,7 @@ use mathlib.Core.List.{List}
 use mathlib.Core.Logic.{⊎-elim}
 use Prim.Native.Nat.{ℕ, zero, suc, _+_, _-_, _≤_, _<_}
 use native.Mathlib.Omega.{arith}
-use lib.ListN.{length, take, drop, getD, length-drop, List·getD-eq-default}
+use lib.ListN.{length, take, drop, getD, List·getD-eq-default}
 use lib.Seq.{length-take-le, getD-take, getD-drop}
 use Rattle.base.specs.Lists.{upTo, each, sharedLength}
 use Rattle.base.proofs.Tests.{le-or-lt}

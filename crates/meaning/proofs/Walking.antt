@@ -58,7 +58,3 @@ module _ (t : Table) where
       let e = number-out p (beginnings t) h in
       let f : ltb (numberIn p (beginnings t)) (length (beginnings t)) ≡ false = le-ltb (numberIn p (beginnings t)) (length (beginnings t)) (omega arith) in
       ap (λ (b : Bool). cond b (numberIn p (beginnings t)) 0) f
-
-  -- past a beginning that is no node there is none
-  pub node-gone : Tree (beginnings t) → (p : List ℕ) (i k : ℕ) → i ≤ k → (In (take i p) (beginnings t) → ⊥) → nodeOr0 t (take k p) ≡ 0
-  node-gone r p i k h n = node-out (take k p) (λ m. n (r .closed (take i p) (take k p) m (rw (take-take i k p h) at (take-begins i (take k p)))))

@@ -156,5 +156,5 @@ pub record Ranks (best l ranked : List ℕ) (held : ℕ) : Type 0 where
   pub size : Sized ranked
 
 -- with one region more in its place
-abbrev pub Settled : List ℕ → List ℕ → ℕ → ℕ → List ℕ → Type 0
-Settled best ranked held r ranked′ = (take (suc held) ranked′ ≡ insertBy (byBest best) r (take held ranked)) × (Sized ranked′)
+abbrev pub RegionSettled : List ℕ → List ℕ → ℕ → ℕ → List ℕ → Type 0
+RegionSettled best ranked held r ranked′ = (take (suc held) ranked′ ≡ insertBy (byBest best) r (take held ranked)) × (Sized ranked′)

@@ -4,11 +4,11 @@ use mathlib.Core.Path.{_≡_, refl, sym, ap, _∙_}
 use mathlib.Core.Logic.{_⊎_, inl, inr, ⊎-elim}
 use mathlib.Core.Bool.{Bool, true, false, cond, _&&_}
 use mathlib.Core.List.{List, [], _∷_}
-use Prim.Native.Nat.{ℕ, zero, suc, _≤_, _<_}
+use Prim.Native.Nat.{ℕ, zero, suc, _≤_}
 use native.Mathlib.Omega.{arith}
 use lib.Dec.{ltb}
 use lib.IntN.{ℤ}
-use lib.ListN.{length, getD, set}
+use lib.ListN.{length, getD}
 use Rattle.base.specs.Lists.{all, keep}
 use Rattle.base.proofs.Members.{set-either, replicate-at}
 use Rattle.rules.specs.declared.Grid.{Grid}
@@ -19,12 +19,11 @@ use Rattle.rules.specs.Outcomes.{Outcome, refused, rangeOutcome, rangeCame}
 use Rattle.rules.specs.Promises.{Harmless}
 use Rattle.grid.specs.declared.cells.Cells.{Cells}
 use Rattle.grid.specs.Cells.{cellsOf, bothCells, regionsIn}
-use Rattle.walk.specs.declared.entry.Entry.{Entry}
 use Rattle.walk.specs.declared.entry.EntryRead.{EntryRead}
 use Rattle.walk.specs.declared.entry.EntryRead.the-variants.{At, Broken}
 use Rattle.walk.specs.Entries.{entryRead}
 use Rattle.walk.proofs.Spelled.{within-facts, read-facts}
-use Rattle.range.specs.Fetches.{Notes, notesOf, noteBy, noteFrom, inside, touched, agree, Ready, unlawful, looked, blank, notesIn, fetchedBy, fetched}
+use Rattle.range.specs.Fetches.{Notes, notesOf, noteBy, noteFrom, inside, touchedStands, agree, Ready, unlawful, looked, blank, notesIn, fetchedBy, fetched}
 
 -- ---- no run that is noted goes past the stands
 
@@ -81,7 +80,7 @@ module _ (east north : List ℤ) (grid : Grid) (order entries : List ℕ) (cells
       notes-break a u w = sym (by-notes ∙ rw (w, u))
 
       pub all-answers : whole ≡ true → (touching wanted : Cells) → touching ≡ cellsOf grid rect → wanted ≡ bothCells cells touching
-          → (o : Outcome) → o ≡ looked east north rect (touched order firsts pasts (regionsIn wanted)) room → o ≡ fetched east north grid order entries cells first rect room
+          → (o : Outcome) → o ≡ looked east north rect (touchedStands order firsts pasts (regionsIn wanted)) room → o ≡ fetched east north grid order entries cells first rect room
       all-answers w touching wanted t u o f = f ∙ sym (by-notes ∙ rw (w, ← t, ← u))
 
   -- ---- harmless on any words
@@ -94,7 +93,7 @@ module _ (east north : List ℤ) (grid : Grid) (order entries : List ℕ) (cells
       → Harmless (λ l. rangeOutcome 0 l (room ∷ [])) (room ∷ []) (fetchedBy (notesOf (notes .firsts) (notes .pasts) whole) east north order wanted rect room)
   unfolding looked
   harmless-noted notes true wanted =
-      let seen = touched order (notes .firsts) (notes .pasts) wanted in
+      let seen = touchedStands order (notes .firsts) (notes .pasts) wanted in
       harmless-by (all (λ s. ltb s (length east)) seen) (keep (inside east north rect) seen)
   harmless-noted notes false wanted = inl refl
 

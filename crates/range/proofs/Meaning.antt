@@ -6,7 +6,6 @@ use mathlib.Core.Bool.{Bool, true, false}
 use mathlib.Core.List.{List, [], _∷_}
 use Prim.Native.Nat.{ℕ, _≤_, _<_}
 use native.Mathlib.Omega.{arith}
-use lib.Dec.{ltb}
 use lib.ListN.{length, getD, drop, length-replicate}
 use lib.Seq.{slice}
 use borrow.Author.Tests.{eqb-true, le-leb}
@@ -36,7 +35,7 @@ use Rattle.meaning.proofs.Entries.{entries-mean, entry-own, entry-there}
 use Rattle.walk.specs.declared.entry.Entry.{Entry}
 use Rattle.walk.specs.Entries.{asRead}
 use Rattle.walk.proofs.Listed.{Lists}
-use Rattle.range.specs.Fetches.{notesOf, runOf, touched, agree, looked, blank, notesIn, fetched}
+use Rattle.range.specs.Fetches.{notesOf, runOf, touchedStands, agree, looked, blank, notesIn, fetched}
 use Rattle.range.proofs.Gathers.{known, known-of}
 use Rattle.range.proofs.Noted.{putAll, note-list, put-at}
 
@@ -131,7 +130,7 @@ module _ (t : Table) (g : Grid) (x : Index) (s : SetParts t g x) (p : List ℕ) 
     abbrev seen : List ℕ
     seen = eachList standsOf looked-at
 
-    seen-are : touched (x .order) firsts pasts looked-at ≡ seen
+    seen-are : touchedStands (x .order) firsts pasts looked-at ≡ seen
     seen-are = eachList-same (runOf (x .order) firsts pasts) standsOf looked-at (λ r h. run-is r (keep-in (hasCell (cellsOf g rect)) (regionsUnder t g p) r h .0))
 
     -- each is of the table

@@ -12,7 +12,7 @@ use borrow.Author.Tests.{eqb-true, eqb-false}
 use Rattle.base.specs.Lists.{each, In}
 use Rattle.base.proofs.Tests.{which}
 use Rattle.walk.specs.declared.entry.Entry.{Entry}
-use Rattle.walk.specs.Entries.{Spelled}
+use Rattle.walk.specs.Entries.{SpelledFrom}
 use Rattle.range.specs.Fetches.{notesOf, noteFrom}
 
 -- for each entry in turn a place of it, put at its region
@@ -20,7 +20,7 @@ abbrev pub putAll : (Entry → ℕ) → List Entry → List ℕ → List ℕ
 putAll place [] l = l
 putAll place (x ∷ es) l = putAll place es (set l (x .region) (place x))
 
-pub note-list : (words : List ℕ) (stands : ℕ) (es : List Entry) (e : ℕ) (firsts pasts : List ℕ) → Spelled words stands e es
+pub note-list : (words : List ℕ) (stands : ℕ) (es : List Entry) (e : ℕ) (firsts pasts : List ℕ) → SpelledFrom words stands e es
     → noteFrom words stands (length es) e firsts pasts ≡ notesOf (putAll (λ x. x .first .0) es firsts) (putAll (λ x. x .past .0) es pasts) true
 unfolding noteFrom
 note-list words stands [] e firsts pasts w = refl

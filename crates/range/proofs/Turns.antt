@@ -8,7 +8,7 @@ use native.Mathlib.Numerals.{add-one}
 use lib.IntN.{ℤ}
 use lib.ListN.{length, getD, set, take, drop, length-set, length-take, length-drop, drop-of-length-le}
 use lib.Seq.{slice, slice-cons}
-use Rattle.base.specs.Lists.{isEmpty, firstOf, keep}
+use Rattle.base.specs.Lists.{isEmpty, firstOf}
 use borrow.Author.Tests.{leb-true}
 use Rattle.base.proofs.Tests.{every-at}
 use Rattle.base.proofs.Members.{first-rest, empty-of, length-keep}
@@ -17,7 +17,7 @@ use Rattle.walk.specs.declared.entry.Entry.{Entry}
 use Rattle.walk.specs.declared.entry.EntryRead.the-variants as entry
 use Rattle.walk.specs.Entries.{entryRead}
 use Rattle.range.specs.declared.gather.Tally.the-variants.{Count, Broken}
-use Rattle.range.specs.Fetches.{notesOf, noteFrom, inside, Gathered, tallied, gathered, runOf, touched, agree, Ready, Run}
+use Rattle.range.specs.Fetches.{notesOf, noteFrom, inside, Gathered, tallied, gathered, runOf, touchedStands, agree, Ready, RunFits}
 use Rattle.range.proofs.Gathers.{stand-off, stand-in, stand-out, walk-on, walk-breaks, walk-size, walk-counts}
 
 -- ---- note: at entry e, which is left entries short of the end
@@ -129,7 +129,7 @@ pub record Sweeping (east north : List ℤ) (order firsts pasts : List ℕ) (rec
   pub ready : Ready east north order pasts
   pub few : n + 1024 * length left ≤ 65536
   pub size : length found ≡ length found₀
-  pub same : gathered east north rect found₀ 0 (touched order firsts pasts regions) ≡ gathered east north rect found n (touched order firsts pasts left)
+  pub same : gathered east north rect found₀ 0 (touchedStands order firsts pasts regions) ≡ gathered east north rect found n (touchedStands order firsts pasts left)
 
 module _ (east north : List ℤ) (order firsts pasts : List ℕ) (rect : Rect) (regions found₀ : List ℕ) where
   pub sweep-begins : Ready east north order pasts → length regions ≤ 64 → Sweeping east north order firsts pasts rect regions found₀ found₀ 0 regions
@@ -137,11 +137,11 @@ module _ (east north : List ℤ) (order firsts pasts : List ℕ) (rect : Rect) (
 
   module _ (found : List ℕ) (n : ℕ) (left : List ℕ) (w : Sweeping east north order firsts pasts rect regions found₀ found n left) where
     module _ (some : isEmpty left ≡ false) (r : ℕ) (least : r ≡ firstOf left) where
-      here-and-later : touched order firsts pasts left ≡ runOf order firsts pasts r ++ touched order firsts pasts (drop 1 left)
-      here-and-later = rw least (ap (touched order firsts pasts) (first-rest left some .0))
+      here-and-later : touchedStands order firsts pasts left ≡ runOf order firsts pasts r ++ touchedStands order firsts pasts (drop 1 left)
+      here-and-later = rw least (ap (touchedStands order firsts pasts) (first-rest left some .0))
 
       -- what the run's walk asks for
-      pub sweep-room : Run east north order (getD pasts r 0) n
+      pub sweep-room : RunFits east north order (getD pasts r 0) n
       sweep-room =
           let a = w .ready .agreed in
           let e = w .ready .ends r in
@@ -162,14 +162,14 @@ module _ (east north : List ℤ) (order firsts pasts : List ℕ) (rect : Rect) (
             ready = w .ready;
             few = omega (arith, w .few, ap length (first-rest left some .0));
             size = ap (λ (g : Gathered). length (g .room)) e ∙ walk-size east north rect run found n ∙ w .size;
-            same = w .same ∙ ap (gathered east north rect found n) here-and-later ∙ walk-on east north rect run (touched order firsts pasts (drop 1 left)) found found′ n m e;
+            same = w .same ∙ ap (gathered east north rect found n) here-and-later ∙ walk-on east north rect run (touchedStands order firsts pasts (drop 1 left)) found found′ n m e;
           })
 
       pub sweep-breaks : (found′ : List ℕ) → tallied Broken found′ ≡ gathered east north rect found n (runOf order firsts pasts r)
-          → tallied Broken found′ ≡ gathered east north rect found₀ 0 (touched order firsts pasts regions)
+          → tallied Broken found′ ≡ gathered east north rect found₀ 0 (touchedStands order firsts pasts regions)
       sweep-breaks found′ e =
-          sym (w .same ∙ ap (gathered east north rect found n) here-and-later ∙ walk-breaks east north rect (runOf order firsts pasts r) (touched order firsts pasts (drop 1 left)) found found′ n e)
+          sym (w .same ∙ ap (gathered east north rect found n) here-and-later ∙ walk-breaks east north rect (runOf order firsts pasts r) (touchedStands order firsts pasts (drop 1 left)) found found′ n e)
 
-    pub sweep-ends : isEmpty left ≡ true → tallied (Count n) found ≡ gathered east north rect found₀ 0 (touched order firsts pasts regions)
+    pub sweep-ends : isEmpty left ≡ true → tallied (Count n) found ≡ gathered east north rect found₀ 0 (touchedStands order firsts pasts regions)
     unfolding gathered
-    sweep-ends none = sym (w .same ∙ ap (λ (l : List ℕ). gathered east north rect found n (touched order firsts pasts l)) (empty-of left (ap not none)))
+    sweep-ends none = sym (w .same ∙ ap (λ (l : List ℕ). gathered east north rect found n (touchedStands order firsts pasts l)) (empty-of left (ap not none)))

@@ -71,8 +71,8 @@ gathered east north rect room n (s ∷ l) =
 abbrev pub runOf : List ℕ → List ℕ → List ℕ → ℕ → List ℕ
 runOf order firsts pasts r = slice (getD firsts r 0) (getD pasts r 0) order
 
-abbrev pub touched : List ℕ → List ℕ → List ℕ → List ℕ → List ℕ
-touched order firsts pasts regions = eachList (runOf order firsts pasts) regions
+abbrev pub touchedStands : List ℕ → List ℕ → List ℕ → List ℕ → List ℕ
+touchedStands order firsts pasts regions = eachList (runOf order firsts pasts) regions
 
 -- ---- the answer
 
@@ -85,7 +85,7 @@ pub record Ready (east north : List ℤ) (order pasts : List ℕ) : Type 0 where
   pub ends : (r : ℕ) → getD pasts r 0 ≤ length east
 
 -- what the walk through one run asks for, behind as many as were found before
-pub record Run (east north : List ℤ) (order : List ℕ) (past before : ℕ) : Type 0 where
+pub record RunFits (east north : List ℤ) (order : List ℕ) (past before : ℕ) : Type 0 where
   pub placed : length east ≤ length north
   pub within : past ≤ length order
   pub few : before + past < 4294967296
@@ -108,7 +108,7 @@ notesIn entries stands cells first = noteFrom entries stands (length (regionsIn 
 -- by the notes: of the regions that the rectangle touches every stand is looked at
 abbrev pub fetchedBy : Notes → List ℤ → List ℤ → List ℕ → List ℕ → Rect → List ℕ → Outcome
 fetchedBy notes east north order wanted rect room =
-    cond (notes .whole) (looked east north rect (touched order (notes .firsts) (notes .pasts) wanted) room) (refused 7 (room ∷ []))
+    cond (notes .whole) (looked east north rect (touchedStands order (notes .firsts) (notes .pasts) wanted) room) (refused 7 (room ∷ []))
 
 unfoldable pub fetched : List ℤ → List ℤ → Grid → List ℕ → List ℕ → Cells → ℕ → Rect → List ℕ → Outcome
 fetched east north grid order entries cells first rect room =

@@ -7,7 +7,7 @@ ghost use lib.Seq.{slice};
 ghost use Rattle.base.specs.Lent.{given, after};
 ghost use Rattle.base.specs.Lists.{written};
 ghost use Rattle.grid.specs.Cells.{regionsIn};
-ghost use Rattle.range.specs.Fetches.{tallied, gathered, touched, Run, Ready};
+ghost use Rattle.range.specs.Fetches.{tallied, gathered, touchedStands, RunFits, Ready};
 use crate::runs::Places;
 use grid::cells::Cells;
 use grid::in_rect;
@@ -59,7 +59,7 @@ fn gather_run(
     found: &mut [u32],
     before: u32,
 ) -> Tally
-    requires { ⌜ Run (now east) (now north) (now order) (past .0) before ⌝ }
+    requires { ⌜ RunFits (now east) (now north) (now order) (past .0) before ⌝ }
     ensures { λ r. ⌜ tallied r (after found) ≡ gathered (given east) (given north) rect (given found) before (slice (first .0) (past .0) (given order)) ⌝ }
 {
     let end = past.0 as usize;
@@ -96,7 +96,7 @@ pub(crate) fn gather(
     found: &mut [u32],
 ) -> Tally
     requires { ⌜ Ready (now east) (now north) (now order) (now pasts) ⌝ }
-    ensures { λ r. ⌜ tallied r (after found) ≡ gathered (given east) (given north) rect (given found) 0 (touched (given order) (given firsts) (given pasts) (regionsIn regions)) ⌝ }
+    ensures { λ r. ⌜ tallied r (after found) ≡ gathered (given east) (given north) rect (given found) 0 (touchedStands (given order) (given firsts) (given pasts) (regionsIn regions)) ⌝ }
 {
     let mut n = 0;
     let mut left = regions;

@@ -8,7 +8,7 @@ ghost use Rattle.rules.specs.Outcomes.{roomIn, rangeCameIn};
 ghost use Rattle.rules.specs.Indexes.{indexIn};
 ghost use Rattle.rules.specs.Promises.{RangePromise};
 ghost use Rattle.range.specs.Promises.{RangeFrom};
-ghost use Rattle.range.specs.Fetches.{agree, unlawful, touched, Ready, looked, fetched};
+ghost use Rattle.range.specs.Fetches.{agree, unlawful, touchedStands, Ready, looked, fetched};
 
 mod gather;
 mod runs;
@@ -67,7 +67,7 @@ fn fill(
     found: &mut [u32],
 ) -> RangeAnswer
     requires { ⌜ Ready (now east) (now north) (now order) (now pasts) ⌝ }
-    ensures { λ r. ⌜ rangeCameIn r found ≡ looked (given east) (given north) rect (touched (given order) (given firsts) (given pasts) (regionsIn regions)) (given found) ⌝ }
+    ensures { λ r. ⌜ rangeCameIn r found ≡ looked (given east) (given north) rect (touchedStands (given order) (given firsts) (given pasts) (regionsIn regions)) (given found) ⌝ }
 {
     let mut near = [0u32; NEAR];
     let Tally::Count(matches) = gather(east, north, order, regions, firsts, pasts, rect, &mut near)

@@ -17,7 +17,7 @@ use Rattle.base.proofs.Shuffles.{shuffle-sym, middle, swap-parts}
 use Rattle.rules.specs.declared.Grid.{Grid}
 use Rattle.rules.specs.declared.Ranking.{Ranking}
 use Rattle.walk.specs.declared.entry.Entry.{Entry}
-use Rattle.walk.specs.Entries.{Spelled}
+use Rattle.walk.specs.Entries.{SpelledFrom}
 use Rattle.best.specs.Keys.{keyOf}
 use Rattle.best.specs.Holds.{bestOf}
 use Rattle.best.proofs.Streams.{one-more, in-any-order, passed-over}
@@ -83,7 +83,7 @@ module _ (c : StandColumns) (g : Grid) (q : Ranking) where
         step (inr e) = rw e (ap (λ (l : List ℕ). standsOffered c g q l held) (w .listed) ∙ offers-best stands seen (w .readable))
 
     -- the entries es stand in the words from number n on
-    pub entries-best : (entries : List ℕ) (stands : Entry → List ℕ) (es : List Entry) (n : ℕ) (seen : List ℕ) → Spelled entries (length order) n es
+    pub entries-best : (entries : List ℕ) (stands : Entry → List ℕ) (es : List Entry) (n : ℕ) (seen : List ℕ) → SpelledFrom entries (length order) n es
         → ((x : Entry) → In x es → Sound c g q order (stands x) x)
         → entriesTaken c g q order entries (length es) n (bestOf (q .k) seen) ≡ keys (bestOf (q .k) (each (keyIn c g q) (eachList stands es) ++ seen))
     unfolding entriesTaken

@@ -7,7 +7,7 @@ ghost use Rattle.rules.specs.Questions.{rankingLawful};
 ghost use Rattle.rules.specs.Outcomes.{roomsIn, rankedCameIn};
 ghost use Rattle.rules.specs.Indexes.{indexIn};
 ghost use Rattle.rules.specs.Promises.{RankedPromise};
-ghost use Rattle.search.specs.Searches.{columnsIn};
+ghost use Rattle.search.specs.Searches.{standColumnsIn};
 ghost use Rattle.ranked.specs.Promises.{RankedFrom};
 use rules::Grid;
 use rules::RankedAnswer;
@@ -48,7 +48,7 @@ pub fn ranked_from(
     found: &mut [u32],
     values: &mut [u64],
 ) -> RankedAnswer
-    ensures { λ r. ⌜ RankedFrom (columnsIn east north score) grid (given order) (given entries) at asked (roomsIn found values) (rankedCameIn r found values) ⌝ }
+    ensures { λ r. ⌜ RankedFrom (standColumnsIn east north score) grid (given order) (given entries) at asked (roomsIn found values) (rankedCameIn r found values) ⌝ }
 {
     if !rankable(grid, asked) {
         return RankedAnswer::Refused(Refusal::QuestionOutsideLimits);

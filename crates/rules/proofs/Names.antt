@@ -1,13 +1,13 @@
 -- Beginnings, and so sessions, depend on the names of a table alone: not on places and scores.
 -- Assumes nothing.
-use mathlib.Core.Path.{_≡_, sym, ap, ap₂, _∙_}
+use mathlib.Core.Path.{_≡_, ap, ap₂, _∙_}
 use mathlib.Core.Bool.{cond, not}
 use mathlib.Core.List.{List, [], _∷_, _++_}
 use Prim.Native.Nat.{ℕ, zero, suc, _-_, _<_}
 use native.Mathlib.Omega.{arith}
 use lib.Dec.{leb, ltb}
 use lib.ListN.{length, take, replicate}
-use Rattle.base.specs.Lists.{In, upTo, each, eachList, keep, begins}
+use Rattle.base.specs.Lists.{upTo, each, eachList, keep, begins}
 use Rattle.base.proofs.Members.{eachList-same}
 use Rattle.base.proofs.Runs.{in-from}
 use Rattle.rules.specs.declared.Session.{Session}

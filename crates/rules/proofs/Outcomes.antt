@@ -1,9 +1,9 @@
 -- What is settled of a question: a refusal whatever the list, never 7, and one outcome where the promise's ground holds.
 -- Assumes nothing.
 use mathlib.Core.Path.{_≡_, refl, sym, ap, _∙_}
-use mathlib.Core.Logic.{_⊎_, inl, inr}
+use mathlib.Core.Logic.{inr}
 use mathlib.Core.Bool.{Bool, true, false, not, cond}
-use mathlib.Core.List.{List, [], _∷_}
+use mathlib.Core.List.{List, []}
 use Prim.Native.Nat.{ℕ, zero, suc}
 use native.Mathlib.Omega.{arith}
 use lib.Dec.{ltb}
@@ -21,7 +21,7 @@ use Rattle.rules.specs.Places.{rectLawful}
 use Rattle.rules.specs.Tables.{Table}
 use Rattle.rules.specs.Questions.{rangeList, ranking, rankingLawful, rangeRefusal, rankedRefusal}
 use Rattle.rules.specs.Outcomes.{Outcome, outcome, refused, filled, roomFor, settled, rangeOutcome, rankedOutcome, rangeCame, rankedCame}
-use Rattle.rules.specs.Promises.{Harmless, Kept, RangeKept, RankedKept}
+use Rattle.rules.specs.Promises.{Kept, RangeKept, RankedKept}
 use Rattle.rules.proofs.Numbers.{one-range, one-ranked}
 
 -- ---- a refusal

@@ -1,5 +1,5 @@
 // What the finder's calls are given and what they answer: places, numberings, questions, the session, refusals.
-// Each limit stands here once, at the type that it belongs to. What the rules are is said in specs/.
+// Code reads a limit here, at the type that it belongs to; specs/ has the rules, with their numbers written out.
 ghost use mathlib.Core.Path.{_≡_};
 ghost use Rattle.rules.specs.Numbers.{refusalNumber, verdictNumber};
 ghost use Rattle.rules.specs.Sessions.{freshSession};

@@ -130,7 +130,7 @@ fn print_index(
     let mut order = [0u32; STANDS];
     let mut nodes = [0u32; NODES];
     let mut entries = [0u32; ENTRIES];
-    let answer = index::build(
+    let answer = finder::build(
         text,
         starts,
         east,

@@ -15,7 +15,7 @@ use Rattle.best.specs.Keys.{keyOf, larger}
 use Rattle.best.specs.Holds.{Offered}
 use Rattle.search.specs.declared.Kept.{Kept}
 use Rattle.search.specs.declared.Kept.the-variants as kept
-use Rattle.search.specs.Searches.{StandColumns, Searching, Run, Search, keys, andThen, readableStand, hitIn, standOffered, standsOffered, Keeps}
+use Rattle.search.specs.Searches.{StandColumns, Searching, RunHeld, Search, keys, andThen, readableStand, hitIn, standOffered, standsOffered, Keeps}
 use Rattle.search.proofs.Keeping.{held-is, broken-is}
 
 module _ (c : StandColumns) (g : Grid) (q : Ranking) where
@@ -35,7 +35,7 @@ module _ (c : StandColumns) (g : Grid) (q : Ranking) where
 -- at place i of the order with n held, short of the place past
 pub record Offering (c : StandColumns) (g : Grid) (q : Ranking) (order : List ℕ) (past : ℕ) (whole : Search) (room : List ℕ) (n i : ℕ) : Type 0 where
   pub searching : Searching g q room n
-  pub run : Run order i past
+  pub run : RunHeld order i past
   pub rest : standsOffered c g q (slice i past order) (take n room) ≡ whole
 
 module _ (c : StandColumns) (g : Grid) (q : Ranking) (order : List ℕ) (past : ℕ) (whole : Search) (room : List ℕ) (n i : ℕ) (w : Offering c g q order past whole room n i) where

@@ -23,7 +23,7 @@ use Rattle.grid.specs.Cells.{regionsIn}
 use Rattle.walk.specs.declared.entry.Entry.{Entry}
 use Rattle.walk.specs.declared.entry.EntryRead.{EntryRead}
 use Rattle.walk.specs.declared.entry.EntryRead.the-variants as read
-use Rattle.walk.specs.Entries.{within, entryRead}
+use Rattle.walk.specs.Entries.{entryWithin, entryRead}
 use Rattle.best.specs.Keys.{keyOf, valueIn, standIn, hitOfKey, larger}
 use Rattle.best.specs.Holds.{Holds}
 use Rattle.search.specs.declared.Kept.{Kept}
@@ -54,8 +54,8 @@ pub record StandColumns : Type 0 where
 abbrev pub standColumns : List ℤ → List ℤ → List ℕ → StandColumns
 standColumns east north score = record { east = east; north = north; score = score }
 
-abbrev pub columnsIn : Lent (List ℤ) → Lent (List ℤ) → Lent (List ℕ) → StandColumns
-columnsIn east north score = standColumns (given east) (given north) (given score)
+abbrev pub standColumnsIn : Lent (List ℤ) → Lent (List ℤ) → Lent (List ℕ) → StandColumns
+standColumnsIn east north score = standColumns (given east) (given north) (given score)
 
 -- what a search has come to
 pub data Search : Type 0 where
@@ -90,7 +90,7 @@ standsOffered c g q [] held = keys held
 standsOffered c g q (s ∷ ss) held = andThen (standOffered c g q s held) (λ more. standsOffered c g q ss more)
 
 -- from one place of the order on, short of another
-pub record Run (order : List ℕ) (first past : ℕ) : Type 0 where
+pub record RunHeld (order : List ℕ) (first past : ℕ) : Type 0 where
   pub forward : first ≤ past
   pub inside : past ≤ length order
 
@@ -101,7 +101,7 @@ unfoldable pub usable : List ℕ → Entry → Bool
 usable order x = every (leb (x .score) 1000 ∷ ltb (x .first .0) (x .past .0) ∷ ltb (getD order (x .first .0) 0) 1024 ∷ [])
 
 pub record MayTake (order : List ℕ) (x : Entry) : Type 0 where
-  pub inside : within (length order) x ≡ true
+  pub inside : entryWithin (length order) x ≡ true
   pub sound : usable order x ≡ true
 
 -- a stand with an entry's bound for its value and the entry's first number

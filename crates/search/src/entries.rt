@@ -5,9 +5,9 @@ ghost use mathlib.Core.Bool.{true};
 ghost use mathlib.Core.List.{[]};
 ghost use lib.ListN.{length, take};
 ghost use Rattle.base.specs.Lent.{given, after};
-ghost use Rattle.walk.specs.Entries.{within};
+ghost use Rattle.walk.specs.Entries.{entryWithin};
 ghost use Rattle.best.specs.Holds.{Holds};
-ghost use Rattle.search.specs.Searches.{columnsIn, Asks, Searching, usable, MayTake, passedOver, entryTaken, entriesTaken, Keeps};
+ghost use Rattle.search.specs.Searches.{standColumnsIn, Asks, Searching, usable, MayTake, passedOver, entryTaken, entriesTaken, Keeps};
 use super::Kept;
 use crate::stands::offer_places;
 use best::Held;
@@ -22,7 +22,7 @@ use walk::entry::entry_at;
 
 // Whether an entry can be gone by: a score in its limits, some place, a first stand that a key has room for.
 fn usable(order: &[u32], entry: Entry) -> bool
-    requires { ⌜ within (length (now order)) entry ≡ true ⌝ }
+    requires { ⌜ entryWithin (length (now order)) entry ≡ true ⌝ }
     ensures { λ r. ⌜ r ≡ usable (given order) entry ⌝ }
 {
     if Stand::SCORE_MOST < entry.score {
@@ -58,7 +58,7 @@ fn take_entry(
     len: usize,
 ) -> Kept
     requires { ⌜ Searching grid asked (now held) len × MayTake (now order) entry ⌝ }
-    ensures { λ r. ⌜ Keeps (entryTaken (columnsIn east north score) grid asked (given order) entry (take len (given held))) (asked .k) (after held) r ⌝ }
+    ensures { λ r. ⌜ Keeps (entryTaken (standColumnsIn east north score) grid asked (given order) entry (take len (given held))) (asked .k) (after held) r ⌝ }
 {
     let most = bound(grid, asked.weight, entry.score, entry.region, asked.place);
     let first = entry.first.0 as usize;
@@ -95,7 +95,7 @@ pub(crate) fn take_entries(
     held: &mut Held,
 ) -> Kept
     requires { ⌜ (Asks grid asked) × (length (now held) ≡ 16) ⌝ }
-    ensures { λ r. ⌜ Keeps (entriesTaken (columnsIn east north score) grid asked (given order) (given entries) count from []) (asked .k) (after held) r ⌝ }
+    ensures { λ r. ⌜ Keeps (entriesTaken (standColumnsIn east north score) grid asked (given order) (given entries) count from []) (asked .k) (after held) r ⌝ }
 {
     let mut len = 0;
     let mut left = count;

@@ -5,7 +5,7 @@ ghost use mathlib.Core.List.{[], _∷_};
 ghost use lib.ListN.{take};
 ghost use Rattle.base.specs.Lent.{given, after};
 ghost use Rattle.rules.specs.Outcomes.{rankedCame};
-ghost use Rattle.search.specs.Searches.{columnsIn, Searchable, Writable, Written, BestListed};
+ghost use Rattle.search.specs.Searches.{standColumnsIn, Searchable, Writable, Written, BestListed};
 
 mod entries;
 mod stands;
@@ -56,7 +56,7 @@ pub fn best_listed(
     values: &mut [u64],
 ) -> RankedAnswer
     requires { ⌜ Searchable grid asked (now found) (now values) ⌝ }
-    ensures { λ r. ⌜ BestListed (columnsIn east north score) grid asked (given order) (given entries) regions first (given found ∷ given values ∷ []) (rankedCame r (after found) (after values)) ⌝ }
+    ensures { λ r. ⌜ BestListed (standColumnsIn east north score) grid asked (given order) (given entries) regions first (given found ∷ given values ∷ []) (rankedCame r (after found) (after values)) ⌝ }
 {
     let mut held: Held = [0; Ranking::K_MOST as usize];
     match take_entries(

@@ -3,7 +3,7 @@ ghost use mathlib.Core.Path.{_≡_};
 ghost use lib.ListN.{take};
 ghost use lib.Seq.{slice};
 ghost use Rattle.base.specs.Lent.{given, after};
-ghost use Rattle.search.specs.Searches.{columnsIn, Searching, Run, readableStand, standOffered, standsOffered, Keeps};
+ghost use Rattle.search.specs.Searches.{standColumnsIn, Searching, RunHeld, readableStand, standOffered, standsOffered, Keeps};
 use super::Kept;
 use best::Held;
 use best::key_of;
@@ -17,7 +17,7 @@ use rules::Stand;
 
 // Whether a stand can be reckoned with: a number that a key has room for, a place of the grid, a score in its limits.
 fn readable_stand(east: &[i32], north: &[i32], score: &[u32], grid: Grid, s: usize) -> bool
-    ensures { λ r. ⌜ r ≡ readableStand (columnsIn east north score) grid s ⌝ }
+    ensures { λ r. ⌜ r ≡ readableStand (standColumnsIn east north score) grid s ⌝ }
 {
     if Stand::MOST <= s {
         return false;
@@ -55,7 +55,7 @@ fn offer_stand(
     len: usize,
 ) -> Kept
     requires { ⌜ Searching grid asked (now held) len ⌝ }
-    ensures { λ r. ⌜ Keeps (standOffered (columnsIn east north score) grid asked (stand .0) (take len (given held))) (asked .k) (after held) r ⌝ }
+    ensures { λ r. ⌜ Keeps (standOffered (standColumnsIn east north score) grid asked (stand .0) (take len (given held))) (asked .k) (after held) r ⌝ }
 {
     let s = stand.0 as usize;
     if !readable_stand(east, north, score, grid, s) {
@@ -83,8 +83,8 @@ pub(crate) fn offer_places(
     held: &mut Held,
     len: usize,
 ) -> Kept
-    requires { ⌜ Searching grid asked (now held) len × Run (now order) (first .0) (past .0) ⌝ }
-    ensures { λ r. ⌜ Keeps (standsOffered (columnsIn east north score) grid asked (slice (first .0) (past .0) (given order)) (take len (given held))) (asked .k) (after held) r ⌝ }
+    requires { ⌜ Searching grid asked (now held) len × RunHeld (now order) (first .0) (past .0) ⌝ }
+    ensures { λ r. ⌜ Keeps (standsOffered (standColumnsIn east north score) grid asked (slice (first .0) (past .0) (given order)) (take len (given held))) (asked .k) (after held) r ⌝ }
 {
     let mut n = len;
     let mut i = first.0 as usize;

@@ -51,9 +51,6 @@ rubbed-allowed p e =
     text-taken (butLast p) (simp length-take (omega arith))
     (all-left allowed (butLast p) (drop (length p - 1) p) (ap (all allowed) (take-append-drop (length p - 1) p) ∙ k .1))
 
-pub rubbed-typed : (p : List ℕ) (b : ℕ) → butLast (p ++ (b ∷ [])) ≡ p
-rubbed-typed p b = take-at p (b ∷ []) (length (p ++ (b ∷ [])) - 1) (simp length-append (omega arith))
-
 -- the numbers are the rules' own: 7 is none of them
 pub type-not-seven : (p : List ℕ) (b : ℕ) → typeRefusal p b ≡ 7 → ⊥
 unfolding typeRefusal

@@ -17,7 +17,7 @@ use Rattle.walk.specs.declared.Child.the-variants.{At, Nowhere, Broken}
 use Rattle.walk.specs.Walks.{node, childIn}
 use Rattle.session.specs.declared.Led.{Led}
 use Rattle.session.specs.declared.Led.the-variants.{To, Refused}
-use Rattle.session.specs.Strokes.{passed, refused, lost, nextOn, shortened, ledTo, ledOn, struck, arrived, typedOn, rubbedOut, reached}
+use Rattle.session.specs.Strokes.{passed, refusedStroke, lost, nextOn, shortened, ledTo, ledOn, struck, arrived, typedOn, rubbedOut, reached}
 
 -- ---- where the letters led, and where one more leads
 
@@ -102,14 +102,14 @@ module _ (nodes : List ℕ) (s : Session) (b : ℕ) where
   typed-on : typedOn nodes s b ≡ struck s b (ledOn nodes (s .len) (getD (s .path) (s .len) 0) b)
   typed-on = typed-led _ (λ f. refl)
 
-  pub typed-over : 24 < s .len → typedOn nodes s b ≡ refused NotLawful s
+  pub typed-over : 24 < s .len → typedOn nodes s b ≡ refusedStroke NotLawful s
   typed-over h = typed-on ∙ ap (struck s b) (led-over nodes (s .len) _ b h)
 
-  pub typed-full : s .len ≡ 24 → typedOn nodes s b ≡ refused TextTooLong s
+  pub typed-full : s .len ≡ 24 → typedOn nodes s b ≡ refusedStroke TextTooLong s
   typed-full h = typed-on ∙ ap (struck s b) (led-full nodes (s .len) _ b h)
 
   module _ (room : s .len < 24) where
-    pub typed-unallowed : allowed b ≡ false → typedOn nodes s b ≡ refused TextByteNotAllowed s
+    pub typed-unallowed : allowed b ≡ false → typedOn nodes s b ≡ refusedStroke TextByteNotAllowed s
     typed-unallowed h = typed-on ∙ ap (struck s b) (led-unallowed nodes (s .len) _ b room h)
 
     pub typed-arrived : allowed b ≡ true → typedOn nodes s b ≡ arrived s b (nextOn nodes (s .len) (getD (s .path) (s .len) 0) b)
@@ -118,11 +118,11 @@ module _ (nodes : List ℕ) (s : Session) (b : ℕ) where
 -- ---- rubbing out
 
 module _ (s : Session) where
-  pub rubbed-over : 24 < s .len → rubbedOut s ≡ refused NotLawful s
+  pub rubbed-over : 24 < s .len → rubbedOut s ≡ refusedStroke NotLawful s
   unfolding rubbedOut
   rubbed-over h = rw (lt-ltb 24 (s .len) h)
 
-  pub rubbed-none : s .len ≡ 0 → rubbedOut s ≡ refused NothingToRubOut s
+  pub rubbed-none : s .len ≡ 0 → rubbedOut s ≡ refusedStroke NothingToRubOut s
   unfolding rubbedOut
   rubbed-none h = rw (le-ltb 24 (s .len) (omega arith), eq-eqb (s .len) 0 h)
 

@@ -14,13 +14,13 @@ use Rattle.base.proofs.Tests.{le-or-lt}
 use Rattle.base.proofs.Members.{length-each}
 use Rattle.base.proofs.Runs.{length-from, getD-each-from, each-constant, set-each}
 use Rattle.rules.specs.declared.Session.{Session}
-use Rattle.rules.specs.Tables.{Table, Ordered}
+use Rattle.rules.specs.Tables.{Table}
 use Rattle.rules.specs.Names.{textRefusal}
 use Rattle.rules.specs.Indexes.{beginnings, butLast}
 use Rattle.rules.specs.Sessions.{nodeOr0, pathAt, sessionOf, freshSession, lettersOf, LawfulSession}
 use Rattle.meaning.proofs.Tree.{number-in}
-use Rattle.meaning.proofs.Tables.{root-first, beginnings-tree}
-use Rattle.meaning.proofs.Walking.{node-in, node-gone}
+use Rattle.meaning.proofs.Tables.{root-first}
+use Rattle.meaning.proofs.Walking.{node-in}
 use Rattle.session.specs.Strokes.{lengthened, shortened}
 
 -- ---- a text with zeros behind it, in n places
@@ -78,16 +78,6 @@ module _ (t : Table) (p : List ℕ) where
   pub path-last : length p ≤ 24 → getD (sessionOf t p .path) (sessionOf t p .len) 0 ≡ nodeOr0 t p
   unfolding sessionOf
   path-last short = path-at short (length p) ∙ path-inside (length p) (omega arith) ∙ ap (nodeOr0 t) (take-length p)
-
-  -- once letters lead nowhere, so do all that follow
-  pub path-gone : length p ≤ 24 → Ordered t → (i k : ℕ) → 0 < i → i ≤ k → getD (sessionOf t p .path) i 0 ≡ 0 → getD (sessionOf t p .path) k 0 ≡ 0
-  path-gone short o i k some h gone = path-at short k ∙ step (le-or-lt k (length p))
-    where
-      step : (k ≤ length p) ⊎ (length p < k) → pathAt t p k ≡ 0
-      step (inl l) =
-          let z : nodeOr0 t (take i p) ≡ 0 = sym (path-inside i (omega arith)) ∙ sym (path-at short i) ∙ gone in
-          path-inside k l ∙ node-gone t (beginnings-tree t o) p i k h (λ m. node-some t (take i p) m (simp length-take (omega arith)) z)
-      step (inr l) = path-behind k l
 
 -- ---- its letters
 

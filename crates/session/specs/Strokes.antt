@@ -1,6 +1,6 @@
 -- A keystroke as the code makes it, on any words and any session; and where a session's letters came to.
 use mathlib.Core.Bool.{Bool, cond, not, _&&_}
-use mathlib.Core.List.{List, [], _∷_}
+use mathlib.Core.List.{List}
 use Prim.Native.Nat.{ℕ, _+_, _-_}
 use lib.Dec.{eqb, ltb}
 use lib.ListN.{set, getD}
@@ -20,8 +20,8 @@ use Rattle.session.specs.declared.Led.the-variants as leds
 abbrev pub passed : Session → Stroke
 passed s = record { verdict = Passed; session = s }
 
-abbrev pub refused : Refusal → Session → Stroke
-refused why s = record { verdict = Refused why; session = s }
+abbrev pub refusedStroke : Refusal → Session → Stroke
+refusedStroke why s = record { verdict = Refused why; session = s }
 
 -- a 0 past some letters says that they led nowhere
 unfoldable pub lost : ℕ → ℕ → Bool
@@ -54,7 +54,7 @@ ledOn nodes letters last b =
 
 abbrev pub struck : Session → ℕ → Led → Stroke
 struck s b (To n) = passed (lengthened s b n)
-struck s b (leds.Refused why) = refused why s
+struck s b (leds.Refused why) = refusedStroke why s
 
 abbrev pub arrived : Session → ℕ → Child → Stroke
 arrived s b c = struck s b (ledTo c)
@@ -64,8 +64,8 @@ typedOn nodes s b = struck s b (ledOn nodes (s .len) (getD (s .path) (s .len) 0)
 
 unfoldable pub rubbedOut : Session → Stroke
 rubbedOut s =
-    cond (ltb 24 (s .len)) (refused NotLawful s)
-    (cond (eqb (s .len) 0) (refused NothingToRubOut s)
+    cond (ltb 24 (s .len)) (refusedStroke NotLawful s)
+    (cond (eqb (s .len) 0) (refusedStroke NothingToRubOut s)
     (passed (shortened s)))
 
 -- where the letters came to, by the path
@@ -74,8 +74,3 @@ reached s =
     cond (ltb 24 (s .len)) Broken
     (cond (lost (s .len) (getD (s .path) (s .len) 0)) Nowhere
     (At (node (getD (s .path) (s .len) 0))))
-
--- a whole text typed, letter by letter
-abbrev pub typedAll : List ℕ → Session → List ℕ → Session
-typedAll nodes s [] = s
-typedAll nodes s (b ∷ p) = typedAll nodes (typedOn nodes s b .session) p

@@ -11,7 +11,7 @@ use walk::child_of;
 ghost use mathlib.Core.Path.{_≡_};
 ghost use Rattle.base.specs.Lent.{given, after};
 ghost use Rattle.session.specs.Promises.{TypePromise, RubPromise};
-ghost use Rattle.session.specs.Strokes.{refused, lost, nextOn, ledOn, typedOn, rubbedOut, reached};
+ghost use Rattle.session.specs.Strokes.{refusedStroke, lost, nextOn, ledOn, typedOn, rubbedOut, reached};
 
 // What a keystroke comes to: whether it is taken, and the session after it, which is the old one where it is not.
 pub struct Stroke {
@@ -27,7 +27,7 @@ enum Led {
 
 impl Stroke {
     fn refused(why: Refusal, session: Session) -> Stroke
-        ensures { λ r. ⌜ r ≡ refused why session ⌝ }
+        ensures { λ r. ⌜ r ≡ refusedStroke why session ⌝ }
     {
         Stroke {
             verdict: Verdict::Refused(why),

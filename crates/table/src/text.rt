@@ -1,4 +1,5 @@
-// A typed text before anything is asked with it. Every text that is typed or given goes through here.
+// Whether a question may be asked with a text, given afresh or a session's letters. A letter that is typed goes by the same byte rule,
+// `names::allowed`.
 use crate::names::bytes_allowed;
 use rules::Refusal;
 use rules::Stand;

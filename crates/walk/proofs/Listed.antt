@@ -4,7 +4,7 @@ use mathlib.Core.Path.{_≡_, refl, sym, ap, _∙_, subst}
 use mathlib.Core.Logic.{_⊎_, inl, inr}
 use mathlib.Core.Bool.{true, false}
 use mathlib.Core.List.{List, []}
-use Prim.Native.Nat.{ℕ, _+_, _/_, _≤_, _<_}
+use Prim.Native.Nat.{ℕ, _/_, _≤_, _<_}
 use native.Mathlib.Omega.{arith}
 use lib.ListN.{length, getD}
 use borrow.Author.Tests.{lt-ltb, le-ltb, le-leb, lt-leb}
@@ -16,12 +16,11 @@ use Rattle.base.proofs.Begins.{in-or-out}
 use Rattle.rules.specs.declared.Grid.{Grid}
 use Rattle.rules.specs.Tables.{Table, stands, nameOf}
 use Rattle.rules.specs.Questions.{under}
-use Rattle.rules.specs.Indexes.{Index, beginnings, numberIn, nodeRow, nodeCount, occupied, entriesOf}
+use Rattle.rules.specs.Indexes.{Index, beginnings, numberIn, nodeRow, occupied, entriesOf}
 use Rattle.rules.proofs.Lawful.{SetParts}
 use Rattle.grid.specs.declared.cells.Cells.{Cells}
 use Rattle.grid.specs.Cells.{cellsBy, regionsIn}
 use Rattle.grid.proofs.Listed.{listed-by}
-use Rattle.meaning.specs.Trees.{textOf}
 use Rattle.meaning.proofs.Tree.{number-in, number-out}
 use Rattle.meaning.proofs.Tables.{beginnings-of}
 use Rattle.meaning.proofs.Words.{entries-length}
@@ -30,7 +29,7 @@ use Rattle.walk.specs.declared.listing.Listing.the-variants.{Entries, No
 use Rattle.walk.specs.Walks.{nodeIn}
 use Rattle.walk.specs.Nodes.{nodeOf}
 use Rattle.walk.specs.Listings.{cellsAt, firstEntry, listingIn, listingAt, listingOf}
-use Rattle.walk.specs.Entries.{asRead, Spelled}
+use Rattle.walk.specs.Entries.{asRead, SpelledFrom}
 use Rattle.walk.proofs.Lawful.{node-of-in, node-of-out, node-row, nodes-within, node-found}
 use Rattle.walk.proofs.Spelled.{entries-spelled}
 
@@ -83,7 +82,7 @@ module _ (t : Table) (g : Grid) (p : List ℕ) where
 pub record Lists (t : Table) (g : Grid) (x : Index) (p : List ℕ) (cells : Cells) (first : ℕ) : Type 0 where
   pub regions : cells ≡ cellsBy (occupied t g p)
   pub many : length (regionsIn cells) ≡ length (entriesOf t g p)
-  pub spelled : (places : ℕ) → stands t ≤ places → Spelled (x .entries) places first (each asRead (entriesOf t g p))
+  pub spelled : (places : ℕ) → stands t ≤ places → SpelledFrom (x .entries) places first (each asRead (entriesOf t g p))
 
 module _ (t : Table) (g : Grid) (x : Index) (s : SetParts t g x) (p : List ℕ) where
   in-lists : In p (beginnings t) → Lists t g x p (cellsBy (occupied t g p)) (getD (nodeRow t g (numberIn p (beginnings t))) 7 0)
@@ -93,7 +92,7 @@ module _ (t : Table) (g : Grid) (x : Index) (s : SetParts t g x) (p : List ℕ) 
         regions = refl;
         many = ap length (listed-by (occupied t g p)) ∙ sym (entries-length t g p);
         spelled = λ places most.
-            subst (λ (q : List ℕ). Spelled (x .entries) places (getD (nodeRow t g (numberIn p (beginnings t))) 7 0) (each asRead (entriesOf t g q))) (n .1)
+            subst (λ (q : List ℕ). SpelledFrom (x .entries) places (getD (nodeRow t g (numberIn p (beginnings t))) 7 0) (each asRead (entriesOf t g q))) (n .1)
             (entries-spelled t g x s (numberIn p (beginnings t)) (n .0) places most);
       }
 

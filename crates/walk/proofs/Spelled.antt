@@ -7,7 +7,7 @@ use Prim.Native.Nat.{ℕ, suc, _+_, _*_, _/_, _≤_, _<_}
 use native.Mathlib.Omega.{arith}
 use lib.Dec.{ltb, leb}
 use lib.ListN.{length, getD}
-use borrow.Author.Tests.{lt-ltb, le-ltb, le-leb, lt-leb, ltb-true, leb-true}
+use borrow.Author.Tests.{lt-ltb, le-ltb, le-leb, ltb-true, leb-true}
 use Rattle.base.specs.Lists.{each}
 use Rattle.base.proofs.Tests.{and-parts}
 use Rattle.base.proofs.Members.{length-each, getD-each, getD-in}
@@ -25,26 +25,26 @@ use Rattle.meaning.proofs.Entries.{entries-mean, entry-own}
 use Rattle.walk.specs.declared.entry.Entry.{Entry}
 use Rattle.walk.specs.declared.entry.EntryRead.{EntryRead}
 use Rattle.walk.specs.declared.entry.EntryRead.the-variants.{At, Broken}
-use Rattle.walk.specs.Entries.{entryWord, entryIn, within, entryRead, asRead, Spelled}
+use Rattle.walk.specs.Entries.{entryWord, entryIn, entryWithin, entryRead, asRead, SpelledFrom}
 
 -- ---- on any words
 
 module _ (places : ℕ) (e : Entry) where
-  pub no-region : 64 ≤ e .region → false ≡ within places e
-  unfolding within
+  pub no-region : 64 ≤ e .region → false ≡ entryWithin places e
+  unfolding entryWithin
   no-region h = rw (le-ltb _ _ h)
 
-  pub past-decides : e .region < 64 → leb (e .past .0) places ≡ within places e
-  unfolding within
+  pub past-decides : e .region < 64 → leb (e .past .0) places ≡ entryWithin places e
+  unfolding entryWithin
   past-decides h = rw (lt-ltb _ _ h)
 
   -- both ways
-  pub within-facts : within places e ≡ true → (e .region < 64) × (e .past .0 ≤ places)
-  unfolding within
+  pub within-facts : entryWithin places e ≡ true → (e .region < 64) × (e .past .0 ≤ places)
+  unfolding entryWithin
   within-facts q = let w = and-parts _ _ q in (ltb-true _ _ (w .0), leb-true _ _ (w .1))
 
-  pub within-by : e .region < 64 → e .past .0 ≤ places → within places e ≡ true
-  unfolding within
+  pub within-by : e .region < 64 → e .past .0 ≤ places → entryWithin places e ≡ true
+  unfolding entryWithin
   within-by h k = rw (lt-ltb _ _ h, le-leb _ _ k)
 
 module _ (words : List ℕ) (places number : ℕ) where
@@ -53,30 +53,30 @@ module _ (words : List ℕ) (places number : ℕ) where
   no-entry h = rw (le-ltb _ _ h)
 
   module _ (there : number < length words / 4) where
-    pub not-within : within places (entryIn words number) ≡ false → Broken ≡ entryRead words places number
+    pub not-within : entryWithin places (entryIn words number) ≡ false → Broken ≡ entryRead words places number
     unfolding entryRead
     not-within h = rw (lt-ltb _ _ there, h)
 
-    pub entry-is : within places (entryIn words number) ≡ true → At (entryIn words number) ≡ entryRead words places number
+    pub entry-is : entryWithin places (entryIn words number) ≡ true → At (entryIn words number) ≡ entryRead words places number
     unfolding entryRead
     entry-is h = rw (lt-ltb _ _ there, h)
 
 -- one that was read is there, and within the places
-pub read-facts : (words : List ℕ) (places number : ℕ) (x : Entry) → entryRead words places number ≡ At x → (number < length words / 4) × (within places x ≡ true)
+pub read-facts : (words : List ℕ) (places number : ℕ) (x : Entry) → entryRead words places number ≡ At x → (number < length words / 4) × (entryWithin places x ≡ true)
 unfolding entryRead
 read-facts words places number x e = subst Facts e (step _ refl)
   where
     Facts : EntryRead → Type 0
-    Facts (At x) = (number < length words / 4) × (within places x ≡ true)
+    Facts (At x) = (number < length words / 4) × (entryWithin places x ≡ true)
     Facts Broken = Unit {0}
 
-    step : (b : Bool) → (ltb number (length words / 4) && within places (entryIn words number)) ≡ b → Facts (cond b (At (entryIn words number)) Broken)
+    step : (b : Bool) → (ltb number (length words / 4) && entryWithin places (entryIn words number)) ≡ b → Facts (cond b (At (entryIn words number)) Broken)
     step true h = let w = and-parts _ _ h in (ltb-true _ _ (w .0), w .1)
     step false h = tt
 
 -- entries that are read one by one stand one after the other
 spelled-by : (words : List ℕ) (places : ℕ) (d : Entry) (es : List Entry) (number : ℕ) → ((i : ℕ) → i < length es → entryRead words places (number + i) ≡ At (getD es i d))
-    → Spelled words places number es
+    → SpelledFrom words places number es
 spelled-by words places d [] number h = tt
 spelled-by words places d (e ∷ es) number h =
     let here : number + 0 ≡ number = omega arith in (
@@ -117,7 +117,7 @@ module _ (t : Table) (g : Grid) (x : Index) (s : SetParts t g x) (j : ℕ) (insi
       (omega (arith, w 3 h (omega arith), entries-mean t g (s .table) (textOf t j) .bounds i h .1))))
       ∙ ap At (same-entry e _ _ _ _ (w 0 h (omega arith)) (w 1 h (omega arith)) (w 2 h (omega arith)) (w 3 h (omega arith)))
 
-  pub entries-spelled : (places : ℕ) → stands t ≤ places → Spelled (x .entries) places first (each asRead listed)
+  pub entries-spelled : (places : ℕ) → stands t ≤ places → SpelledFrom (x .entries) places first (each asRead listed)
   entries-spelled places most =
       spelled-by (x .entries) places (asRead noEntry) (each asRead listed) first
       (λ i h.

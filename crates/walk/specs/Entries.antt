@@ -24,18 +24,18 @@ entryIn words number =
     }
 
 -- whether an entry is of a region, and its run within so many places
-unfoldable pub within : ℕ → Entry → Bool
-within places e = ltb (e .region) 64 && leb (e .past .0) places
+unfoldable pub entryWithin : ℕ → Entry → Bool
+entryWithin places e = ltb (e .region) 64 && leb (e .past .0) places
 
 unfoldable pub entryRead : List ℕ → ℕ → ℕ → EntryRead
 entryRead words places number =
-    cond (ltb number (length words / 4) && within places (entryIn words number)) (At (entryIn words number)) Broken
+    cond (ltb number (length words / 4) && entryWithin places (entryIn words number)) (At (entryIn words number)) Broken
 
 -- an entry of the rules as the code has it
 abbrev pub asRead : rules.Entry → Entry
 asRead e = record { region = e .region; score = e .score; first = record { 0 = e .first }; past = record { 0 = e .past } }
 
 -- these entries stand in the words, from a number on
-abbrev pub Spelled : List ℕ → ℕ → ℕ → List Entry → Type 0
-Spelled words places number [] = Unit {0}
-Spelled words places number (e ∷ es) = (entryRead words places number ≡ At e) × Spelled words places (suc number) es
+abbrev pub SpelledFrom : List ℕ → ℕ → ℕ → List Entry → Type 0
+SpelledFrom words places number [] = Unit {0}
+SpelledFrom words places number (e ∷ es) = (entryRead words places number ≡ At e) × SpelledFrom words places (suc number) es

@@ -1,7 +1,7 @@
 // One entry of a listing, read from its words, which may be anything.
 ghost use mathlib.Core.Path.{_≡_};
 ghost use Rattle.base.specs.Lent.{given};
-ghost use Rattle.walk.specs.Entries.{within, entryRead};
+ghost use Rattle.walk.specs.Entries.{entryWithin, entryRead};
 use rules::Grid;
 use rules::OrderPlace;
 use rules::layout::BEST_SCORE;
@@ -26,7 +26,7 @@ pub enum EntryRead {
 
 // Whether an entry is of a region, and its run within so many places.
 fn within(entry: Entry, places: usize) -> bool
-    ensures { λ r. ⌜ r ≡ within places entry ⌝ }
+    ensures { λ r. ⌜ r ≡ entryWithin places entry ⌝ }
 {
     if Grid::REGIONS as u32 <= entry.region {
         return false;

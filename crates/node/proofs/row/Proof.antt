@@ -1,6 +1,5 @@
 -- `node::row` meets its contract: word by word. Assumes nothing.
 use borrow.Author.Needs.{needs}
-use native.Mathlib.Omega.{arith}
 use mathlib.Core.Path.{_∙_}
 use Rattle.node.proofs.Gathering.{length-fits, spelt-at, parent-is, past-after, row-is}
 use Rattle.node.proofs.row.Statement.{statement}

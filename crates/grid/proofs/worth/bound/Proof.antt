@@ -14,7 +14,7 @@ region-distance-requires c κs = search needs
 value-at-requires : tie.Need-value-at-requires
 value-at-requires c κs =
     let s = c .before in
-    (s .pre .0, rw (c .region-distance .ensures) (le-of-lt (region-below-diagonal _ _ _ (cell-some _ (s .pre .0 .lawful)) (s .pre .2) (s .pre .1))))
+    (s .pre .0, rw (c .region-distance .ensures) (le-of-lt (region-below-diagonal _ _ _ (cell-some _ (s .pre .0 .lawful)) (s .pre .1 .small) (s .pre .1 .inside))))
 
 returns : tie.Need-returns
 unfolding boundOf

@@ -31,9 +31,9 @@ metres-between-requires-2 c κs = search needs
 squares-requires : tie.Need-squares-requires
 squares-requires c κs =
     let s = c .before .before .before .before .before .before in
-    let small = cell-small _ (s .pre .0) in
-    let across = legs-less _ _ _ _ (east-inside _ _ (s .pre .1)) (east-inside _ _ (s .pre .2)) in
-    let along = legs-less _ _ _ _ (north-inside _ _ (s .pre .1)) (north-inside _ _ (s .pre .2)) in
+    let small = cell-small _ (s .pre .lawful) in
+    let across = legs-less _ _ _ _ (east-inside _ _ (s .pre .first)) (east-inside _ _ (s .pre .second)) in
+    let along = legs-less _ _ _ _ (north-inside _ _ (s .pre .first)) (north-inside _ _ (s .pre .second)) in
     rw (across-is (c .before .before .before), along-is c) (omega arith, omega arith)
 
 returns : tie.Need-returns

@@ -12,7 +12,7 @@ use Rattle.grid.proofs.worth.gap.Tie as tie
 low-less : (c : tie.After-lift) → c .lift .result + c .before .args .strip * c .before .args .cell < 8589934592
 low-less c =
     let s = c .before in
-    rw (c .lift .ensures, toZ-ofZ (s .fits .edge)) (omega (arith, lifted-less _ (s .fits .edge), mul-le-mul (le-of-lt (s .pre .2)) (s .pre .1)))
+    rw (c .lift .ensures, toZ-ofZ (s .fits .edge)) (omega (arith, lifted-less _ (s .fits .edge), mul-le-mul (le-of-lt (s .pre .below)) (s .pre .most)))
 
 lift-requires : tie.Need-lift-requires
 lift-requires c κs = search needs
@@ -27,7 +27,7 @@ lift-requires-2 : tie.Need-lift-requires-2
 lift-requires-2 c κs = search needs
 
 nearest-requires : tie.Need-nearest-requires
-nearest-requires c κs = (c .before .before .pre .0, low-less (c .before))
+nearest-requires c κs = (c .before .before .pre .some, low-less (c .before))
 
 apart-requires : tie.Need-apart-requires
 apart-requires c κs = search needs

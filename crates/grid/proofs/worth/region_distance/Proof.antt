@@ -26,20 +26,20 @@ along-is c =
 gap-requires : tie.Need-gap-requires
 gap-requires c κs =
     let s = c .before .before in
-    (cell-some _ (s .pre .0), cell-small _ (s .pre .0), omega arith)
+    record { some = cell-some _ (s .pre .lawful); most = cell-small _ (s .pre .lawful); below = omega arith }
 
 gap-requires-2 : tie.Need-gap-requires-2
 gap-requires-2 c κs =
     let s = c .before .before .before .before .before in
-    (cell-some _ (s .pre .0), cell-small _ (s .pre .0), omega (arith, s .pre .2))
+    record { some = cell-some _ (s .pre .lawful); most = cell-small _ (s .pre .lawful); below = omega (arith, s .pre .small) }
 
 squares-requires : tie.Need-squares-requires
 squares-requires c κs =
     let s = c .before .before .before .before .before .before in
-    let small = cell-small _ (s .pre .0) in
-    let some = cell-some _ (s .pre .0) in
-    let across = gap-less _ _ (s .args .region % 8) _ some (omega arith) (east-inside _ _ (s .pre .1)) in
-    let along = gap-less _ _ (s .args .region / 8) _ some (omega (arith, s .pre .2)) (north-inside _ _ (s .pre .1)) in
+    let small = cell-small _ (s .pre .lawful) in
+    let some = cell-some _ (s .pre .lawful) in
+    let across = gap-less _ _ (s .args .region % 8) _ some (omega arith) (east-inside _ _ (s .pre .inside)) in
+    let along = gap-less _ _ (s .args .region / 8) _ some (omega (arith, s .pre .small)) (north-inside _ _ (s .pre .inside)) in
     rw (across-is (c .before .before .before), along-is c) (omega arith, omega arith)
 
 returns : tie.Need-returns

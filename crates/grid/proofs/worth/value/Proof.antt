@@ -13,7 +13,7 @@ distance-requires c κs = search needs
 value-at-requires : tie.Need-value-at-requires
 value-at-requires c κs =
     let s = c .before in
-    (s .pre .0, rw (c .distance .ensures) (le-of-lt (distance-below-diagonal _ _ _ (s .pre .1) (s .pre .2))))
+    (s .pre .0, rw (c .distance .ensures) (le-of-lt (distance-below-diagonal _ _ _ (s .pre .1 .first) (s .pre .1 .second))))
 
 returns : tie.Need-returns
 unfolding valueOf

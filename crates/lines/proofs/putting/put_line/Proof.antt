@@ -1,6 +1,5 @@
 -- `put_line` puts key, value and line feed in a row.
 -- Assumes nothing.
-use mathlib.Core.Path.{_≡_}
 use native.Mathlib.Omega.{arith}
 use borrow.Author.Needs.{needs}
 use Rattle.lines.specs.Writing.{line}

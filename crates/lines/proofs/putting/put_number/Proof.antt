@@ -1,6 +1,6 @@
 -- `put_number`: the digits that the kit's `decimal` gives are the number's decimal.
 -- Assumes nothing.
-use mathlib.Core.Path.{_≡_, _∙_}
+use mathlib.Core.Path.{_∙_}
 use borrow.Author.Needs.{needs}
 use Rattle.lines.proofs.Digits.{decimal-digits}
 use Rattle.lines.proofs.putting.put_number.Statement.{statement}

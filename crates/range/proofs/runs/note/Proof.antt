@@ -1,8 +1,7 @@
 -- `runs::note` meets its contract: the loop's invariant is Noting, by the entries that are left.
 -- Assumes nothing.
-use Prim.Native.Nat.{_-_, _<_}
+use Prim.Native.Nat.{_-_}
 use mathlib.Core.Path.{sym, _∙_}
-use native.Mathlib.Omega.{arith}
 use Rattle.walk.proofs.Spelled.{within-facts, read-facts}
 use Rattle.range.proofs.Turns.{Noting, note-begins, note-breaks, note-more, note-ends}
 use borrow.Author.Needs.{needs}

@@ -27,7 +27,7 @@ decided c =
 bound-requires : tie.Need-bound-requires
 bound-requires c κs =
     let p = c .before .before .pre in
-    (weighable _ _ (p .0 .asks) _ (entry-facts _ _ (p .1 .sound) .scored), asked-inside _ _ (p .0 .asks), within-facts _ _ (p .1 .inside) .0)
+    (weighable _ _ (p .0 .asks) _ (entry-facts _ _ (p .1 .sound) .scored), record { lawful = p .0 .asks .grid; inside = asked-inside _ _ (p .0 .asks); small = within-facts _ _ (p .1 .inside) .0 })
 
 cast-first : tie.Need-cast-first
 cast-first c = search needs

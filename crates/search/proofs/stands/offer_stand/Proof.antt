@@ -56,7 +56,7 @@ value-requires c κs =
     let f = facts (c .before .before .before) in
     let in-grid : ℤ → ℤ → Bool = λ e n. inGrid (a .grid) (record { east = e; north = n }) in
     let inside = both-arrive in-grid (getD (a .east .now) (a .stand .0) (pos 0)) (getD (a .north .now) (a .stand .0) (pos 0)) (search needs) (search needs) ∙ f .inside in
-    (weighable _ _ (c .before .before .before .before .before .before .before .pre .asks) _ (f .scored), inside, asked-inside _ _ (c .before .before .before .before .before .before .before .pre .asks))
+    (weighable _ _ (c .before .before .before .before .before .before .before .pre .asks) _ (f .scored), record { lawful = c .before .before .before .before .before .before .before .pre .asks .grid; first = inside; second = asked-inside _ _ (c .before .before .before .before .before .before .before .pre .asks) })
 
 key-of-requires : tie.Need-key-of-requires
 key-of-requires c κs = record { small = rw (c .value .ensures) (value-most _ _ (c .before .before .before .before .before .before .before .before .pre .asks) _ _ (facts (c .before .before .before .before) .scored)); below = facts (c .before .before .before .before) .small }
