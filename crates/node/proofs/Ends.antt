@@ -1,6 +1,6 @@
 -- Where a node's stands end, and how many nodes a run of stands makes: the two loops, and the bounds of what they give.
 -- Assumes nothing.
-use mathlib.Core.Path.{_≡_, ap, _∙_}
+use mathlib.Core.Path.{_≡_, sym, ap, _∙_}
 use mathlib.Core.Logic.{⊎-elim}
 use mathlib.Core.List.{List, [], _∷_, _++_}
 use Prim.Native.Nat.{ℕ, suc, _+_, _-_, _≤_, _<_}
@@ -14,7 +14,7 @@ use Rattle.base.proofs.Tests.{le-or-lt}
 use Rattle.base.proofs.Members.{each-append}
 use Rattle.base.proofs.Runs.{from-split, length-from}
 use Rattle.base.proofs.Sums.{total-append, total-most}
-use Rattle.node.specs.Columns.{at, Grows, frontRun, blockOf, endOf, Ends, span, growth, grownOf}
+use Rattle.node.specs.Columns.{at, Grows, frontRun, endOf, Ends, span, growth, grownOf}
 
 -- ---- runs of stands
 
@@ -45,11 +45,12 @@ module _ (shared : List ℕ) (i l : ℕ) where
   unfolding endOf
   ending h = record { after = omega arith; within = omega arith; rest = rw (drop-cons shared i 0 h, add-one) (omega arith) }
 
-  pub ended : length shared ≤ i → i ≤ length shared → Ends shared i l i
+  pub end-none : length shared ≤ i → endOf shared i l ≡ i
   unfolding endOf
-  ended h k =
-      let q : blockOf l (drop i shared) ≡ 0 = rw (drop-of-length-le shared h) in
-      record { end = omega (arith, q); after = omega arith; within = k }
+  end-none h = rw (drop-of-length-le shared h) (omega arith)
+
+  pub ended : length shared ≤ i → i ≤ length shared → Ends shared i l i
+  ended h k = record { end = sym (end-none h); after = omega arith; within = k }
 
   pub ending-more : (e : ℕ) → Ending shared i l e → e < length shared → l ≤ at shared e → Ending shared i l (e + 1)
   ending-more e s h k =

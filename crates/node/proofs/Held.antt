@@ -19,8 +19,8 @@ use Rattle.base.proofs.Members.{keep-append, empty-of, length-keep, each-append
 use Rattle.base.proofs.Runs.{length-from}
 use Rattle.base.proofs.Words.{words-or, word-one, word-same, word-none, one-shifted, bit-asks}
 use Rattle.base.proofs.Sums.{largest-last}
-use Rattle.node.specs.Columns.{at, span, standsIn, heldAmong, bitsAmong, Sized, Tallied}
-use Rattle.node.proofs.Ends.{span-none, span-last}
+use Rattle.node.specs.Columns.{at, span, standsUnder, Ends, standsIn, heldAmong, bitsAmong, Sized, Tallied}
+use Rattle.node.proofs.Ends.{span-none, span-last, end-none}
 
 module _ (region s : List ℕ) where
   -- ---- one stand more
@@ -83,28 +83,31 @@ bits-none region = word-same (heldAmong region []) (λ k. false) 0 0 64 (λ k h.
 
 -- ---- the regions of a run
 
-pub record Marking (region : List ℕ) (i e bits k : ℕ) : Type 0 where
+pub record Marking (region : List ℕ) (i bits k : ℕ) : Type 0 where
   pub after : i ≤ k
-  pub within : k ≤ e
   pub word : bits ≡ bitsAmong region (span i k)
 
-module _ (region : List ℕ) (i e : ℕ) where
-  pub marking : i ≤ e → Marking region i e 0 i
-  marking h = record { after = omega arith; within = h; word = sym (ap (bitsAmong region) (span-none i) ∙ bits-none region) }
+module _ (region : List ℕ) (i : ℕ) where
+  pub marking : Marking region i 0 i
+  marking = record { after = omega arith; word = sym (ap (bitsAmong region) (span-none i) ∙ bits-none region) }
 
-  pub marking-more : (bits k r : ℕ) → Marking region i e bits k → k < e → r ≡ at region k → r < 64 → Marking region i e (bitOr bits (1 * 2 ^ r % 2 ^ 64)) (k + 1)
-  marking-more bits k r s h q lt =
+  pub marking-more : (bits k r : ℕ) → Marking region i bits k → r ≡ at region k → r < 64 → Marking region i (bitOr bits (1 * 2 ^ r % 2 ^ 64)) (k + 1)
+  marking-more bits k r s q lt =
       record {
         after = omega (arith, s .after);
-        within = omega arith;
         word =
             ap (λ (w : ℕ). bitOr w (1 * 2 ^ r % 2 ^ 64)) (s .word)
             ∙ bits-more region (span i k) k r q lt
             ∙ ap (bitsAmong region) (sym (span-last i k (s .after)));
       }
 
-  pub marking-end : (bits k : ℕ) → Marking region i e bits k → e ≤ k → bits ≡ bitsAmong region (span i e)
-  marking-end bits k s h = let q : k ≡ e = omega (arith, s .within) in s .word ∙ ap (λ (x : ℕ). bitsAmong region (span i x)) q
+-- those under a node end where its stands do
+module _ (shared region : List ℕ) (i l : ℕ) where
+  pub marked-none : length shared ≤ i → 0 ≡ bitsAmong region (standsUnder shared i l)
+  marked-none h = marking region i .word ∙ ap (λ (e : ℕ). bitsAmong region (span i e)) (sym (end-none shared i l h))
+
+  pub marked : (bits k : ℕ) → Marking region i bits k → Ends shared i l k → bits ≡ bitsAmong region (standsUnder shared i l)
+  marked bits k s e = s .word ∙ ap (λ (x : ℕ). bitsAmong region (span i x)) (e .end)
 
 -- ---- the tally
 
@@ -126,14 +129,15 @@ module _ (region s : List ℕ) (k r : ℕ) (q : r ≡ at region k) where
           getD-set-other slots r x v 0 ne ∙ old x l (sym (held-there region s k x other) ∙ u) ∙ ap (f x) (sym (stands-there region s k x other))
 
 pub record Tallying (region score next : List ℕ) (i e : ℕ) (places best : List ℕ) (bits k : ℕ) : Type 0 where
-  pub marks : Marking region i e bits k
+  pub marks : Marking region i bits k
+  pub within : k ≤ e
   pub so-far : Tallied region score next (span i k) places best bits
 
 module _ (region score next : List ℕ) (i e : ℕ) where
   pub tallying : (places best : List ℕ) → i ≤ e → Sized places → Sized best → Tallying region score next i e places best 0 i
   tallying places best h p b =
-      let m = marking region i e h in
-      record { marks = m; so-far = record { word = m .word; past = λ r lt q. none r q; most = λ r lt q. none r q; places-size = p; best-size = b } }
+      let m = marking region i in
+      record { marks = m; within = h; so-far = record { word = m .word; past = λ r lt q. none r q; most = λ r lt q. none r q; places-size = p; best-size = b } }
     where
       none : {A : Type 0} (r : ℕ) → heldAmong region (span i i) r ≡ true → A
       none r q = never (heldAmong region (span i i) r) q (ap (λ (s : List ℕ). heldAmong region s r) (span-none i) ∙ held-none region r)
@@ -162,7 +166,7 @@ module _ (region score next : List ℕ) (i e : ℕ) where
           → Tallying region score next i e (set places r (a + 1)) (set best r m) (bitOr bits (1 * 2 ^ r % 2 ^ 64)) (k + 1)
       tallying-more b m eb em =
           let seen = span i k in
-          let marks′ = marking-more region i e bits k r (s .marks) h q lt in
+          let marks′ = marking-more region i bits k r (s .marks) q lt in
           let more : span i (k + 1) ≡ span i k ++ (k ∷ []) = span-last i k (s .marks .after) in
           let place : a + 1 ≡ at next r + length (standsIn region r (span i k) ++ (k ∷ [])) =
           omega (arith, place-now, length-append (standsIn region r (span i k)) (k ∷ [])) in
@@ -174,6 +178,7 @@ module _ (region score next : List ℕ) (i e : ℕ) where
           ∙ sym (ap largest (each-append (at score) (standsIn region r (span i k)) (k ∷ [])) ∙ largest-last (each (at score) (standsIn region r (span i k))) (at score k)) in
           record {
             marks = marks′;
+            within = omega arith;
             so-far = record {
               word = marks′ .word;
               past = rw more (stored region (span i k) k r q places (λ x l. at next x + length l) (a + 1) (s .so-far .places-size) lt (s .so-far .past) place);
@@ -185,5 +190,5 @@ module _ (region score next : List ℕ) (i e : ℕ) where
 
   pub tallying-end : (places best : List ℕ) (bits k : ℕ) → Tallying region score next i e places best bits k → e ≤ k → Tallied region score next (span i e) places best bits
   tallying-end places best bits k s h =
-      let q : k ≡ e = omega (arith, s .marks .within) in
+      let q : k ≡ e = omega (arith, s .within) in
       rw q at (s .so-far)

@@ -89,6 +89,10 @@ InColumn column i e = (i ≤ e) × (e ≤ length column)
 abbrev pub span : ℕ → ℕ → List ℕ
 span i e = fromOn i (e - i)
 
+-- the stands under the node of stand i's first l bytes
+abbrev pub standsUnder : List ℕ → ℕ → ℕ → List ℕ
+standsUnder shared i l = span i (endOf shared i l)
+
 abbrev pub growth : List ℕ → List ℕ → ℕ → ℕ
 growth lengths shared k = at lengths k - at shared k
 

@@ -7,7 +7,7 @@ use lib.Dec.{eqb}
 use lib.ListN.{length}
 use Rattle.base.specs.Bits.{wordOf}
 use Rattle.rules.specs.Indexes.{Entry}
-use Rattle.node.specs.Columns.{IndexColumns, at, endOf, span, grownOf, heldAmong, bitsAmong, entriesAmong, entriesFrom, Sized}
+use Rattle.node.specs.Columns.{IndexColumns, at, endOf, span, standsUnder, grownOf, heldAmong, bitsAmong, entriesAmong, entriesFrom, Sized}
 use Rattle.node.specs.Visits.{Visit, numberAt, placesAt}
 use Rattle.node.specs.declared.cursor.Cursor.{Cursor}
 use Rattle.node.specs.declared.Gathered.{Gathered}
@@ -28,7 +28,7 @@ pastNumber lengths shared i l e j = j + at shared i + 1 + grownOf lengths shared
 
 -- the stands under a node
 abbrev pub standsAt : List ℕ → Visit → List ℕ
-standsAt shared v = span (v .stand) (endOf shared (v .stand) (v .length))
+standsAt shared v = standsUnder shared (v .stand) (v .length)
 
 unfoldable pub entriesAt : IndexColumns → Visit → List Entry
 entriesAt t v = entriesAmong (t .region) (t .score) (placesAt (t .region) (v .stand)) (standsAt (t .shared) v)
@@ -63,9 +63,9 @@ rowOf t j n v = rowAt t j n (v .stand) (v .length) (endOf (t .shared) (v .stand)
 pub record Gathers (shared region score next : List ℕ) (i l : ℕ) (places best ranked : List ℕ) (g : Gathered) : Type 0 where
   pub past : g .past .0 ≡ endOf shared i l
   pub within : g .past .0 ≤ length shared
-  pub word : g .bits ≡ bitsAmong region (span i (endOf shared i l))
-  pub entries : entriesFrom best next places ranked (g .held) ≡ entriesAmong region score next (span i (endOf shared i l))
-  pub count : g .held ≡ length (entriesAmong region score next (span i (endOf shared i l)))
+  pub word : g .bits ≡ bitsAmong region (standsUnder shared i l)
+  pub entries : entriesFrom best next places ranked (g .held) ≡ entriesAmong region score next (standsUnder shared i l)
+  pub count : g .held ≡ length (entriesAmong region score next (standsUnder shared i l))
   pub few : g .held ≤ 64
   pub small : (k : ℕ) → k < g .held → at ranked k < 64
   pub places-size : Sized places

@@ -38,15 +38,14 @@ pub fn step(lengths: &[u8], shared: &[u8], cursor: Cursor, held: u32) -> Cursor
 {
     let number = Node(cursor.number.0 + 1);
     let entries = cursor.entries + held;
-    let stands = lengths.len() as u32;
-    let mut stand = cursor.stand.0;
+    let mut stand = cursor.stand.0 as usize;
     let mut length = cursor.length + 1;
-    while stand < stands && lengths[stand as usize] < length {
+    while stand < lengths.len() && lengths[stand] < length {
         stand += 1;
-        length = value_at(shared, Stand(stand)) + 1;
+        length = value_at(shared, Stand(stand as u32)) + 1;
     }
     Cursor {
-        stand: Stand(stand),
+        stand: Stand(stand as u32),
         length,
         number,
         entries,

@@ -7,7 +7,7 @@ ghost use Prim.Native.Nat.{_≤_, _<_};
 ghost use lib.Dec.{ltb};
 ghost use lib.ListN.{length};
 ghost use Rattle.base.specs.Lent.{given, after};
-ghost use Rattle.node.specs.Columns.{at, Grows, Placed, InColumn, Ends, span, grownOf, bitsAmong, RegionAt, Tallied};
+ghost use Rattle.node.specs.Columns.{at, Grows, Placed, InColumn, Ends, span, standsUnder, grownOf, bitsAmong, RegionAt, Tallied};
 ghost use Rattle.node.specs.Asks.{TallyAsks};
 
 // A byte of a column as a place, and as a word of the index.
@@ -74,17 +74,21 @@ pub fn grown(lengths: &[u8], shared: &[u8], first: Stand, past: Stand) -> u32
     sum
 }
 
-// The regions of those stands, a bit for each.
-pub fn regions_of(region: &[u8], first: Stand, past: Stand) -> u64
-    requires { ⌜ (Placed (now region)) × (InColumn (now region) (first .0) (past .0)) ⌝ }
-    ensures { λ r. ⌜ r ≡ bitsAmong (given region) (span (first .0) (past .0)) ⌝ }
+// The regions of the stands under the node of a stand's first bytes, a bit for each; none past the end. Counting entries asks for no more,
+// so that the stands are gone through once.
+pub fn regions_under(shared: &[u8], region: &[u8], stand: Stand, bytes: u8) -> u64
+    requires { ⌜ (Placed (now region)) × (length (now shared) ≡ length (now region)) ⌝ }
+    ensures { λ r. ⌜ r ≡ bitsAmong (given region) (standsUnder (given shared) (stand .0) bytes) ⌝ }
 {
-    let mut bits: u64 = 0;
-    let end = past.0;
-    let mut stand = first.0;
-    while stand < end {
-        bits |= 1u64 << region_at(region, Stand(stand));
-        stand += 1;
+    let first = stand.0 as usize;
+    if shared.len() <= first {
+        return 0;
+    }
+    let mut bits = 1u64 << region_at(region, stand);
+    let mut past = first + 1;
+    while past < shared.len() && bytes <= shared[past] {
+        bits |= 1u64 << region_at(region, Stand(past as u32));
+        past += 1;
     }
     bits
 }

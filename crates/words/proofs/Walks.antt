@@ -14,7 +14,7 @@ use Rattle.base.proofs.Members.{length-each, length-keep, each-same}
 use Rattle.base.proofs.Runs.{length-from}
 use Rattle.base.proofs.Words.{ones-word}
 use Rattle.node.specs.declared.cursor.Cursor.{Cursor}
-use Rattle.node.specs.Columns.{IndexColumns, LawfulColumns, Grows, at, endOf, span, growth, grownOf, heldAmong, regionsAmong, bitsAmong}
+use Rattle.node.specs.Columns.{IndexColumns, LawfulColumns, Grows, at, span, growth, grownOf, heldAmong, regionsAmong, bitsAmong}
 use Rattle.node.specs.Visits.{Visit, visitsAt, newVisits, visitsFrom, rootCursor, placesAt, On, Ways, Stepped}
 use Rattle.node.specs.Rows.{standsAt, entriesAt, rowAt, rowOf}
 use Rattle.node.proofs.Ends.{grown-small}
@@ -142,14 +142,14 @@ module _ {lengths shared region : List ℕ} {all : ℕ} where
   counting r g e = record { way = going r g e; so-far = rw r (omega arith) }
 
   module _ {c : Cursor} (s : Counting lengths shared region all c) where
-    module _ (lt : c .number .0 < all) {past held : ℕ} (e : past ≡ endOf shared (c .stand .0) (c .length)) (k : held ≡ ones (bitsAmong region (span (c .stand .0) past))) where
-      held-is : held ≡ length (regionsAmong region (standsAt shared (visitOf c)))
-      held-is = k ∙ ap (λ (x : ℕ). ones (bitsAmong region (span (c .stand .0) x))) e ∙ ones-held region (standsAt shared (visitOf c))
+    module _ (lt : c .number .0 < all) {bits : ℕ} (e : bits ≡ bitsAmong region (standsAt shared (visitOf c))) where
+      held-is : ones bits ≡ length (regionsAmong region (standsAt shared (visitOf c)))
+      held-is = ap ones e ∙ ones-held region (standsAt shared (visitOf c))
 
-      pub counting-fits : c .entries + held < 4294967296
+      pub counting-fits : c .entries + ones bits < 4294967296
       counting-fits = omega (arith, held-is, held-few region (standsAt shared (visitOf c)), s .way .low, s .way .few)
 
-      pub counting-more : {r : Cursor} → Stepped lengths shared c held r → Counting lengths shared region all r
+      pub counting-more : {r : Cursor} → Stepped lengths shared c (ones bits) r → Counting lengths shared region all r
       counting-more p =
           record {
             way = going-more (s .way) lt p (omega (arith, held-is, held-few region (standsAt shared (visitOf c))));

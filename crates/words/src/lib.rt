@@ -6,9 +6,8 @@ pub mod turn;
 
 use node::cursor::root;
 use node::cursor::step;
-use node::tally::end_of;
 use node::tally::grown;
-use node::tally::regions_of;
+use node::tally::regions_under;
 pub use order::has_order;
 use order::places_of;
 pub use order::put_order;
@@ -40,8 +39,7 @@ pub fn count_entries(lengths: &[u8], shared: &[u8], region: &[u8], all: u32) -> 
 {
     let mut cursor = root();
     while cursor.number.0 < all {
-        let past = end_of(shared, cursor.stand, cursor.length);
-        let bits = regions_of(region, cursor.stand, past);
+        let bits = regions_under(shared, region, cursor.stand, cursor.length);
         cursor = step(lengths, shared, cursor, u64::count_ones(bits));
     }
     cursor.entries

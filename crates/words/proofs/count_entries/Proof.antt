@@ -1,9 +1,8 @@
 -- `words::count_entries` meets its contract: the loop's invariant is `Counting`, whose laws are of proofs/Walks.antt. Assumes nothing.
 use borrow.Author.Needs.{needs}
 use native.Mathlib.Omega.{arith}
-use mathlib.Core.Path.{ap}
+use mathlib.Core.Path.{sym, _∙_}
 use Prim.Native.Nat.{_-_}
-use lib.Count.{ones}
 use Rattle.words.proofs.Walks.{Counting, counting, counting-fits, counting-more, counting-end}
 use Rattle.words.proofs.count_entries.Statement.{statement}
 use Rattle.words.proofs.count_entries.Tie as tie
@@ -20,30 +19,25 @@ root-requires c κs = search needs
 loop-holds : tie.Need-loop-holds Inv-loop μ-loop
 loop-holds c = counting (c .root .ensures) (c .before .before .before .before .pre .grows) (c .before .before .before .before .pre .count)
 
-end-of-requires : tie.Need-end-of-requires Inv-loop μ-loop
-end-of-requires c κs = omega (arith, c .before .before .loop .inv .way .on (c .if1 .taken) .within, c .before .before .before .before .before .before .before .pre .grows .same)
-
-regions-of-requires : tie.Need-regions-of-requires Inv-loop μ-loop
-regions-of-requires c κs =
-    let p = c .before .before .before .before .before .before .before .before .pre in
-    (p .placed, (c .end-of .ensures .after, omega (arith, c .end-of .ensures .within, p .grows .same, p .same)))
+regions-under-requires : tie.Need-regions-under-requires Inv-loop μ-loop
+regions-under-requires c κs = let p = c .before .before .before .before .before .before .before .pre in (p .placed, p .grows .same ∙ sym (p .same))
 
 step-requires : tie.Need-step-requires Inv-loop μ-loop
 step-requires c κs =
-    let s = c .before .before .before .before .loop .inv in
-    let lt = c .before .before .if1 .taken in
+    let s = c .before .before .before .loop .inv in
+    let lt = c .before .if1 .taken in
     record {
-      grows = c .before .before .before .before .before .before .before .before .before .pre .grows;
+      grows = c .before .before .before .before .before .before .before .before .pre .grows;
       on = s .way .on lt;
       low = omega (arith, s .way .few);
-      fits = counting-fits s lt (c .before .end-of .ensures .end) (ap ones (c .regions-of .ensures));
+      fits = counting-fits s lt (c .regions-under .ensures);
     }
 
 loop-less : tie.Need-loop-less Inv-loop μ-loop
-loop-less c = omega (arith, c .step .ensures .number, c .before .before .before .if1 .taken)
+loop-less c = omega (arith, c .step .ensures .number, c .before .before .if1 .taken)
 
 loop-again : tie.Need-loop-again Inv-loop μ-loop
-loop-again c = counting-more (c .before .before .before .before .before .loop .inv) (c .before .before .before .if1 .taken) (c .before .before .end-of .ensures .end) (ap ones (c .before .regions-of .ensures)) (c .step .ensures)
+loop-again c = counting-more (c .before .before .before .before .loop .inv) (c .before .before .if1 .taken) (c .before .regions-under .ensures) (c .step .ensures)
 
 returns : tie.Need-returns Inv-loop μ-loop
 returns c = counting-end (c .before .before .loop .inv) (c .if1 .left)
@@ -56,8 +50,7 @@ count-entries-spec =
     μ-loop
     root-requires
     loop-holds
-    end-of-requires
-    regions-of-requires
+    regions-under-requires
     step-requires
     loop-less
     loop-again

@@ -1,6 +1,7 @@
 -- `node::cursor::step` meets its contract: the loop's invariant is `Stepping`, whose laws are of proofs/Steps.antt. Assumes nothing.
 use borrow.Author.Tests.{ltb-true, ltb-false}
 use borrow.Author.Needs.{needs}
+use mathlib.Core.Logic.{⊎-elim}
 use native.Mathlib.Omega.{arith}
 use Prim.Native.Nat.{_+_, _-_}
 use lib.ListN.{length}
@@ -10,28 +11,25 @@ use Rattle.node.proofs.cursor.step.Statement.{statement}
 use Rattle.node.proofs.cursor.step.Tie as tie
 
 abbrev Inv-loop : tie.InvT-loop
-Inv-loop lengths shared held number entries stands stand₀ length₀ stand length = Stepping lengths shared stand₀ length₀ (number .0) stand length
+Inv-loop lengths shared held number entries stand₀ length₀ stand length = Stepping lengths shared stand₀ length₀ (number .0) stand length
 
 abbrev μ-loop : tie.MeasureT-loop
-μ-loop lengths shared held number entries stands stand₀ length₀ stand length = stands - stand
+μ-loop lengths shared held number entries stand₀ length₀ stand len = length lengths - stand
 
-add-t10 : tie.Need-add-t10 Inv-loop μ-loop
-add-t10 c = search needs
+add-t9 : tie.Need-add-t9 Inv-loop μ-loop
+add-t9 c = search needs
 
 add-entries : tie.Need-add-entries Inv-loop μ-loop
 add-entries c = search needs
 
-cast-stands : tie.Need-cast-stands Inv-loop μ-loop
-cast-stands c = search needs
+cast-stand : tie.Need-cast-stand Inv-loop μ-loop
+cast-stand c = search needs
 
 add-length : tie.Need-add-length Inv-loop μ-loop
-add-length c = let s = c .before .before .before .before .before in omega (arith, s .pre .on .long, length-short _ _ (s .pre .grows) (s .args .cursor .stand .0))
+add-length c = let s = c .before .before .before .before .before .before in omega (arith, s .pre .on .long, length-short _ _ (s .pre .grows) (s .args .cursor .stand .0))
 
 loop-holds : tie.Need-loop-holds Inv-loop μ-loop
-loop-holds c = let s = c .before .before .before .before .before in stepping _ _ (s .pre .grows) (s .args .cursor) (s .pre .on)
-
-cast-if1 : tie.Need-cast-if1 Inv-loop μ-loop
-cast-if1 c = search needs
+loop-holds c = let s = c .before .before .before .before .before .before in stepping _ _ (s .pre .grows) (s .args .cursor) (s .pre .on)
 
 shared-slice-read-if1 : tie.Need-shared-slice-read-if1 Inv-loop μ-loop
 shared-slice-read-if1 c = search needs
@@ -39,23 +37,29 @@ shared-slice-read-if1 c = search needs
 add-stand : tie.Need-add-stand Inv-loop μ-loop
 add-stand c = search needs
 
+cast-t16 : tie.Need-cast-t16 Inv-loop μ-loop
+cast-t16 c = search needs
+
 value-at-requires : tie.Need-value-at-requires Inv-loop μ-loop
 value-at-requires c κs = search needs
 
 add-length-2 : tie.Need-add-length-2 Inv-loop μ-loop
-add-length-2 c = omega (arith, shared-short _ _ (c .before .before .before .before .before .before .before .before .before .before .pre .grows) (c .before .before .before .before .loop .stand + 1), c .value-at .ensures)
+add-length-2 c = omega (arith, shared-short _ _ (c .before .before .before .before .before .before .before .before .before .before .before .pre .grows) (c .before .before .before .before .loop .stand + 1), c .value-at .ensures)
 
 loop-less : tie.Need-loop-less Inv-loop μ-loop
 loop-less c = search needs
 
 loop-again : tie.Need-loop-again Inv-loop μ-loop
-loop-again c = stepping-more _ _ (c .before .before .before .before .before .before .before .before .before .before .pre .grows) _ _ _ _ _ _ (c .before .before .before .before .loop .inv) (search needs) (ltb-true _ _ (c .before .if1 .taken)) (c .value-at .ensures)
+loop-again c = stepping-more _ _ (c .before .before .before .before .before .before .before .before .before .before .before .pre .grows) _ _ _ _ _ _ (c .before .before .before .before .loop .inv) (search needs) (ltb-true _ _ (c .before .if1 .taken)) (c .value-at .ensures)
+
+cast-t9 : tie.Need-cast-t9 Inv-loop μ-loop
+cast-t9 c = search needs
 
 returns : tie.Need-returns Inv-loop μ-loop
-returns c = let s = c .before .before .before .before .before .before .before .before .before in stepped _ _ (s .pre .grows) (s .args .cursor) _ _ _ (c .before .before .before .loop .inv) (λ h. ltb-false _ _ (c .if1 .left))
-
-returns-2 : tie.Need-returns-2 Inv-loop μ-loop
-returns-2 c = let s = c .before .before .before .before .before .before .before in stepped _ _ (s .pre .grows) (s .args .cursor) _ _ _ (c .before .loop .inv) (λ h. absurd (omega arith))
+returns c =
+    let s = c .before .before .before .before .before .before .before .before in
+    stepped _ _ (s .pre .grows) (s .args .cursor) _ _ _ (c .before .loop .inv)
+    (λ h. ⊎-elim (λ w. ltb-false _ _ (w .2 .left)) (λ w. absurd (omega (arith, w .left))) (c .loop-test .came))
 
 pub step-spec : {M : Type 1} → statement M
 step-spec =
@@ -63,17 +67,17 @@ step-spec =
     (tie.spec
     Inv-loop
     μ-loop
-    add-t10
+    add-t9
     add-entries
-    cast-stands
+    cast-stand
     add-length
     loop-holds
-    cast-if1
     shared-slice-read-if1
     add-stand
+    cast-t16
     value-at-requires
     add-length-2
     loop-less
     loop-again
-    returns
-    returns-2)
+    cast-t9
+    returns)
