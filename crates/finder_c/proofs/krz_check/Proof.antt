@@ -5,14 +5,8 @@ use borrow.Author.Needs.{needs}
 use Rattle.finder_c.proofs.krz_check.Statement.{statement}
 use Rattle.finder_c.proofs.krz_check.Tie as tie
 
-check-requires : tie.Need-check-requires
-check-requires c κs = search needs
-
-of-requires : tie.Need-of-requires
-of-requires c κs = search needs
-
 returns : tie.Need-returns
 returns c = c .of .ensures ∙ c .before .check .ensures
 
 pub krz-check-spec : {M : Type 1} → statement M
-krz-check-spec = tie.close (tie.spec check-requires of-requires returns)
+krz-check-spec = tie.close (tie.spec (λ c κs. search needs) (λ c κs. search needs) returns)

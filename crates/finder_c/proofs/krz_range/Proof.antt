@@ -4,17 +4,8 @@ use borrow.Author.Needs.{needs}
 use Rattle.finder_c.proofs.krz_range.Statement.{statement}
 use Rattle.finder_c.proofs.krz_range.Tie as tie
 
-range-requires : tie.Need-range-requires
-range-requires c κs = search needs
-
-of-range-requires : tie.Need-of-range-requires
-of-range-requires c κs = search needs
-
-same-length : tie.Need-same-length
-same-length c = search needs
-
 returns : tie.Need-returns
 returns c = told-kept _ _ _ _ _ _ _ (c .of-range .ensures) (c .before .before .before .range .ensures)
 
 pub krz-range-spec : {M : Type 1} → statement M
-krz-range-spec = tie.close (tie.spec range-requires of-range-requires same-length returns)
+krz-range-spec = tie.close (tie.spec (λ c κs. search needs) (λ c κs. search needs) (search needs) returns)

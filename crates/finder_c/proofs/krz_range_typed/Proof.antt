@@ -4,18 +4,9 @@ use borrow.Author.Needs.{needs}
 use Rattle.finder_c.proofs.krz_range_typed.Statement.{statement}
 use Rattle.finder_c.proofs.krz_range_typed.Tie as tie
 
-range-typed-requires : tie.Need-range-typed-requires
-range-typed-requires c κs = search needs
-
-of-range-requires : tie.Need-of-range-requires
-of-range-requires c κs = search needs
-
-same-length : tie.Need-same-length
-same-length c = search needs
-
 returns : tie.Need-returns
 returns c = told-kept _ _ _ _ _ _ _ (c .of-range .ensures) (c .before .before .before .range-typed .ensures)
 
 pub krz-range-typed-spec : {M : Type 1} → statement M
 krz-range-typed-spec =
-    tie.close (tie.spec range-typed-requires of-range-requires same-length returns)
+    tie.close (tie.spec (λ c κs. search needs) (λ c κs. search needs) (search needs) returns)

@@ -5,14 +5,8 @@ use borrow.Author.Needs.{needs}
 use Rattle.finder_c.proofs.krz_region.Statement.{statement}
 use Rattle.finder_c.proofs.krz_region.Tie as tie
 
-locate-requires : tie.Need-locate-requires
-locate-requires c κs = search needs
-
-of-requires : tie.Need-of-requires
-of-requires c κs = search needs
-
 returns : tie.Need-returns
 returns c = c .of .ensures ∙ c .before .locate .ensures
 
 pub krz-region-spec : {M : Type 1} → statement M
-krz-region-spec = tie.close (tie.spec locate-requires of-requires returns)
+krz-region-spec = tie.close (tie.spec (λ c κs. search needs) (λ c κs. search needs) returns)

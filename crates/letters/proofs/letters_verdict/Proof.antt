@@ -8,9 +8,6 @@ use Rattle.letters.proofs.Ways.{over, within}
 use Rattle.letters.proofs.letters_verdict.Statement.{statement}
 use Rattle.letters.proofs.letters_verdict.Tie as tie
 
-cast-len : tie.Need-cast-len
-cast-len c = search needs
-
 returns : tie.Need-returns
 returns c = sym (over _ (c .if1 .taken))
 
@@ -20,9 +17,6 @@ array-share-prefix-text c = let size : length (c .before .before .before .args .
 slice-aggregate-text-verdict : tie.Need-slice-aggregate-text-verdict
 slice-aggregate-text-verdict c = let size : length (c .before .before .before .before .args .session .text) ≡ 24 = search needs in sym (length-take-le _ (c .before .before .before .before .args .session .text) (omega arith))
 
-text-verdict-requires : tie.Need-text-verdict-requires
-text-verdict-requires c κs = search needs
-
 returns-2 : tie.Need-returns-2
 returns-2 c = c .text-verdict .ensures ∙ sym (within _ (search needs))
 
@@ -30,9 +24,9 @@ pub letters-verdict-spec : {M : Type 1} → statement M
 letters-verdict-spec =
     tie.close
     (tie.spec
-    cast-len
+    (search needs)
     returns
     array-share-prefix-text
     slice-aggregate-text-verdict
-    text-verdict-requires
+    (λ c κs. search needs)
     returns-2)

@@ -6,29 +6,8 @@ use Rattle.letters.proofs.Ways.{range-refused, range-reached}
 use Rattle.letters.proofs.range_typed.Statement.{statement}
 use Rattle.letters.proofs.range_typed.Tie as tie
 
-letters-verdict-requires : tie.Need-letters-verdict-requires
-letters-verdict-requires c κs = search needs
-
-enum-known-why : tie.Need-enum-known-why
-enum-known-why c = search needs
-
 returns : tie.Need-returns
 returns c = range-refused _ _ _ _ _ _ (c .before .why .given .0 .0) (ap verdictNumber (sym (c .before .why .given .1)) ∙ c .before .before .before .letters-verdict .ensures)
-
-enum-told : tie.Need-enum-told
-enum-told c = search needs
-
-reached-requires : tie.Need-reached-requires
-reached-requires c κs = search needs
-
-listing-at-requires : tie.Need-listing-at-requires
-listing-at-requires c κs = search needs
-
-range-from-requires : tie.Need-range-from-requires
-range-from-requires c κs = search needs
-
-same-length : tie.Need-same-length
-same-length c = search needs
 
 returns-2 : tie.Need-returns-2
 returns-2 c =
@@ -41,12 +20,12 @@ pub range-typed-spec : {M : Type 1} → statement M
 range-typed-spec =
     tie.close
     (tie.spec
-    letters-verdict-requires
-    enum-known-why
+    (λ c κs. search needs)
+    (search needs)
     returns
-    enum-told
-    reached-requires
-    listing-at-requires
-    range-from-requires
-    same-length
+    (search needs)
+    (λ c κs. search needs)
+    (λ c κs. search needs)
+    (λ c κs. search needs)
+    (search needs)
     returns-2)

@@ -9,9 +9,6 @@ use Rattle.node.proofs.last_byte.Tie as tie
 returns : tie.Need-returns
 returns c = simp (eq-eqb _ _ (c .if1 .taken))
 
-cast-at : tie.Need-cast-at
-cast-at c = search needs
-
 mul-at : tie.Need-mul-at
 mul-at c = omega (arith, c .before .before .before .before .pre .inside (omega arith))
 
@@ -21,20 +18,11 @@ shared-slice-read-at c = omega (arith, c .before .before .before .before .before
 cast-at-2 : tie.Need-cast-at-2
 cast-at-2 c = omega (arith, c .shared-slice-known3 .given (c .before .before .before .before .before .args .stand .0))
 
-sub-wide : tie.Need-sub-wide
-sub-wide c = search needs
-
-wide-requires : tie.Need-wide-requires
-wide-requires c κs = search needs
-
 add-at : tie.Need-add-at
 add-at c = omega (arith, c .before .before .before .before .before .before .pre .inside (omega arith), c .wide .ensures)
 
 shared-slice-read-word : tie.Need-shared-slice-read-word
 shared-slice-read-word c = omega (arith, c .before .before .before .before .before .before .before .pre .inside (omega arith), c .before .wide .ensures)
-
-word-requires : tie.Need-word-requires
-word-requires c κs = search needs
 
 returns-2 : tie.Need-returns-2
 returns-2 c = c .word .ensures ∙ simp (c .before .before .wide .ensures, ne-eqb _ _ (c .before .before .before .before .before .if1 .left))
@@ -44,13 +32,13 @@ last-byte-spec =
     tie.close
     (tie.spec
     returns
-    cast-at
+    (search needs)
     mul-at
     shared-slice-read-at
     cast-at-2
-    sub-wide
-    wide-requires
+    (search needs)
+    (λ c κs. search needs)
     add-at
     shared-slice-read-word
-    word-requires
+    (λ c κs. search needs)
     returns-2)

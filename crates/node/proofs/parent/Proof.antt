@@ -8,12 +8,6 @@ use Rattle.node.proofs.parent.Tie as tie
 returns : tie.Need-returns
 returns c = simp (eq-eqb _ _ (c .if1 .taken))
 
-sub-wide : tie.Need-sub-wide
-sub-wide c = search needs
-
-wide-requires : tie.Need-wide-requires
-wide-requires c κs = search needs
-
 mul-t6 : tie.Need-mul-t6
 mul-t6 c = omega (arith, c .wide .ensures)
 
@@ -25,4 +19,4 @@ returns-2 c = simp (c .before .wide .ensures, ne-eqb _ _ (c .before .before .if1
 
 pub parent-spec : {M : Type 1} → statement M
 parent-spec =
-    tie.close (tie.spec returns sub-wide wide-requires mul-t6 element-copy-out-t9 returns-2)
+    tie.close (tie.spec returns (search needs) (λ c κs. search needs) mul-t6 element-copy-out-t9 returns-2)

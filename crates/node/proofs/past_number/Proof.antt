@@ -23,18 +23,6 @@ sum-fits c =
       omega (arith, c .word2 .ensures, c .before .before .word .ensures, c .before .before .before .value-at .ensures, c .before .grown .ensures),
     )
 
-value-at-requires : tie.Need-value-at-requires
-value-at-requires c κs = search needs
-
-word-requires : tie.Need-word-requires
-word-requires c κs = search needs
-
-grown-requires : tie.Need-grown-requires
-grown-requires c κs = search needs
-
-word-requires-2 : tie.Need-word-requires-2
-word-requires-2 c κs = search needs
-
 add-t11 : tie.Need-add-t11
 add-t11 c = omega (arith, sum-fits (c .before))
 
@@ -54,10 +42,10 @@ pub past-number-spec : {M : Type 1} → statement M
 past-number-spec =
     tie.close
     (tie.spec
-    value-at-requires
-    word-requires
-    grown-requires
-    word-requires-2
+    (λ c κs. search needs)
+    (λ c κs. search needs)
+    (λ c κs. search needs)
+    (λ c κs. search needs)
     add-t11
     add-t12
     add-t13

@@ -20,12 +20,6 @@ past-number-requires c κs =
     let after = past-after _ _ (p .grows) _ _ _ (p .past) in
     record { grows = p .grows; run = (after .0, p .within); low = p .low; long = p .on .long; some = after .1 }
 
-low-word-requires : tie.Need-low-word-requires
-low-word-requires c κs = search needs
-
-high-word-requires : tie.Need-high-word-requires
-high-word-requires c κs = search needs
-
 returns : tie.Need-returns
 returns c =
     λ test e.
@@ -42,6 +36,6 @@ row-spec =
     parent-requires
     last-byte-requires
     past-number-requires
-    low-word-requires
-    high-word-requires
+    (λ c κs. search needs)
+    (λ c κs. search needs)
     returns)

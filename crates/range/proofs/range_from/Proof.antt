@@ -6,29 +6,8 @@ use borrow.Author.Needs.{needs}
 use Rattle.range.proofs.range_from.Statement.{statement}
 use Rattle.range.proofs.range_from.Tie as tie
 
-rect-lawful-requires : tie.Need-rect-lawful-requires
-rect-lawful-requires c κs = search needs
-
 returns : tie.Need-returns
 returns c = from-11 _ _ _ _ _ _ _ _ (breaks _ _ (c .before .rect-lawful .ensures) (c .if1 .taken))
-
-enum-known-at : tie.Need-enum-known-at
-enum-known-at c = search needs
-
-range-listed-requires : tie.Need-range-listed-requires
-range-listed-requires c κs = search needs
-
-enum-told : tie.Need-enum-told
-enum-told c = search needs
-
-enum-told-2 : tie.Need-enum-told-2
-enum-told-2 c = search needs
-
-unlawful-requires : tie.Need-unlawful-requires
-unlawful-requires c κs = search needs
-
-same-length : tie.Need-same-length
-same-length c = search needs
 
 returns-2 : tie.Need-returns-2
 returns-2 c =
@@ -47,14 +26,14 @@ pub range-from-spec : {M : Type 1} → statement M
 range-from-spec =
     tie.close
     (tie.spec
-    rect-lawful-requires
+    (λ c κs. search needs)
     returns
-    enum-known-at
-    range-listed-requires
-    enum-told
-    enum-told-2
-    unlawful-requires
-    same-length
+    (search needs)
+    (λ c κs. search needs)
+    (search needs)
+    (search needs)
+    (λ c κs. search needs)
+    (search needs)
     returns-2
     returns-3
     returns-4)

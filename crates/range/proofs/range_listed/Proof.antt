@@ -8,32 +8,11 @@ use borrow.Author.Needs.{needs}
 use Rattle.range.proofs.range_listed.Statement.{statement}
 use Rattle.range.proofs.range_listed.Tie as tie
 
-lawful-requires : tie.Need-lawful-requires
-lawful-requires c κs = search needs
-
-unlawful-requires : tie.Need-unlawful-requires
-unlawful-requires c κs = search needs
-
 returns : tie.Need-returns
 returns c = grid-breaks _ _ _ _ _ _ _ _ _ _ (c .unlawful .ensures) (breaks _ _ (c .before .before .lawful .ensures) (c .before .if1 .taken))
 
-agree-requires : tie.Need-agree-requires
-agree-requires c κs = search needs
-
-unlawful-requires-2 : tie.Need-unlawful-requires-2
-unlawful-requires-2 c κs = search needs
-
 returns-2 : tie.Need-returns-2
 returns-2 c = parts-break _ _ _ _ _ _ _ _ _ (holds _ _ (c .before .before .before .before .lawful .ensures) (c .before .before .before .if1 .left)) _ (c .unlawful2 .ensures) (breaks _ _ (c .before .before .agree .ensures) (c .before .if2 .taken))
-
-count-requires : tie.Need-count-requires
-count-requires c κs = search needs
-
-note-requires : tie.Need-note-requires
-note-requires c κs = search needs
-
-unlawful-requires-3 : tie.Need-unlawful-requires-3
-unlawful-requires-3 c κs = search needs
 
 returns-3 : tie.Need-returns-3
 unfolding blank
@@ -42,15 +21,9 @@ returns-3 c = notes-break _ _ _ _ _ _ _ _ _ (holds _ _ (c .before .before .befor
 cells-of-requires : tie.Need-cells-of-requires
 cells-of-requires c κs = holds _ _ (c .before .before .before .before .before .before .before .before .lawful .ensures) (c .before .before .before .before .before .before .before .if1 .left)
 
-both-requires : tie.Need-both-requires
-both-requires c κs = search needs
-
 fill-requires : tie.Need-fill-requires
 unfolding blank
 fill-requires c κs = notes-ready _ _ _ _ _ _ _ _ _ (c .before .before .before .before .before .before .note .ensures) (holds _ _ (c .before .before .before .before .before .before .before .before .before .before .before .agree .ensures) (c .before .before .before .before .before .before .before .before .before .before .if2 .left))
-
-same-length : tie.Need-same-length
-same-length c = search needs
 
 returns-4 : tie.Need-returns-4
 unfolding blank
@@ -60,18 +33,18 @@ pub range-listed-spec : {M : Type 1} → statement M
 range-listed-spec =
     tie.close
     (tie.spec
-    lawful-requires
-    unlawful-requires
+    (λ c κs. search needs)
+    (λ c κs. search needs)
     returns
-    agree-requires
-    unlawful-requires-2
+    (λ c κs. search needs)
+    (λ c κs. search needs)
     returns-2
-    count-requires
-    note-requires
-    unlawful-requires-3
+    (λ c κs. search needs)
+    (λ c κs. search needs)
+    (λ c κs. search needs)
     returns-3
     cells-of-requires
-    both-requires
+    (λ c κs. search needs)
     fill-requires
-    same-length
+    (search needs)
     returns-4)

@@ -5,9 +5,6 @@ use Rattle.ranked.proofs.Limits.{off-grid, weight-over, none-asked, cou
 use Rattle.ranked.proofs.rankable.Statement.{statement}
 use Rattle.ranked.proofs.rankable.Tie as tie
 
-holds-requires : tie.Need-holds-requires
-holds-requires c κs = search needs
-
 returns : tie.Need-returns
 returns c = off-grid _ _ (breaks _ _ (c .before .holds .ensures) (c .if1 .taken))
 
@@ -21,4 +18,4 @@ returns-4 : tie.Need-returns-4
 returns-4 c = count-decides _ _ (holds _ _ (c .before .before .before .before .before .before .holds .ensures) (c .before .before .before .before .before .if1 .left)) (c .before .before .before .if2 .left) (c .before .if3 .left)
 
 pub rankable-spec : {M : Type 1} → statement M
-rankable-spec = tie.close (tie.spec holds-requires returns returns-2 returns-3 returns-4)
+rankable-spec = tie.close (tie.spec (λ c κs. search needs) returns returns-2 returns-3 returns-4)

@@ -6,29 +6,8 @@ use Rattle.ranked.proofs.Ways.{of-refused, of-listed}
 use Rattle.ranked.proofs.ranked.Statement.{statement}
 use Rattle.ranked.proofs.ranked.Tie as tie
 
-text-verdict-requires : tie.Need-text-verdict-requires
-text-verdict-requires c κs = search needs
-
-enum-known-why : tie.Need-enum-known-why
-enum-known-why c = search needs
-
 returns : tie.Need-returns
 returns c = of-refused _ _ _ _ _ _ _ (c .before .why .given .0 .0) (ap verdictNumber (sym (c .before .why .given .1)) ∙ c .before .before .before .text-verdict .ensures)
-
-enum-told : tie.Need-enum-told
-enum-told c = search needs
-
-listing-of-requires : tie.Need-listing-of-requires
-listing-of-requires c κs = search needs
-
-ranked-from-requires : tie.Need-ranked-from-requires
-ranked-from-requires c κs = search needs
-
-same-length : tie.Need-same-length
-same-length c = search needs
-
-same-length-2 : tie.Need-same-length-2
-same-length-2 c = search needs
 
 returns-2 : tie.Need-returns-2
 returns-2 c =
@@ -38,12 +17,12 @@ pub ranked-spec : {M : Type 1} → statement M
 ranked-spec =
     tie.close
     (tie.spec
-    text-verdict-requires
-    enum-known-why
+    (λ c κs. search needs)
+    (search needs)
     returns
-    enum-told
-    listing-of-requires
-    ranked-from-requires
-    same-length
-    same-length-2
+    (search needs)
+    (λ c κs. search needs)
+    (λ c κs. search needs)
+    (search needs)
+    (search needs)
     returns-2)

@@ -15,14 +15,8 @@ searchable c =
       values-fit = c .before .before .if3 .left;
     }
 
-rankable-requires : tie.Need-rankable-requires
-rankable-requires c κs = search needs
-
 returns : tie.Need-returns
 returns c = from-12 _ _ _ _ _ _ _ _ (breaks _ _ (c .before .rankable .ensures) (c .if1 .taken))
-
-cast-k : tie.Need-cast-k
-cast-k c = search needs
 
 returns-2 : tie.Need-returns-2
 returns-2 c = from-short-found _ _ _ _ _ _ _ _ (holds _ _ (c .before .before .before .rankable .ensures) (c .before .before .if1 .left)) (c .if2 .taken)
@@ -30,29 +24,11 @@ returns-2 c = from-short-found _ _ _ _ _ _ _ _ (holds _ _ (c .before .before .be
 returns-3 : tie.Need-returns-3
 returns-3 c = from-short-values _ _ _ _ _ _ _ _ (holds _ _ (c .before .before .before .before .rankable .ensures) (c .before .before .before .if1 .left)) (c .before .if2 .left) (c .if3 .taken)
 
-lawful-requires : tie.Need-lawful-requires
-lawful-requires c κs = search needs
-
 returns-4 : tie.Need-returns-4
 returns-4 c = from-unlawful _ _ _ _ _ _ _ _ (breaks _ _ (c .before .lawful .ensures) (c .if4 .taken))
 
-enum-known-at : tie.Need-enum-known-at
-enum-known-at c = search needs
-
 best-listed-requires : tie.Need-best-listed-requires
 best-listed-requires c κs = searchable (c .before .before .before .before .before)
-
-enum-told : tie.Need-enum-told
-enum-told c = search needs
-
-enum-told-2 : tie.Need-enum-told-2
-enum-told-2 c = search needs
-
-same-length : tie.Need-same-length
-same-length c = search needs
-
-same-length-2 : tie.Need-same-length-2
-same-length-2 c = search needs
 
 returns-5 : tie.Need-returns-5
 returns-5 c = from-entries _ _ _ _ _ _ _ _ (searchable (c .before .before .before .before .before .before .before .before .before .before)) _ _ _ (c .before .before .before .before .before .before .before .before .at .given .1) (c .before .before .before .before .best-listed .ensures)
@@ -67,19 +43,19 @@ pub ranked-from-spec : {M : Type 1} → statement M
 ranked-from-spec =
     tie.close
     (tie.spec
-    rankable-requires
+    (λ c κs. search needs)
     returns
-    cast-k
+    (search needs)
     returns-2
     returns-3
-    lawful-requires
+    (λ c κs. search needs)
     returns-4
-    enum-known-at
+    (search needs)
     best-listed-requires
-    enum-told
-    enum-told-2
-    same-length
-    same-length-2
+    (search needs)
+    (search needs)
+    (search needs)
+    (search needs)
     returns-5
     returns-6
     returns-7)

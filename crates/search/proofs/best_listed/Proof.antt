@@ -6,15 +6,6 @@ use Rattle.search.proofs.Answering.{broken-words, found-best}
 use Rattle.search.proofs.best_listed.Statement.{statement}
 use Rattle.search.proofs.best_listed.Tie as tie
 
-count-requires : tie.Need-count-requires
-count-requires c κs = search needs
-
-take-entries-requires : tie.Need-take-entries-requires
-take-entries-requires c κs = search needs
-
-enum-known-len : tie.Need-enum-known-len
-enum-known-len c = search needs
-
 write-held-requires : tie.Need-write-held-requires
 write-held-requires c κs =
     let h = held-is _ _ _ _ (c .before .before .before .before .before .before .take-entries .ensures) _ (c .before .before .before .before .len .given .1) .1 in
@@ -23,15 +14,6 @@ write-held-requires c κs =
 
 cast-t24 : tie.Need-cast-t24
 cast-t24 c = let h = held-is _ _ _ _ (c .before .before .before .before .before .before .before .before .before .before .before .take-entries .ensures) _ (c .before .before .before .before .before .before .before .before .before .len .given .1) .1 in omega (arith, h .within, h .fits)
-
-enum-told : tie.Need-enum-told
-enum-told c = search needs
-
-same-length : tie.Need-same-length
-same-length c = search needs
-
-same-length-2 : tie.Need-same-length-2
-same-length-2 c = search needs
 
 returns : tie.Need-returns
 returns c =
@@ -47,13 +29,13 @@ pub best-listed-spec : {M : Type 1} → statement M
 best-listed-spec =
     tie.close
     (tie.spec
-    count-requires
-    take-entries-requires
-    enum-known-len
+    (λ c κs. search needs)
+    (λ c κs. search needs)
+    (search needs)
     write-held-requires
     cast-t24
-    enum-told
-    same-length
-    same-length-2
+    (search needs)
+    (search needs)
+    (search needs)
     returns
     returns-2)

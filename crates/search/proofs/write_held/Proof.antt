@@ -15,39 +15,15 @@ abbrev μ-loop : tie.MeasureT-loop
 loop-holds : tie.Need-loop-holds Inv-loop μ-loop
 loop-holds c = write-begin _ _ _ _ (c .before .before .pre)
 
-mul-key : tie.Need-mul-key Inv-loop μ-loop
-mul-key c = search needs
-
-element-copy-out-key : tie.Need-element-copy-out-key Inv-loop μ-loop
-element-copy-out-key c = search needs
-
-stand-of-requires : tie.Need-stand-of-requires Inv-loop μ-loop
-stand-of-requires c κs = search needs
-
-mul-found : tie.Need-mul-found Inv-loop μ-loop
-mul-found c = search needs
-
 slice-write-found : tie.Need-slice-write-found Inv-loop μ-loop
 slice-write-found c =
     let w = c .before .before .before .loop .inv in
     omega (arith, stands-long _ _ _ _ _ _ _ w, w .fits .stands-fit)
 
-value-of-requires : tie.Need-value-of-requires Inv-loop μ-loop
-value-of-requires c κs = search needs
-
-mul-values : tie.Need-mul-values Inv-loop μ-loop
-mul-values c = search needs
-
 slice-write-values : tie.Need-slice-write-values Inv-loop μ-loop
 slice-write-values c =
     let w = c .before .before .before .before .loop .inv in
     omega (arith, values-long _ _ _ _ _ _ _ w, w .fits .values-fit)
-
-add-i : tie.Need-add-i Inv-loop μ-loop
-add-i c = search needs
-
-loop-less : tie.Need-loop-less Inv-loop μ-loop
-loop-less c = search needs
 
 loop-again : tie.Need-loop-again Inv-loop μ-loop
 loop-again c = rw (c .before .stand-of .ensures, c .value-of .ensures) (write-next _ _ _ _ _ _ _ (c .before .before .before .before .loop .inv) (c .before .before .before .loop-test .taken))
@@ -68,16 +44,16 @@ write-held-spec =
     Inv-loop
     μ-loop
     loop-holds
-    mul-key
-    element-copy-out-key
-    stand-of-requires
-    mul-found
+    (search needs)
+    (search needs)
+    (λ c κs. search needs)
+    (search needs)
     slice-write-found
-    value-of-requires
-    mul-values
+    (λ c κs. search needs)
+    (search needs)
     slice-write-values
-    add-i
-    loop-less
+    (search needs)
+    (search needs)
     loop-again
     same-length
     same-length-2

@@ -14,23 +14,8 @@ returns c = sym (led-over _ _ _ _ (c .if1 .taken))
 returns-2 : tie.Need-returns-2
 returns-2 c = sym (led-full _ _ _ _ (c .if2 .taken))
 
-allowed-requires : tie.Need-allowed-requires
-allowed-requires c κs = search needs
-
 returns-3 : tie.Need-returns-3
 returns-3 c = sym (led-unallowed _ _ _ _ (omega arith) (breaks _ _ (c .before .allowed .ensures) (c .if3 .taken)))
-
-next-requires : tie.Need-next-requires
-next-requires c κs = search needs
-
-enum-known-node : tie.Need-enum-known-node
-enum-known-node c = search needs
-
-enum-told : tie.Need-enum-told
-enum-told c = search needs
-
-enum-told-2 : tie.Need-enum-told-2
-enum-told-2 c = search needs
 
 returns-4 : tie.Need-returns-4
 returns-4 c = sym (led-on _ _ _ _ (omega arith) (holds _ _ (c .before .before .before .before .before .allowed .ensures) (c .before .before .before .before .if3 .left)) ∙ ap ledTo (sym (c .before .before .before .next .ensures) ∙ c .before .node .given .1))
@@ -47,12 +32,12 @@ leads-spec =
     (tie.spec
     returns
     returns-2
-    allowed-requires
+    (λ c κs. search needs)
     returns-3
-    next-requires
-    enum-known-node
-    enum-told
-    enum-told-2
+    (λ c κs. search needs)
+    (search needs)
+    (search needs)
+    (search needs)
     returns-4
     returns-5
     returns-6)

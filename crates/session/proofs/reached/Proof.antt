@@ -5,20 +5,8 @@ use Rattle.session.proofs.Steps.{reached-over, reached-nowhere, reached
 use Rattle.session.proofs.reached.Statement.{statement}
 use Rattle.session.proofs.reached.Tie as tie
 
-cast-len : tie.Need-cast-len
-cast-len c = search needs
-
 returns : tie.Need-returns
 returns c = sym (reached-over _ (c .if1 .taken))
-
-mul-node : tie.Need-mul-node
-mul-node c = search needs
-
-element-copy-out-node : tie.Need-element-copy-out-node
-element-copy-out-node c = search needs
-
-lost-requires : tie.Need-lost-requires
-lost-requires c κs = search needs
 
 returns-2 : tie.Need-returns-2
 returns-2 c = sym (reached-nowhere _ (search needs) (sym (c .before .lost .ensures) ∙ c .if2 .taken))
@@ -29,4 +17,4 @@ returns-3 c = sym (reached-node _ (search needs) (sym (c .before .lost .ensures)
 pub reached-spec : {M : Type 1} → statement M
 reached-spec =
     tie.close
-    (tie.spec cast-len returns mul-node element-copy-out-node lost-requires returns-2 returns-3)
+    (tie.spec (search needs) returns (search needs) (search needs) (λ c κs. search needs) returns-2 returns-3)

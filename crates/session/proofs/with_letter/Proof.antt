@@ -9,21 +9,6 @@ use Rattle.session.proofs.Steps.{led-room, typed-led}
 use Rattle.session.proofs.with_letter.Statement.{statement}
 use Rattle.session.proofs.with_letter.Tie as tie
 
-cast-len : tie.Need-cast-len
-cast-len c = search needs
-
-mul-last : tie.Need-mul-last
-mul-last c = search needs
-
-element-copy-out-last : tie.Need-element-copy-out-last
-element-copy-out-last c = search needs
-
-leads-requires : tie.Need-leads-requires
-leads-requires c κs = search needs
-
-enum-known-node : tie.Need-enum-known-node
-enum-known-node c = search needs
-
 -- what is typed comes to, by where the letter leads
 led : (c : tie.After-leads) → let a = c .before .before .before .args in typedOn (a .nodes .now) (a .session) (a .byte) ≡ struck (a .session) (a .byte) (c .leads .result)
 led c =
@@ -39,20 +24,11 @@ room c = led-room _ _ _ _ _ (sym (c .before .before .before .leads .ensures) ∙
 element-write-after : tie.Need-element-write-after
 element-write-after c = room c
 
-add-after : tie.Need-add-after
-add-after c = search needs
-
-mul-after : tie.Need-mul-after
-mul-after c = search needs
-
 element-write-after-2 : tie.Need-element-write-after-2
 element-write-after-2 c = omega (arith, room c)
 
 add-after-2 : tie.Need-add-after-2
 add-after-2 c = record { fits = omega (arith, room c) }
-
-enum-known-why : tie.Need-enum-known-why
-enum-known-why c = search needs
 
 returns : tie.Need-returns
 unfolding lengthened
@@ -65,16 +41,16 @@ pub with-letter-spec : {M : Type 1} → statement M
 with-letter-spec =
     tie.close
     (tie.spec
-    cast-len
-    mul-last
-    element-copy-out-last
-    leads-requires
-    enum-known-node
+    (search needs)
+    (search needs)
+    (search needs)
+    (λ c κs. search needs)
+    (search needs)
     element-write-after
-    add-after
-    mul-after
+    (search needs)
+    (search needs)
     element-write-after-2
     add-after-2
-    enum-known-why
+    (search needs)
     returns
     returns-2)

@@ -7,14 +7,8 @@ use Rattle.rules.proofs.Lawful.{refused-shape, refused-grid, refused-name, refu
 use Rattle.table.proofs.table_refusal.Statement.{statement}
 use Rattle.table.proofs.table_refusal.Tie as tie
 
-shape-lawful-requires : tie.Need-shape-lawful-requires
-shape-lawful-requires c κs = search needs
-
 returns : tie.Need-returns
 returns c = refused-shape _ _ (breaks _ _ (c .before .shape-lawful .ensures) (c .if1 .taken))
-
-lawful-requires : tie.Need-lawful-requires
-lawful-requires c κs = search needs
 
 returns-2 : tie.Need-returns-2
 returns-2 c = refused-grid _ _ (search (needs, holds)) (breaks _ _ (c .before .lawful .ensures) (c .if2 .taken))
@@ -22,14 +16,8 @@ returns-2 c = refused-grid _ _ (search (needs, holds)) (breaks _ _ (c .before .l
 cast-stands : tie.Need-cast-stands
 cast-stands c = omega (arith, shape-parts _ (holds _ _ (c .before .before .before .shape-lawful .ensures) (c .before .before .if1 .left)) .few)
 
-names-allowed-requires : tie.Need-names-allowed-requires
-names-allowed-requires c κs = search needs
-
 returns-3 : tie.Need-returns-3
 returns-3 c = refused-name _ _ (search (needs, holds)) (search (needs, holds)) (breaks _ _ (c .before .names-allowed .ensures) (c .if3 .taken))
-
-names-in-order-requires : tie.Need-names-in-order-requires
-names-in-order-requires c κs = search needs
 
 returns-4 : tie.Need-returns-4
 returns-4 c = refused-order _ _ (search (needs, holds)) (search (needs, holds)) (search (needs, holds)) (breaks _ _ (c .before .names-in-order .ensures) (c .if4 .taken))
@@ -49,14 +37,14 @@ pub table-refusal-spec : {M : Type 1} → statement M
 table-refusal-spec =
     tie.close
     (tie.spec
-    shape-lawful-requires
+    (λ c κs. search needs)
     returns
-    lawful-requires
+    (λ c κs. search needs)
     returns-2
     cast-stands
-    names-allowed-requires
+    (λ c κs. search needs)
     returns-3
-    names-in-order-requires
+    (λ c κs. search needs)
     returns-4
     stands-lawful-requires
     returns-5

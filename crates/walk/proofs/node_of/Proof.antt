@@ -16,32 +16,11 @@ abbrev μ-loop : tie.MeasureT-loop
 loop-holds : tie.Need-loop-holds Inv-loop μ-loop
 loop-holds c = walk-begins _ _
 
-shared-slice-read-child-of : tie.Need-shared-slice-read-child-of Inv-loop μ-loop
-shared-slice-read-child-of c = search needs
-
-child-of-requires : tie.Need-child-of-requires Inv-loop μ-loop
-child-of-requires c κs = search needs
-
-enum-known-below : tie.Need-enum-known-below Inv-loop μ-loop
-enum-known-below c = search needs
-
-enum-told : tie.Need-enum-told Inv-loop μ-loop
-enum-told c = search needs
-
 returns : tie.Need-returns Inv-loop μ-loop
 returns c = walk-stops _ _ _ _ (c .before .before .before .before .before .loop .inv) (c .before .before .before .before .loop-test .taken) (sym (c .before .before .child-of .ensures) ∙ c .enum-told .given .1)
 
-enum-told-2 : tie.Need-enum-told-2 Inv-loop μ-loop
-enum-told-2 c = search needs
-
 returns-2 : tie.Need-returns-2 Inv-loop μ-loop
 returns-2 c = walk-breaks _ _ _ _ (c .before .before .before .before .before .loop .inv) (c .before .before .before .before .loop-test .taken) (sym (c .before .before .child-of .ensures) ∙ c .enum-told2 .given .1)
-
-add-i : tie.Need-add-i Inv-loop μ-loop
-add-i c = search needs
-
-loop-less : tie.Need-loop-less Inv-loop μ-loop
-loop-less c = search needs
 
 loop-again : tie.Need-loop-again Inv-loop μ-loop
 loop-again c = walk-on _ _ _ _ (c .before .before .before .before .before .before .loop .inv) (c .before .before .before .before .before .loop-test .taken) _ (sym (c .before .before .before .child-of .ensures) ∙ c .before .below .given .1)
@@ -56,14 +35,14 @@ node-of-spec =
     Inv-loop
     μ-loop
     loop-holds
-    shared-slice-read-child-of
-    child-of-requires
-    enum-known-below
-    enum-told
+    (search needs)
+    (λ c κs. search needs)
+    (search needs)
+    (search needs)
     returns
-    enum-told-2
+    (search needs)
     returns-2
-    add-i
-    loop-less
+    (search needs)
+    (search needs)
     loop-again
     returns-3)

@@ -4,15 +4,6 @@ use borrow.Author.Needs.{needs}
 use Rattle.finder_c.proofs.Located.of.Statement.{statement}
 use Rattle.finder_c.proofs.Located.of.Tie as tie
 
-enum-known-answer : tie.Need-enum-known-answer
-enum-known-answer c = search needs
-
-enum-known-answer-2 : tie.Need-enum-known-answer-2
-enum-known-answer-2 c = search needs
-
-number-requires : tie.Need-number-requires
-number-requires c κs = search needs
-
 returns : tie.Need-returns
 returns c = rw (c .before .answer .given .1)
 
@@ -21,4 +12,4 @@ returns-2 c = rw (c .before .before .answer2 .given .1, c .number .ensures)
 
 pub of-spec : {M : Type 1} → statement M
 of-spec =
-    tie.close (tie.spec enum-known-answer enum-known-answer-2 number-requires returns returns-2)
+    tie.close (tie.spec (search needs) (search needs) (λ c κs. search needs) returns returns-2)

@@ -12,9 +12,6 @@ use Rattle.node.proofs.cursor.advance.Tie as tie
 length-room : (c : tie.After-wide) → c .wide .result < 25
 length-room c = let s = c .before .before .before .before in omega (arith, s .pre .step .on .long, length-short _ _ (s .pre .step .grows) (s .args .cursor .stand .0), c .wide .ensures)
 
-wide-requires : tie.Need-wide-requires
-wide-requires c κs = search needs
-
 mul-path : tie.Need-mul-path
 mul-path c = omega (arith, length-room c)
 
@@ -39,4 +36,4 @@ returns c =
 pub advance-spec : {M : Type 1} → statement M
 advance-spec =
     tie.close
-    (tie.spec wide-requires mul-path element-write-path step-requires pass-requires returns)
+    (tie.spec (λ c κs. search needs) mul-path element-write-path step-requires pass-requires returns)

@@ -15,26 +15,8 @@ abbrev μ-loop : tie.MeasureT-loop
 loop-holds : tie.Need-loop-holds Inv-loop μ-loop
 loop-holds c = passing _ _ _ _ (search needs) (search needs)
 
-region-at-requires : tie.Need-region-at-requires Inv-loop μ-loop
-region-at-requires c κs = search needs
-
-mul-next : tie.Need-mul-next Inv-loop μ-loop
-mul-next c = search needs
-
-element-copy-out-next : tie.Need-element-copy-out-next Inv-loop μ-loop
-element-copy-out-next c = search needs
-
 add-next : tie.Need-add-next Inv-loop μ-loop
 add-next c = omega (arith, next-small _ _ (c .before .before .before .loop .stand) (c .before .region-at .result) (c .before .before .before .before .before .pre .placed) (c .before .before .before .loop .inv .places) (search needs) (c .before .region-at .ensures .1))
-
-element-write-next : tie.Need-element-write-next Inv-loop μ-loop
-element-write-next c = search needs
-
-add-stand : tie.Need-add-stand Inv-loop μ-loop
-add-stand c = search needs
-
-loop-less : tie.Need-loop-less Inv-loop μ-loop
-loop-less c = search needs
 
 loop-again : tie.Need-loop-again Inv-loop μ-loop
 loop-again c = passing-more _ _ _ _ _ _ (c .before .before .before .loop .inv) (search needs) (c .before .region-at .ensures .0) (c .before .region-at .ensures .1)
@@ -49,12 +31,12 @@ pass-spec =
     Inv-loop
     μ-loop
     loop-holds
-    region-at-requires
-    mul-next
-    element-copy-out-next
+    (λ c κs. search needs)
+    (search needs)
+    (search needs)
     add-next
-    element-write-next
-    add-stand
-    loop-less
+    (search needs)
+    (search needs)
+    (search needs)
     loop-again
     returns)

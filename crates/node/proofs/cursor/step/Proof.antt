@@ -16,44 +16,17 @@ Inv-loop lengths shared held number entries stand₀ length₀ stand length = St
 abbrev μ-loop : tie.MeasureT-loop
 μ-loop lengths shared held number entries stand₀ length₀ stand len = length lengths - stand
 
-add-t9 : tie.Need-add-t9 Inv-loop μ-loop
-add-t9 c = search needs
-
-add-entries : tie.Need-add-entries Inv-loop μ-loop
-add-entries c = search needs
-
-cast-stand : tie.Need-cast-stand Inv-loop μ-loop
-cast-stand c = search needs
-
 add-length : tie.Need-add-length Inv-loop μ-loop
 add-length c = let s = c .before .before .before .before .before .before in omega (arith, s .pre .on .long, length-short _ _ (s .pre .grows) (s .args .cursor .stand .0))
 
 loop-holds : tie.Need-loop-holds Inv-loop μ-loop
 loop-holds c = let s = c .before .before .before .before .before .before in stepping _ _ (s .pre .grows) (s .args .cursor) (s .pre .on)
 
-shared-slice-read-if1 : tie.Need-shared-slice-read-if1 Inv-loop μ-loop
-shared-slice-read-if1 c = search needs
-
-add-stand : tie.Need-add-stand Inv-loop μ-loop
-add-stand c = search needs
-
-cast-t16 : tie.Need-cast-t16 Inv-loop μ-loop
-cast-t16 c = search needs
-
-value-at-requires : tie.Need-value-at-requires Inv-loop μ-loop
-value-at-requires c κs = search needs
-
 add-length-2 : tie.Need-add-length-2 Inv-loop μ-loop
 add-length-2 c = omega (arith, shared-short _ _ (c .before .before .before .before .before .before .before .before .before .before .before .pre .grows) (c .before .before .before .before .loop .stand + 1), c .value-at .ensures)
 
-loop-less : tie.Need-loop-less Inv-loop μ-loop
-loop-less c = search needs
-
 loop-again : tie.Need-loop-again Inv-loop μ-loop
 loop-again c = stepping-more _ _ (c .before .before .before .before .before .before .before .before .before .before .before .pre .grows) _ _ _ _ _ _ (c .before .before .before .before .loop .inv) (search needs) (ltb-true _ _ (c .before .if1 .taken)) (c .value-at .ensures)
-
-cast-t9 : tie.Need-cast-t9 Inv-loop μ-loop
-cast-t9 c = search needs
 
 returns : tie.Need-returns Inv-loop μ-loop
 returns c =
@@ -67,17 +40,17 @@ step-spec =
     (tie.spec
     Inv-loop
     μ-loop
-    add-t9
-    add-entries
-    cast-stand
+    (search needs)
+    (search needs)
+    (search needs)
     add-length
     loop-holds
-    shared-slice-read-if1
-    add-stand
-    cast-t16
-    value-at-requires
+    (search needs)
+    (search needs)
+    (search needs)
+    (λ c κs. search needs)
     add-length-2
-    loop-less
+    (search needs)
     loop-again
-    cast-t9
+    (search needs)
     returns)

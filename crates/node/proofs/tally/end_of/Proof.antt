@@ -14,32 +14,14 @@ Inv-loop shared bytes first past₀ past = Ending shared first bytes past
 abbrev μ-loop : tie.MeasureT-loop
 μ-loop shared bytes first past₀ past = length shared - past
 
-cast-first : tie.Need-cast-first Inv-loop μ-loop
-cast-first c = search needs
-
 returns : tie.Need-returns Inv-loop μ-loop
 returns c = ended _ _ _ (c .if1 .taken) (search needs)
-
-add-past : tie.Need-add-past Inv-loop μ-loop
-add-past c = search needs
 
 loop-holds : tie.Need-loop-holds Inv-loop μ-loop
 loop-holds c = ending _ _ _ (search needs)
 
-shared-slice-read-if2 : tie.Need-shared-slice-read-if2 Inv-loop μ-loop
-shared-slice-read-if2 c = search needs
-
-add-past-2 : tie.Need-add-past-2 Inv-loop μ-loop
-add-past-2 c = search needs
-
-loop-less : tie.Need-loop-less Inv-loop μ-loop
-loop-less c = search needs
-
 loop-again : tie.Need-loop-again Inv-loop μ-loop
 loop-again c = ending-more _ _ _ _ (c .before .before .before .loop .inv) (search needs) (leb-true _ _ (c .if2 .taken))
-
-cast-t13 : tie.Need-cast-t13 Inv-loop μ-loop
-cast-t13 c = search needs
 
 returns-2 : tie.Need-returns-2 Inv-loop μ-loop
 returns-2 c =
@@ -52,13 +34,13 @@ end-of-spec =
     (tie.spec
     Inv-loop
     μ-loop
-    cast-first
+    (search needs)
     returns
-    add-past
+    (search needs)
     loop-holds
-    shared-slice-read-if2
-    add-past-2
-    loop-less
+    (search needs)
+    (search needs)
+    (search needs)
     loop-again
-    cast-t13
+    (search needs)
     returns-2)

@@ -15,20 +15,8 @@ abbrev μ-loop : tie.MeasureT-loop
 loop-holds : tie.Need-loop-holds Inv-loop μ-loop
 loop-holds c = growing _ _ _ _ (search needs)
 
-cast-row : tie.Need-cast-row Inv-loop μ-loop
-cast-row c = search needs
-
-shared-slice-read-word : tie.Need-shared-slice-read-word Inv-loop μ-loop
-shared-slice-read-word c = search needs
-
-shared-slice-read-word-2 : tie.Need-shared-slice-read-word-2 Inv-loop μ-loop
-shared-slice-read-word-2 c = search needs
-
 sub-word : tie.Need-sub-word Inv-loop μ-loop
 sub-word c = c .before .before .before .before .before .before .pre .0 .part (c .before .before .before .loop .stand) (search needs)
-
-word-requires : tie.Need-word-requires Inv-loop μ-loop
-word-requires c κs = search needs
 
 add-sum : tie.Need-add-sum Inv-loop μ-loop
 add-sum c =
@@ -36,12 +24,6 @@ add-sum c =
       arith,
       growing-fits _ _ _ _ _ _ _ (c .before .before .before .before .before .before .before .pre .0) (search needs) (c .before .before .before .before .loop .inv) (search needs) (c .word .ensures),
     )
-
-add-stand : tie.Need-add-stand Inv-loop μ-loop
-add-stand c = search needs
-
-loop-less : tie.Need-loop-less Inv-loop μ-loop
-loop-less c = search needs
 
 loop-again : tie.Need-loop-again Inv-loop μ-loop
 loop-again c = growing-more _ _ _ _ _ _ _ (c .before .before .before .before .loop .inv) (search needs) (c .word .ensures)
@@ -56,13 +38,13 @@ grown-spec =
     Inv-loop
     μ-loop
     loop-holds
-    cast-row
-    shared-slice-read-word
-    shared-slice-read-word-2
+    (search needs)
+    (search needs)
+    (search needs)
     sub-word
-    word-requires
+    (λ c κs. search needs)
     add-sum
-    add-stand
-    loop-less
+    (search needs)
+    (search needs)
     loop-again
     returns)

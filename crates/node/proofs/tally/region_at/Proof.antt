@@ -4,17 +4,8 @@ use native.Mathlib.Omega.{arith}
 use Rattle.node.proofs.tally.region_at.Statement.{statement}
 use Rattle.node.proofs.tally.region_at.Tie as tie
 
-cast-wide : tie.Need-cast-wide
-cast-wide c = search needs
-
-shared-slice-read-wide : tie.Need-shared-slice-read-wide
-shared-slice-read-wide c = search needs
-
-wide-requires : tie.Need-wide-requires
-wide-requires c κs = search needs
-
 returns : tie.Need-returns
 returns c = (c .wide .ensures, omega (arith, c .before .before .before .before .pre .0 .inside (c .before .before .before .before .args .stand .0) (search needs), c .wide .ensures))
 
 pub region-at-spec : {M : Type 1} → statement M
-region-at-spec = tie.close (tie.spec cast-wide shared-slice-read-wide wide-requires returns)
+region-at-spec = tie.close (tie.spec (search needs) (search needs) (λ c κs. search needs) returns)

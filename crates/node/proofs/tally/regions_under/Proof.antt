@@ -16,43 +16,16 @@ Inv-loop shared region bytes first bits₀ past₀ bits past = Ending shared fir
 abbrev μ-loop : tie.MeasureT-loop
 μ-loop shared region bytes first bits₀ past₀ bits past = length shared - past
 
-cast-first : tie.Need-cast-first Inv-loop μ-loop
-cast-first c = search needs
-
 returns : tie.Need-returns Inv-loop μ-loop
 returns c = marked-none _ _ _ _ (c .if1 .taken)
 
-region-at-requires : tie.Need-region-at-requires Inv-loop μ-loop
-region-at-requires c κs = search needs
-
-shl-bits : tie.Need-shl-bits Inv-loop μ-loop
-shl-bits c = search needs
-
-add-past : tie.Need-add-past Inv-loop μ-loop
-add-past c = search needs
-
 loop-holds : tie.Need-loop-holds Inv-loop μ-loop
 loop-holds c = (ending _ _ _ (search needs), marking-more _ _ _ _ _ (marking _ _) (c .region-at .ensures .0) (c .region-at .ensures .1))
-
-shared-slice-read-if2 : tie.Need-shared-slice-read-if2 Inv-loop μ-loop
-shared-slice-read-if2 c = search needs
-
-cast-t16 : tie.Need-cast-t16 Inv-loop μ-loop
-cast-t16 c = search needs
 
 region-at-requires-2 : tie.Need-region-at-requires-2 Inv-loop μ-loop
 region-at-requires-2 c κs =
     let p = c .before .before .before .before .before .before .before .before .before .pre in
     (p .0, omega (arith, p .1))
-
-shl-bits-2 : tie.Need-shl-bits-2 Inv-loop μ-loop
-shl-bits-2 c = search needs
-
-add-past-2 : tie.Need-add-past-2 Inv-loop μ-loop
-add-past-2 c = search needs
-
-loop-less : tie.Need-loop-less Inv-loop μ-loop
-loop-less c = search needs
 
 loop-again : tie.Need-loop-again Inv-loop μ-loop
 loop-again c =
@@ -75,18 +48,18 @@ regions-under-spec =
     (tie.spec
     Inv-loop
     μ-loop
-    cast-first
+    (search needs)
     returns
-    region-at-requires
-    shl-bits
-    add-past
+    (λ c κs. search needs)
+    (search needs)
+    (search needs)
     loop-holds
-    shared-slice-read-if2
-    cast-t16
+    (search needs)
+    (search needs)
     region-at-requires-2
-    shl-bits-2
-    add-past-2
-    loop-less
+    (search needs)
+    (search needs)
+    (search needs)
     loop-again
     returns-2
     returns-3)

@@ -15,27 +15,6 @@ abbrev μ-loop : tie.MeasureT-loop
 loop-holds : tie.Need-loop-holds Inv-loop μ-loop
 loop-holds c = tallying _ _ _ _ _ _ _ (search needs) (search needs) (search needs)
 
-region-at-requires : tie.Need-region-at-requires Inv-loop μ-loop
-region-at-requires c κs = search needs
-
-shr-known : tie.Need-shr-known Inv-loop μ-loop
-shr-known c = search needs
-
-mul-chosen : tie.Need-mul-chosen Inv-loop μ-loop
-mul-chosen c = search needs
-
-element-copy-out-chosen : tie.Need-element-copy-out-chosen Inv-loop μ-loop
-element-copy-out-chosen c = search needs
-
-mul-chosen-2 : tie.Need-mul-chosen-2 Inv-loop μ-loop
-mul-chosen-2 c = search needs
-
-element-copy-out-chosen-2 : tie.Need-element-copy-out-chosen-2 Inv-loop μ-loop
-element-copy-out-chosen-2 c = search needs
-
-chosen-requires : tie.Need-chosen-requires Inv-loop μ-loop
-chosen-requires c κs = search needs
-
 add-places : tie.Need-add-places Inv-loop μ-loop
 add-places c =
     omega (
@@ -43,48 +22,6 @@ add-places c =
       place-small _ _ _ _ _ _ _ _ _ _ (c .before .before .before .before .before .loop .inv) (search needs) (c .before .before .before .region-at .ensures .0) (c .before .before .before .region-at .ensures .1) _ (c .chosen .ensures)
           (c .before .before .before .before .before .before .before .before .pre .low (c .before .before .before .region-at .result) (c .before .before .before .region-at .ensures .1)) (search needs),
     )
-
-mul-places : tie.Need-mul-places Inv-loop μ-loop
-mul-places c = search needs
-
-element-write-places : tie.Need-element-write-places Inv-loop μ-loop
-element-write-places c = search needs
-
-mul-chosen-3 : tie.Need-mul-chosen-3 Inv-loop μ-loop
-mul-chosen-3 c = search needs
-
-element-copy-out-chosen-3 : tie.Need-element-copy-out-chosen-3 Inv-loop μ-loop
-element-copy-out-chosen-3 c = search needs
-
-chosen-requires-2 : tie.Need-chosen-requires-2 Inv-loop μ-loop
-chosen-requires-2 c κs = search needs
-
-cast-larger : tie.Need-cast-larger Inv-loop μ-loop
-cast-larger c = search needs
-
-mul-larger : tie.Need-mul-larger Inv-loop μ-loop
-mul-larger c = search needs
-
-shared-slice-read-larger : tie.Need-shared-slice-read-larger Inv-loop μ-loop
-shared-slice-read-larger c = search needs
-
-larger-requires : tie.Need-larger-requires Inv-loop μ-loop
-larger-requires c κs = search needs
-
-mul-best : tie.Need-mul-best Inv-loop μ-loop
-mul-best c = search needs
-
-element-write-best : tie.Need-element-write-best Inv-loop μ-loop
-element-write-best c = search needs
-
-shl-bits : tie.Need-shl-bits Inv-loop μ-loop
-shl-bits c = search needs
-
-add-stand : tie.Need-add-stand Inv-loop μ-loop
-add-stand c = search needs
-
-loop-less : tie.Need-loop-less Inv-loop μ-loop
-loop-less c = search needs
 
 loop-again : tie.Need-loop-again Inv-loop μ-loop
 loop-again c =
@@ -101,27 +38,27 @@ tally-spec =
     Inv-loop
     μ-loop
     loop-holds
-    region-at-requires
-    shr-known
-    mul-chosen
-    element-copy-out-chosen
-    mul-chosen-2
-    element-copy-out-chosen-2
-    chosen-requires
+    (λ c κs. search needs)
+    (search needs)
+    (search needs)
+    (search needs)
+    (search needs)
+    (search needs)
+    (λ c κs. search needs)
     add-places
-    mul-places
-    element-write-places
-    mul-chosen-3
-    element-copy-out-chosen-3
-    chosen-requires-2
-    cast-larger
-    mul-larger
-    shared-slice-read-larger
-    larger-requires
-    mul-best
-    element-write-best
-    shl-bits
-    add-stand
-    loop-less
+    (search needs)
+    (search needs)
+    (search needs)
+    (search needs)
+    (λ c κs. search needs)
+    (search needs)
+    (search needs)
+    (search needs)
+    (λ c κs. search needs)
+    (search needs)
+    (search needs)
+    (search needs)
+    (search needs)
+    (search needs)
     loop-again
     returns)

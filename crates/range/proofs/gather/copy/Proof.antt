@@ -15,29 +15,8 @@ abbrev μ-loop : tie.MeasureT-loop
 loop-holds : tie.Need-loop-holds Inv-loop μ-loop
 loop-holds c = copy-begins _ _ _ (search needs) (search needs)
 
-mul-room : tie.Need-mul-room Inv-loop μ-loop
-mul-room c = search needs
-
-shared-slice-read-room : tie.Need-shared-slice-read-room Inv-loop μ-loop
-shared-slice-read-room c = search needs
-
-mul-room-2 : tie.Need-mul-room-2 Inv-loop μ-loop
-mul-room-2 c = search needs
-
-slice-write-room : tie.Need-slice-write-room Inv-loop μ-loop
-slice-write-room c = search needs
-
-add-i : tie.Need-add-i Inv-loop μ-loop
-add-i c = search needs
-
-loop-less : tie.Need-loop-less Inv-loop μ-loop
-loop-less c = search needs
-
 loop-again : tie.Need-loop-again Inv-loop μ-loop
 loop-again c = copy-more _ _ _ _ _ (c .before .before .loop .inv) (c .before .loop-test .taken)
-
-same-length : tie.Need-same-length Inv-loop μ-loop
-same-length c = search needs
 
 returns : tie.Need-returns Inv-loop μ-loop
 returns c = copy-ends _ _ _ _ _ (c .before .loop .inv) (c .loop-test .left)
@@ -49,12 +28,12 @@ copy-spec =
     Inv-loop
     μ-loop
     loop-holds
-    mul-room
-    shared-slice-read-room
-    mul-room-2
-    slice-write-room
-    add-i
-    loop-less
+    (search needs)
+    (search needs)
+    (search needs)
+    (search needs)
+    (search needs)
+    (search needs)
     loop-again
-    same-length
+    (search needs)
     returns)

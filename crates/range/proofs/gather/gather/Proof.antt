@@ -26,21 +26,12 @@ abbrev μ-loop : tie.MeasureT-loop
 loop-holds : tie.Need-loop-holds Inv-loop μ-loop
 loop-holds c = sweep-begins _ _ _ _ _ _ _ _ (c .before .before .pre) (listed-few _)
 
-is-empty-requires : tie.Need-is-empty-requires Inv-loop μ-loop
-is-empty-requires c κs = search needs
-
 -- a region is left
 some : (c : tie.Then1 Inv-loop μ-loop) → isEmpty (regionsIn (c .before .before .loop .left)) ≡ false
 some c = breaks _ _ (c .before .is-empty .ensures) (c .if1 .taken)
 
 least-requires : tie.Need-least-requires Inv-loop μ-loop
 least-requires c κs = some c
-
-cast-r : tie.Need-cast-r Inv-loop μ-loop
-cast-r c = search needs
-
-mul-t18 : tie.Need-mul-t18 Inv-loop μ-loop
-mul-t18 c = search needs
 
 -- a region is one of 64
 small : (c : tie.After-least Inv-loop μ-loop) → c .least .result < 64
@@ -51,20 +42,11 @@ small c =
 element-copy-out-t17 : tie.Need-element-copy-out-t17 Inv-loop μ-loop
 element-copy-out-t17 c = small c
 
-mul-t18-2 : tie.Need-mul-t18-2 Inv-loop μ-loop
-mul-t18-2 c = search needs
-
 element-copy-out-t17-2 : tie.Need-element-copy-out-t17-2 Inv-loop μ-loop
 element-copy-out-t17-2 c = small (c .before)
 
 gather-run-requires : tie.Need-gather-run-requires Inv-loop μ-loop
 gather-run-requires c κs = sweep-room _ _ _ _ _ _ _ _ _ _ _ (c .before .before .before .before .before .before .loop .inv) (some (c .before .before .before .before)) _ (c .before .before .before .least .ensures)
-
-enum-known-more : tie.Need-enum-known-more Inv-loop μ-loop
-enum-known-more c = search needs
-
-enum-told : tie.Need-enum-told Inv-loop μ-loop
-enum-told c = search needs
 
 same-length : tie.Need-same-length Inv-loop μ-loop
 same-length c = ap (λ (g : Gathered). length (g .room)) (c .before .before .before .before .gather-run .ensures) ∙ walk-size _ _ _ _ _ _ ∙ c .before .before .before .before .before .before .before .before .before .before .before .loop .inv .size
@@ -97,16 +79,16 @@ gather-spec =
     Inv-loop
     μ-loop
     loop-holds
-    is-empty-requires
+    (λ c κs. search needs)
     least-requires
-    cast-r
-    mul-t18
+    (search needs)
+    (search needs)
     element-copy-out-t17
-    mul-t18-2
+    (search needs)
     element-copy-out-t17-2
     gather-run-requires
-    enum-known-more
-    enum-told
+    (search needs)
+    (search needs)
     same-length
     returns
     but-least-requires

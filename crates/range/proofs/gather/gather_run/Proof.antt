@@ -21,20 +21,8 @@ Inv-loop east north order rect found₀ before end i₀ n₀ found i n = Gatheri
 abbrev μ-loop : tie.MeasureT-loop
 μ-loop east north order rect found₀ before end i₀ n₀ found i n = end - i
 
-cast-end : tie.Need-cast-end Inv-loop μ-loop
-cast-end c = search needs
-
-cast-i : tie.Need-cast-i Inv-loop μ-loop
-cast-i c = search needs
-
 loop-holds : tie.Need-loop-holds Inv-loop μ-loop
 loop-holds c = record { wide = search needs; fits = search needs; room = search needs; few = omega arith; size = refl; same = refl }
-
-mul-stand : tie.Need-mul-stand Inv-loop μ-loop
-mul-stand c = search needs
-
-shared-slice-read-stand : tie.Need-shared-slice-read-stand Inv-loop μ-loop
-shared-slice-read-stand c = search needs
 
 cast-s : tie.Need-cast-s Inv-loop μ-loop
 cast-s c = omega (arith, c .shared-slice-known2 .given (c .before .before .loop .i))
@@ -44,24 +32,6 @@ same-length c = c .before .before .before .loop .inv .size
 
 returns : tie.Need-returns Inv-loop μ-loop
 returns c = run-breaks _ _ _ _ _ _ _ _ _ _ _ (c .before .before .before .loop .inv) (c .before .before .loop-test .taken) (c .if1 .taken)
-
-mul-t16 : tie.Need-mul-t16 Inv-loop μ-loop
-mul-t16 c = search needs
-
-shared-slice-copy-out-t20 : tie.Need-shared-slice-copy-out-t20 Inv-loop μ-loop
-shared-slice-copy-out-t20 c = search needs
-
-mul-t21 : tie.Need-mul-t21 Inv-loop μ-loop
-mul-t21 c = search needs
-
-shared-slice-copy-out-t23 : tie.Need-shared-slice-copy-out-t23 Inv-loop μ-loop
-shared-slice-copy-out-t23 c = search needs
-
-in-rect-requires : tie.Need-in-rect-requires Inv-loop μ-loop
-in-rect-requires c κs = search needs
-
-put-requires : tie.Need-put-requires Inv-loop μ-loop
-put-requires c κs = search needs
 
 -- what the test says, of the coordinates and not of their bits
 told : (c : tie.After-in-rect Inv-loop μ-loop) →
@@ -75,12 +45,6 @@ told c =
 
 add-n : tie.Need-add-n Inv-loop μ-loop
 add-n c = let w = c .before .before .before .before .before .before .before .before .before .before .before .loop .inv in omega (arith, w .few, w .room, c .before .before .before .before .before .before .before .before .before .before .loop-test .taken)
-
-add-i : tie.Need-add-i Inv-loop μ-loop
-add-i c = search needs
-
-loop-less : tie.Need-loop-less Inv-loop μ-loop
-loop-less c = search needs
 
 loop-again : tie.Need-loop-again Inv-loop μ-loop
 loop-again c =
@@ -104,23 +68,23 @@ gather-run-spec =
     (tie.spec
     Inv-loop
     μ-loop
-    cast-end
-    cast-i
+    (search needs)
+    (search needs)
     loop-holds
-    mul-stand
-    shared-slice-read-stand
+    (search needs)
+    (search needs)
     cast-s
     same-length
     returns
-    mul-t16
-    shared-slice-copy-out-t20
-    mul-t21
-    shared-slice-copy-out-t23
-    in-rect-requires
-    put-requires
+    (search needs)
+    (search needs)
+    (search needs)
+    (search needs)
+    (λ c κs. search needs)
+    (λ c κs. search needs)
     add-n
-    add-i
-    loop-less
+    (search needs)
+    (search needs)
     loop-again
     same-length-2
     returns-2)

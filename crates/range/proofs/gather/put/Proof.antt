@@ -6,20 +6,8 @@ use borrow.Author.Needs.{needs}
 use Rattle.range.proofs.gather.put.Statement.{statement}
 use Rattle.range.proofs.gather.put.Tie as tie
 
-mul-found : tie.Need-mul-found
-mul-found c = search needs
-
-slice-write-found : tie.Need-slice-write-found
-slice-write-found c = search needs
-
-same-length : tie.Need-same-length
-same-length c = search needs
-
-returns : tie.Need-returns
-returns c = search needs
-
 returns-2 : tie.Need-returns-2
 returns-2 c = sym (set-out _ _ _ (c .if1 .left))
 
 pub put-spec : {M : Type 1} → statement M
-put-spec = tie.close (tie.spec mul-found slice-write-found same-length returns returns-2)
+put-spec = tie.close (tie.spec (search needs) (search needs) (search needs) (search needs) returns-2)

@@ -14,44 +14,17 @@ Inv-loop entries stands from count firsts₀ pasts₀ end e₀ firsts pasts e = 
 abbrev μ-loop : tie.MeasureT-loop
 μ-loop entries stands from count firsts₀ pasts₀ end e₀ firsts pasts e = end - e
 
-add-end : tie.Need-add-end Inv-loop μ-loop
-add-end c = search needs
-
 loop-holds : tie.Need-loop-holds Inv-loop μ-loop
 loop-holds c = note-begins _ _ _ _ _ _
-
-entry-at-requires : tie.Need-entry-at-requires Inv-loop μ-loop
-entry-at-requires c κs = search needs
-
-enum-known-entry : tie.Need-enum-known-entry Inv-loop μ-loop
-enum-known-entry c = search needs
-
-enum-told : tie.Need-enum-told Inv-loop μ-loop
-enum-told c = search needs
 
 returns : tie.Need-returns Inv-loop μ-loop
 returns c = note-breaks _ _ _ _ _ _ _ _ _ _ (c .before .before .before .before .loop .inv) (c .before .before .before .loop-test .taken) (sym (c .before .before .entry-at .ensures) ∙ c .enum-told .given .1)
 
-cast-region : tie.Need-cast-region Inv-loop μ-loop
-cast-region c = search needs
-
-mul-firsts : tie.Need-mul-firsts Inv-loop μ-loop
-mul-firsts c = search needs
-
 element-write-firsts : tie.Need-element-write-firsts Inv-loop μ-loop
 element-write-firsts c = within-facts _ _ (read-facts _ _ _ _ (sym (c .before .before .before .before .entry-at .ensures) ∙ c .before .before .entry .given .1) .1) .0
 
-mul-pasts : tie.Need-mul-pasts Inv-loop μ-loop
-mul-pasts c = search needs
-
 element-write-pasts : tie.Need-element-write-pasts Inv-loop μ-loop
 element-write-pasts c = within-facts _ _ (read-facts _ _ _ _ (sym (c .before .before .before .before .entry-at .ensures) ∙ c .before .before .entry .given .1) .1) .0
-
-add-e : tie.Need-add-e Inv-loop μ-loop
-add-e c = search needs
-
-loop-less : tie.Need-loop-less Inv-loop μ-loop
-loop-less c = search needs
 
 loop-again : tie.Need-loop-again Inv-loop μ-loop
 loop-again c = note-more _ _ _ _ _ _ _ _ _ _ (c .before .before .before .before .before .before .loop .inv) (c .before .before .before .before .before .loop-test .taken) _ (sym (c .before .before .before .before .entry-at .ensures) ∙ c .before .before .entry .given .1)
@@ -65,18 +38,18 @@ note-spec =
     (tie.spec
     Inv-loop
     μ-loop
-    add-end
+    (search needs)
     loop-holds
-    entry-at-requires
-    enum-known-entry
-    enum-told
+    (λ c κs. search needs)
+    (search needs)
+    (search needs)
     returns
-    cast-region
-    mul-firsts
+    (search needs)
+    (search needs)
     element-write-firsts
-    mul-pasts
+    (search needs)
     element-write-pasts
-    add-e
-    loop-less
+    (search needs)
+    (search needs)
     loop-again
     returns-2)

@@ -7,18 +7,9 @@ use Rattle.search.proofs.entries.passed_over.Tie as tie
 returns : tie.Need-returns
 returns c = not-full _ _ _ _ (c .before .pre) (c .if1 .taken)
 
-sub-result : tie.Need-sub-result
-sub-result c = search needs
-
-mul-result : tie.Need-mul-result
-mul-result c = search needs
-
-element-copy-out-result : tie.Need-element-copy-out-result
-element-copy-out-result c = search needs
-
 returns-2 : tie.Need-returns-2
 returns-2 c = last-decides _ _ _ _ (c .before .before .pre) (c .before .if1 .left)
 
 pub passed-over-spec : {M : Type 1} → statement M
 passed-over-spec =
-    tie.close (tie.spec returns sub-result mul-result element-copy-out-result returns-2)
+    tie.close (tie.spec returns (search needs) (search needs) (search needs) returns-2)

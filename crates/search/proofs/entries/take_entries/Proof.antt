@@ -23,15 +23,6 @@ loop-holds c =
     let p = c .before .before .before .pre in
     record { searching = record { asks = p .0; holds = nothing-held _ _ (p .1) (some-asked _ _ (p .0)) (few-asked _ _ (p .0)) }; rest = refl }
 
-entry-at-requires : tie.Need-entry-at-requires Inv-loop μ-loop
-entry-at-requires c κs = search needs
-
-enum-known-entry : tie.Need-enum-known-entry Inv-loop μ-loop
-enum-known-entry c = search needs
-
-enum-told : tie.Need-enum-told Inv-loop μ-loop
-enum-told c = search needs
-
 returns : tie.Need-returns Inv-loop μ-loop
 returns c = unread _ _ _ _ _ _ _ _ _ _ (c .before .before .before .before .loop .inv) (c .before .before .before .loop-test .taken) (sym (c .before .before .entry-at .ensures) ∙ c .enum-told .given .1)
 
@@ -45,25 +36,13 @@ take-entry-requires : tie.Need-take-entry-requires Inv-loop μ-loop
 take-entry-requires c κs =
     (c .before .before .before .before .before .before .before .before .loop .inv .searching, record { inside = read-facts _ _ _ _ (sym (c .before .before .before .before .before .before .entry-at .ensures) ∙ c .before .before .before .before .entry .given .1) .1; sound = holds _ _ (c .before .before .usable .ensures) (c .before .if1 .left) })
 
-enum-known-more : tie.Need-enum-known-more Inv-loop μ-loop
-enum-known-more c = search needs
-
-enum-told-2 : tie.Need-enum-told-2 Inv-loop μ-loop
-enum-told-2 c = search needs
-
 returns-3 : tie.Need-returns-3 Inv-loop μ-loop
 returns-3 c =
     take-stop _ _ _ _ _ _ _ _ _ _ (c .before .before .before .before .before .before .before .before .before .before .before .loop .inv) (c .before .before .before .before .before .before .before .before .before .before .loop-test .taken) _ (sym (c .before .before .before .before .before .before .before .before .before .entry-at .ensures) ∙ c .before .before .before .before .before .before .before .entry .given .1)
     (holds _ _ (c .before .before .before .before .before .usable .ensures) (c .before .before .before .before .if1 .left)) _ _ (c .before .before .take-entry .ensures) (c .enum-told2 .given .1)
 
-sub-left : tie.Need-sub-left Inv-loop μ-loop
-sub-left c = search needs
-
 add-e : tie.Need-add-e Inv-loop μ-loop
 add-e c = omega (arith, read-facts _ _ _ _ (sym (c .before .before .before .before .before .before .before .before .before .before .entry-at .ensures) ∙ c .before .before .before .before .before .before .before .before .entry .given .1) .0, c .before .before .before .before .before .before .before .before .before .before .before .before .before .before .before .before .good .1 .1 .1 .1 .1 .0 .0)
-
-loop-less : tie.Need-loop-less Inv-loop μ-loop
-loop-less c = search needs
 
 loop-again : tie.Need-loop-again Inv-loop μ-loop
 loop-again c =
@@ -80,18 +59,18 @@ take-entries-spec =
     Inv-loop
     μ-loop
     loop-holds
-    entry-at-requires
-    enum-known-entry
-    enum-told
+    (λ c κs. search needs)
+    (search needs)
+    (search needs)
     returns
     usable-requires
     returns-2
     take-entry-requires
-    enum-known-more
-    enum-told-2
+    (search needs)
+    (search needs)
     returns-3
-    sub-left
+    (search needs)
     add-e
-    loop-less
+    (search needs)
     loop-again
     returns-4)

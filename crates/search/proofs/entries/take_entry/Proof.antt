@@ -29,12 +29,6 @@ bound-requires c κs =
     let p = c .before .before .pre in
     (weighable _ _ (p .0 .asks) _ (entry-facts _ _ (p .1 .sound) .scored), record { lawful = p .0 .asks .grid; inside = asked-inside _ _ (p .0 .asks); small = within-facts _ _ (p .1 .inside) .0 })
 
-cast-first : tie.Need-cast-first
-cast-first c = search needs
-
-mul-t14 : tie.Need-mul-t14
-mul-t14 c = search needs
-
 shared-slice-read-t16 : tie.Need-shared-slice-read-t16
 shared-slice-read-t16 c =
     let t = c .before .before .before .before .before .pre .1 in
@@ -45,12 +39,6 @@ key-of-requires c κs =
     let p = c .before .before .before .before .before .pre in
     let f = entry-facts _ _ (p .1 .sound) in
     record { small = rw (c .before .before .bound .ensures) (bound-most _ _ (p .0 .asks) _ _ (f .scored)); below = f .small }
-
-cast-passed-over : tie.Need-cast-passed-over
-cast-passed-over c = search needs
-
-passed-over-requires : tie.Need-passed-over-requires
-passed-over-requires c κs = search needs
 
 returns : tie.Need-returns
 returns c = passed _ _ _ _ _ _ _ (c .before .before .before .before .before .before .before .before .before .before .pre .0 .holds) (sym (decided (c .before)) ∙ c .if1 .taken)
@@ -68,12 +56,12 @@ take-entry-spec =
     tie.close
     (tie.spec
     bound-requires
-    cast-first
-    mul-t14
+    (search needs)
+    (search needs)
     shared-slice-read-t16
     key-of-requires
-    cast-passed-over
-    passed-over-requires
+    (search needs)
+    (λ c κs. search needs)
     returns
     offer-places-requires
     returns-2)

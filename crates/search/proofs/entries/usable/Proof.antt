@@ -12,12 +12,6 @@ returns c = entry-over _ _ (c .if1 .taken)
 returns-2 : tie.Need-returns-2
 returns-2 c = no-places _ _ (c .if2 .taken)
 
-cast-result : tie.Need-cast-result
-cast-result c = search needs
-
-mul-result : tie.Need-mul-result
-mul-result c = search needs
-
 shared-slice-read-result : tie.Need-shared-slice-read-result
 shared-slice-read-result c = omega (arith, c .before .before .if2 .left, within-facts _ _ (c .before .before .before .before .before .before .pre) .1)
 
@@ -33,8 +27,8 @@ usable-spec =
     (tie.spec
     returns
     returns-2
-    cast-result
-    mul-result
+    (search needs)
+    (search needs)
     shared-slice-read-result
     cast-result-2
     returns-3)

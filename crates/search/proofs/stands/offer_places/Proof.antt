@@ -15,40 +15,13 @@ Inv-loop east north score grid order asked held₀ len n₀ i₀ end held n i = 
 abbrev μ-loop : tie.MeasureT-loop
 μ-loop east north score grid order asked held₀ len n₀ i₀ end held n i = end - i
 
-cast-i : tie.Need-cast-i Inv-loop μ-loop
-cast-i c = search needs
-
-cast-end : tie.Need-cast-end Inv-loop μ-loop
-cast-end c = search needs
-
 loop-holds : tie.Need-loop-holds Inv-loop μ-loop
 loop-holds c =
     let p = c .before .before .before .before .pre in
     record { searching = p .0; run = p .1; rest = refl }
 
-mul-t17 : tie.Need-mul-t17 Inv-loop μ-loop
-mul-t17 c = search needs
-
-shared-slice-read-t19 : tie.Need-shared-slice-read-t19 Inv-loop μ-loop
-shared-slice-read-t19 c = search needs
-
-offer-stand-requires : tie.Need-offer-stand-requires Inv-loop μ-loop
-offer-stand-requires c κs = search needs
-
-enum-known-more : tie.Need-enum-known-more Inv-loop μ-loop
-enum-known-more c = search needs
-
-enum-told : tie.Need-enum-told Inv-loop μ-loop
-enum-told c = search needs
-
 returns : tie.Need-returns Inv-loop μ-loop
 returns c = offer-stop _ _ _ _ _ _ _ _ _ (c .before .before .before .before .before .before .loop .inv) (c .before .before .before .before .before .loop-test .taken) _ _ (c .before .before .offer-stand .ensures) (c .enum-told .given .1)
-
-add-i : tie.Need-add-i Inv-loop μ-loop
-add-i c = search needs
-
-loop-less : tie.Need-loop-less Inv-loop μ-loop
-loop-less c = search needs
 
 loop-again : tie.Need-loop-again Inv-loop μ-loop
 loop-again c = offer-next _ _ _ _ _ _ _ _ _ (c .before .before .before .before .before .before .before .loop .inv) (c .before .before .before .before .before .before .loop-test .taken) _ _ (c .before .before .before .offer-stand .ensures) _ (c .before .more .given .1)
@@ -62,16 +35,16 @@ offer-places-spec =
     (tie.spec
     Inv-loop
     μ-loop
-    cast-i
-    cast-end
+    (search needs)
+    (search needs)
     loop-holds
-    mul-t17
-    shared-slice-read-t19
-    offer-stand-requires
-    enum-known-more
-    enum-told
+    (search needs)
+    (search needs)
+    (λ c κs. search needs)
+    (search needs)
+    (search needs)
     returns
-    add-i
-    loop-less
+    (search needs)
+    (search needs)
     loop-again
     returns-2)

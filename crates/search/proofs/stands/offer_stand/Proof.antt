@@ -23,29 +23,14 @@ facts : (c : tie.Else1) →
     StandFacts (standColumns (a .east .now) (a .north .now) (a .score .now)) (a .grid) (a .stand .0)
 facts c = stand-facts _ _ _ (holds _ _ (c .before .readable-stand .ensures) (c .if1 .left))
 
-cast-s : tie.Need-cast-s
-cast-s c = search needs
-
-readable-stand-requires : tie.Need-readable-stand-requires
-readable-stand-requires c κs = search needs
-
 returns : tie.Need-returns
 returns c = unreadable _ _ _ _ _ _ (breaks _ _ (c .before .readable-stand .ensures) (c .if1 .taken))
-
-mul-t15 : tie.Need-mul-t15
-mul-t15 c = search needs
 
 shared-slice-copy-out-t17 : tie.Need-shared-slice-copy-out-t17
 shared-slice-copy-out-t17 c = facts c .has-east
 
-mul-t18 : tie.Need-mul-t18
-mul-t18 c = search needs
-
 shared-slice-copy-out-t20 : tie.Need-shared-slice-copy-out-t20
 shared-slice-copy-out-t20 c = facts (c .before) .has-north
-
-mul-value : tie.Need-mul-value
-mul-value c = search needs
 
 shared-slice-read-value : tie.Need-shared-slice-read-value
 shared-slice-read-value c = facts (c .before .before .before) .has-score
@@ -61,12 +46,6 @@ value-requires c κs =
 key-of-requires : tie.Need-key-of-requires
 key-of-requires c κs = record { small = rw (c .value .ensures) (value-most _ _ (c .before .before .before .before .before .before .before .before .pre .asks) _ _ (facts (c .before .before .before .before) .scored)); below = facts (c .before .before .before .before) .small }
 
-cast-offer : tie.Need-cast-offer
-cast-offer c = search needs
-
-offer-requires : tie.Need-offer-requires
-offer-requires c κs = search needs
-
 returns-2 : tie.Need-returns-2
 returns-2 c =
     let a = c .before .before .before .before .before .before .before .before .before .before .before .before .args in
@@ -81,17 +60,17 @@ pub offer-stand-spec : {M : Type 1} → statement M
 offer-stand-spec =
     tie.close
     (tie.spec
-    cast-s
-    readable-stand-requires
+    (search needs)
+    (λ c κs. search needs)
     returns
-    mul-t15
+    (search needs)
     shared-slice-copy-out-t17
-    mul-t18
+    (search needs)
     shared-slice-copy-out-t20
-    mul-value
+    (search needs)
     shared-slice-read-value
     value-requires
     key-of-requires
-    cast-offer
-    offer-requires
+    (search needs)
+    (λ c κs. search needs)
     returns-2)

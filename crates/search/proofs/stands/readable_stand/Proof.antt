@@ -22,29 +22,8 @@ returns-3 c = no-north _ _ _ (c .if3 .taken)
 returns-4 : tie.Need-returns-4
 returns-4 c = no-score _ _ _ (c .if4 .taken)
 
-mul-if5 : tie.Need-mul-if5
-mul-if5 c = search needs
-
-shared-slice-read-if5 : tie.Need-shared-slice-read-if5
-shared-slice-read-if5 c = search needs
-
 returns-5 : tie.Need-returns-5
 returns-5 c = score-over _ _ _ (c .if5 .taken)
-
-mul-t7 : tie.Need-mul-t7
-mul-t7 c = search needs
-
-shared-slice-copy-out-t11 : tie.Need-shared-slice-copy-out-t11
-shared-slice-copy-out-t11 c = search needs
-
-mul-t12 : tie.Need-mul-t12
-mul-t12 c = search needs
-
-shared-slice-copy-out-t14 : tie.Need-shared-slice-copy-out-t14
-shared-slice-copy-out-t14 c = search needs
-
-holds-requires : tie.Need-holds-requires
-holds-requires c κs = search needs
 
 returns-6 : tie.Need-returns-6
 returns-6 c =
@@ -62,12 +41,12 @@ readable-stand-spec =
     returns-2
     returns-3
     returns-4
-    mul-if5
-    shared-slice-read-if5
+    (search needs)
+    (search needs)
     returns-5
-    mul-t7
-    shared-slice-copy-out-t11
-    mul-t12
-    shared-slice-copy-out-t14
-    holds-requires
+    (search needs)
+    (search needs)
+    (search needs)
+    (search needs)
+    (λ c κs. search needs)
     returns-6)

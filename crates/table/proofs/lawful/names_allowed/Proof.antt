@@ -19,12 +19,6 @@ abbrev μ-loop : tie.MeasureT-loop
 loop-holds : tie.Need-loop-holds Inv-loop μ-loop
 loop-holds c = begin _ _
 
-name-of-requires : tie.Need-name-of-requires Inv-loop μ-loop
-name-of-requires c κs = search needs
-
-name-allowed-requires : tie.Need-name-allowed-requires Inv-loop μ-loop
-name-allowed-requires c κs = search needs
-
 told : (c : tie.After-name-allowed Inv-loop μ-loop) →
     let a = c .before .before .before .before .before .before .args in
     c .name-allowed .result ≡ nameAllowed (name (a .text .now) (a .starts .now) (c .before .before .before .loop .i))
@@ -33,12 +27,6 @@ told c = c .name-allowed .ensures ∙ ap nameAllowed (c .before .name-of .ensure
 returns : tie.Need-returns Inv-loop μ-loop
 unfolding namesAllowed
 returns c = sym (fail _ _ _ (c .before .before .before .loop-test .taken) (breaks _ _ (told (c .before)) (c .if1 .taken)) (c .before .before .before .before .loop .inv))
-
-add-i : tie.Need-add-i Inv-loop μ-loop
-add-i c = search needs
-
-loop-less : tie.Need-loop-less Inv-loop μ-loop
-loop-less c = search needs
 
 loop-again : tie.Need-loop-again Inv-loop μ-loop
 loop-again c = pass _ _ _ (search needs) (holds _ _ (told (c .before)) (c .if1 .left)) (search needs)
@@ -54,10 +42,10 @@ names-allowed-spec =
     Inv-loop
     μ-loop
     loop-holds
-    name-of-requires
-    name-allowed-requires
+    (λ c κs. search needs)
+    (λ c κs. search needs)
     returns
-    add-i
-    loop-less
+    (search needs)
+    (search needs)
     loop-again
     returns-2)

@@ -19,21 +19,6 @@ abbrev μ-loop : tie.MeasureT-loop
 loop-holds : tie.Need-loop-holds Inv-loop μ-loop
 loop-holds c = begin _ _
 
-add-loop : tie.Need-add-loop Inv-loop μ-loop
-add-loop c = search needs
-
-name-of-requires : tie.Need-name-of-requires Inv-loop μ-loop
-name-of-requires c κs = search needs
-
-add-t7 : tie.Need-add-t7 Inv-loop μ-loop
-add-t7 c = search needs
-
-name-of-requires-2 : tie.Need-name-of-requires-2 Inv-loop μ-loop
-name-of-requires-2 c κs = search needs
-
-in-order-requires : tie.Need-in-order-requires Inv-loop μ-loop
-in-order-requires c κs = search needs
-
 told : (c : tie.After-in-order Inv-loop μ-loop) →
     let a = c .before .before .before .before .before .before .before .args in
     let i = c .before .before .before .before .loop .i in
@@ -46,12 +31,6 @@ returns c =
     let at = c .before .before .before .before .before .loop in
     let more : at .i < c .before .before .before .before .before .before .before .before .args .stands - 1 = search needs in
     sym (fail _ _ _ more (breaks _ _ (told (c .before)) (c .if1 .taken)) (at .inv))
-
-add-i : tie.Need-add-i Inv-loop μ-loop
-add-i c = search needs
-
-loop-less : tie.Need-loop-less Inv-loop μ-loop
-loop-less c = search needs
 
 loop-again : tie.Need-loop-again Inv-loop μ-loop
 loop-again c = pass _ _ _ (search needs) (holds _ _ (told (c .before)) (c .if1 .left)) (search needs)
@@ -67,13 +46,13 @@ names-in-order-spec =
     Inv-loop
     μ-loop
     loop-holds
-    add-loop
-    name-of-requires
-    add-t7
-    name-of-requires-2
-    in-order-requires
+    (search needs)
+    (λ c κs. search needs)
+    (search needs)
+    (λ c κs. search needs)
+    (λ c κs. search needs)
     returns
-    add-i
-    loop-less
+    (search needs)
+    (search needs)
     loop-again
     returns-2)

@@ -23,32 +23,17 @@ returns-3 : tie.Need-returns-3
 unfolding shapeLawful
 returns-3 c = sym (every-not _ 2 (ne-eqb _ _ (c .if3 .taken)))
 
-add-if4 : tie.Need-add-if4
-add-if4 c = search needs
-
 returns-4 : tie.Need-returns-4
 unfolding shapeLawful
 returns-4 c = sym (every-not _ 3 (ne-eqb _ _ (c .if4 .taken)))
-
-shared-slice-read-if5 : tie.Need-shared-slice-read-if5
-shared-slice-read-if5 c = search needs
 
 returns-5 : tie.Need-returns-5
 unfolding shapeLawful
 returns-5 c = sym (every-not _ 4 (ne-eqb _ _ (c .if5 .taken)))
 
-rising-requires : tie.Need-rising-requires
-rising-requires c κs = search needs
-
 returns-6 : tie.Need-returns-6
 unfolding shapeLawful
 returns-6 c = sym (every-not _ 5 (breaks _ _ (c .before .rising .ensures) (c .if6 .taken)))
-
-mul-if7 : tie.Need-mul-if7
-mul-if7 c = search needs
-
-shared-slice-read-if7 : tie.Need-shared-slice-read-if7
-shared-slice-read-if7 c = search needs
 
 cast-if7 : tie.Need-cast-if7
 cast-if7 c = omega (arith, c .shared-slice-known5 .given (length (c .before .before .before .before .before .before .before .before .before .before .before .before .args .score .now)))
@@ -67,14 +52,14 @@ shape-lawful-spec =
     returns
     returns-2
     returns-3
-    add-if4
+    (search needs)
     returns-4
-    shared-slice-read-if5
+    (search needs)
     returns-5
-    rising-requires
+    (λ c κs. search needs)
     returns-6
-    mul-if7
-    shared-slice-read-if7
+    (search needs)
+    (search needs)
     cast-if7
     returns-7
     returns-8)

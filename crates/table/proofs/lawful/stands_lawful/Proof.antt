@@ -24,21 +24,6 @@ abbrev μ-loop : tie.MeasureT-loop
 loop-holds : tie.Need-loop-holds Inv-loop μ-loop
 loop-holds c = begin _ _
 
-mul-t7 : tie.Need-mul-t7 Inv-loop μ-loop
-mul-t7 c = search needs
-
-shared-slice-copy-out-t10 : tie.Need-shared-slice-copy-out-t10 Inv-loop μ-loop
-shared-slice-copy-out-t10 c = search needs
-
-mul-t11 : tie.Need-mul-t11 Inv-loop μ-loop
-mul-t11 c = search needs
-
-shared-slice-copy-out-t13 : tie.Need-shared-slice-copy-out-t13 Inv-loop μ-loop
-shared-slice-copy-out-t13 c = search needs
-
-holds-requires : tie.Need-holds-requires Inv-loop μ-loop
-holds-requires c κs = search needs
-
 told : (c : tie.After-holds Inv-loop μ-loop) →
     let a = c .before .before .before .before .before .before .args in
     c .holds .result ≡ inGrid (a .grid) (placeIn (a .east .now) (a .north .now) (c .before .before .before .before .loop .i))
@@ -54,21 +39,9 @@ returns c =
     let at = c .before .before .before .before .before .loop in
     sym (fail _ _ _ (c .before .before .before .before .loop-test .taken) (stand-off _ _ _ _ _ (breaks _ _ (told (c .before)) (c .if1 .taken))) (at .inv))
 
-mul-if2 : tie.Need-mul-if2 Inv-loop μ-loop
-mul-if2 c = search needs
-
-shared-slice-read-if2 : tie.Need-shared-slice-read-if2 Inv-loop μ-loop
-shared-slice-read-if2 c = search needs
-
 returns-2 : tie.Need-returns-2 Inv-loop μ-loop
 unfolding standsLawful
 returns-2 c = sym (fail _ _ _ (c .before .before .before .before .before .before .loop-test .taken) (stand-over _ _ _ _ _ (c .if2 .taken)) (c .before .before .before .before .before .before .before .loop .inv))
-
-add-i : tie.Need-add-i Inv-loop μ-loop
-add-i c = search needs
-
-loop-less : tie.Need-loop-less Inv-loop μ-loop
-loop-less c = search needs
 
 loop-again : tie.Need-loop-again Inv-loop μ-loop
 loop-again c = pass _ _ _ (search needs) (stand-in _ _ _ _ _ (holds _ _ (told (c .before .before .before)) (c .before .before .if1 .left)) (c .if2 .left)) (search needs)
@@ -84,16 +57,16 @@ stands-lawful-spec =
     Inv-loop
     μ-loop
     loop-holds
-    mul-t7
-    shared-slice-copy-out-t10
-    mul-t11
-    shared-slice-copy-out-t13
-    holds-requires
+    (search needs)
+    (search needs)
+    (search needs)
+    (search needs)
+    (λ c κs. search needs)
     returns
-    mul-if2
-    shared-slice-read-if2
+    (search needs)
+    (search needs)
     returns-2
-    add-i
-    loop-less
+    (search needs)
+    (search needs)
     loop-again
     returns-3)

@@ -19,20 +19,8 @@ abbrev μ-loop : tie.MeasureT-loop
 loop-holds : tie.Need-loop-holds Inv-loop μ-loop
 loop-holds c = read-begin _ _
 
-shared-slice-read-allowed : tie.Need-shared-slice-read-allowed Inv-loop μ-loop
-shared-slice-read-allowed c = search needs
-
-allowed-requires : tie.Need-allowed-requires Inv-loop μ-loop
-allowed-requires c κs = search needs
-
 returns : tie.Need-returns Inv-loop μ-loop
 returns c = sym (read-fail allowed _ _ (c .before .before .before .loop-test .taken) (breaks _ _ (c .before .allowed .ensures) (c .if1 .taken)) (c .before .before .before .before .loop .inv))
-
-add-i : tie.Need-add-i Inv-loop μ-loop
-add-i c = search needs
-
-loop-less : tie.Need-loop-less Inv-loop μ-loop
-loop-less c = search needs
 
 loop-again : tie.Need-loop-again Inv-loop μ-loop
 loop-again c = read-pass _ _ _ (search needs) (holds _ _ (c .before .allowed .ensures) (c .if1 .left)) (search needs)
@@ -47,10 +35,10 @@ bytes-allowed-spec =
     Inv-loop
     μ-loop
     loop-holds
-    shared-slice-read-allowed
-    allowed-requires
+    (search needs)
+    (λ c κs. search needs)
     returns
-    add-i
-    loop-less
+    (search needs)
+    (search needs)
     loop-again
     returns-2)

@@ -8,9 +8,6 @@ use Rattle.rules.proofs.Orders.{order-whole, order-longer, order-byte}
 use Rattle.table.proofs.names.in_order.Statement.{statement}
 use Rattle.table.proofs.names.in_order.Tie as tie
 
-shared-requires : tie.Need-shared-requires
-shared-requires c κs = search needs
-
 shared-slice-read-result : tie.Need-shared-slice-read-result
 shared-slice-read-result c =
     let n = c .before .before .before .before .before .before .args in
@@ -42,7 +39,7 @@ pub in-order-spec : {M : Type 1} → statement M
 in-order-spec =
     tie.close
     (tie.spec
-    shared-requires
+    (λ c κs. search needs)
     shared-slice-read-result
     shared-slice-read-result-2
     returns

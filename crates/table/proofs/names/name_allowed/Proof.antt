@@ -17,11 +17,8 @@ returns-2 : tie.Need-returns-2
 unfolding nameAllowed
 returns-2 c = sym (every-not _ 1 (lt-leb _ _ (c .if2 .taken)))
 
-bytes-allowed-requires : tie.Need-bytes-allowed-requires
-bytes-allowed-requires c κs = search needs
-
 returns-3 : tie.Need-returns-3
 returns-3 c = c .bytes-allowed .ensures ∙ sym (name-bytes _ (search needs) (search needs))
 
 pub name-allowed-spec : {M : Type 1} → statement M
-name-allowed-spec = tie.close (tie.spec returns returns-2 bytes-allowed-requires returns-3)
+name-allowed-spec = tie.close (tie.spec returns returns-2 (λ c κs. search needs) returns-3)

@@ -12,33 +12,12 @@ use Rattle.table.proofs.Parts.{nowhere, found}
 use Rattle.table.proofs.names.name_span.Statement.{statement}
 use Rattle.table.proofs.names.name_span.Tie as tie
 
-cast-i : tie.Need-cast-i
-cast-i c = search needs
-
-add-if1 : tie.Need-add-if1
-add-if1 c = search needs
-
 returns : tie.Need-returns
 unfolding spanned
 returns c = nowhere _ _ _ (every-not _ 0 (le-ltb _ _ (c .if1 .taken)))
 
-mul-from : tie.Need-mul-from
-mul-from c = search needs
-
-shared-slice-read-from : tie.Need-shared-slice-read-from
-shared-slice-read-from c = search needs
-
 cast-from : tie.Need-cast-from
 cast-from c = omega (arith, c .shared-slice-known .given (c .before .before .before .args .stand .0))
-
-add-past : tie.Need-add-past
-add-past c = search needs
-
-mul-past : tie.Need-mul-past
-mul-past c = search needs
-
-shared-slice-read-past : tie.Need-shared-slice-read-past
-shared-slice-read-past c = search needs
 
 cast-past : tie.Need-cast-past
 cast-past c = omega (arith, c .shared-slice-known2 .given (c .before .before .before .before .args .stand .0 + 1))
@@ -63,15 +42,15 @@ pub name-span-spec : {M : Type 1} → statement M
 name-span-spec =
     tie.close
     (tie.spec
-    cast-i
-    add-if1
+    (search needs)
+    (search needs)
     returns
-    mul-from
-    shared-slice-read-from
+    (search needs)
+    (search needs)
     cast-from
-    add-past
-    mul-past
-    shared-slice-read-past
+    (search needs)
+    (search needs)
+    (search needs)
     cast-past
     returns-2
     returns-3)

@@ -19,20 +19,8 @@ loop-holds c = begin _ _
 returns : tie.Need-returns Inv-loop μ-loop
 returns c = ended-other _ _ _ (c .before .loop-test .taken) (c .if1 .taken) (c .before .before .loop .inv)
 
-shared-slice-read-if2 : tie.Need-shared-slice-read-if2 Inv-loop μ-loop
-shared-slice-read-if2 c = search needs
-
-shared-slice-read-if2-2 : tie.Need-shared-slice-read-if2-2 Inv-loop μ-loop
-shared-slice-read-if2-2 c = search needs
-
 returns-2 : tie.Need-returns-2 Inv-loop μ-loop
 returns-2 c = differ _ _ _ (c .before .before .before .before .loop-test .taken) (c .before .before .before .if1 .left) (c .if2 .taken) (c .before .before .before .before .before .loop .inv)
-
-add-i : tie.Need-add-i Inv-loop μ-loop
-add-i c = search needs
-
-loop-less : tie.Need-loop-less Inv-loop μ-loop
-loop-less c = search needs
 
 loop-again : tie.Need-loop-again Inv-loop μ-loop
 loop-again c = step _ _ _ (search needs) (search needs) (c .if2 .left) (search needs)
@@ -48,10 +36,10 @@ shared-spec =
     μ-loop
     loop-holds
     returns
-    shared-slice-read-if2
-    shared-slice-read-if2-2
+    (search needs)
+    (search needs)
     returns-2
-    add-i
-    loop-less
+    (search needs)
+    (search needs)
     loop-again
     returns-3)

@@ -11,9 +11,6 @@ returns : tie.Need-returns
 unfolding textRefusal
 returns c = rw (lt-ltb _ _ (c .if1 .taken))
 
-bytes-allowed-requires : tie.Need-bytes-allowed-requires
-bytes-allowed-requires c κs = search needs
-
 returns-2 : tie.Need-returns-2
 unfolding textRefusal
 returns-2 c = rw (le-ltb _ _ (c .before .before .if1 .left), breaks _ _ (c .before .bytes-allowed .ensures) (c .if2 .taken))
@@ -23,4 +20,4 @@ unfolding textRefusal
 returns-3 c = rw (le-ltb _ _ (c .before .before .if1 .left), holds _ _ (c .before .bytes-allowed .ensures) (c .if2 .left))
 
 pub text-verdict-spec : {M : Type 1} → statement M
-text-verdict-spec = tie.close (tie.spec returns bytes-allowed-requires returns-2 returns-3)
+text-verdict-spec = tie.close (tie.spec returns (λ c κs. search needs) returns-2 returns-3)

@@ -4,17 +4,11 @@ use Rattle.walk.proofs.Spelled.{no-region, past-decides}
 use Rattle.walk.proofs.entry.within.Statement.{statement}
 use Rattle.walk.proofs.entry.within.Tie as tie
 
-cast-if1 : tie.Need-cast-if1
-cast-if1 c = search needs
-
 returns : tie.Need-returns
 returns c = no-region _ _ (c .if1 .taken)
-
-cast-result : tie.Need-cast-result
-cast-result c = search needs
 
 returns-2 : tie.Need-returns-2
 returns-2 c = past-decides _ _ (c .before .if1 .left)
 
 pub within-spec : {M : Type 1} → statement M
-within-spec = tie.close (tie.spec cast-if1 returns cast-result returns-2)
+within-spec = tie.close (tie.spec (search needs) returns (search needs) returns-2)

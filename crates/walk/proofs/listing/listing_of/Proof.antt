@@ -5,14 +5,8 @@ use Rattle.walk.specs.Listings.{listingAt}
 use Rattle.walk.proofs.listing.listing_of.Statement.{statement}
 use Rattle.walk.proofs.listing.listing_of.Tie as tie
 
-node-of-requires : tie.Need-node-of-requires
-node-of-requires c κs = search needs
-
-listing-at-requires : tie.Need-listing-at-requires
-listing-at-requires c κs = search needs
-
 returns : tie.Need-returns
 returns c = c .listing-at .ensures ∙ ap (listingAt _) (c .before .node-of .ensures)
 
 pub listing-of-spec : {M : Type 1} → statement M
-listing-of-spec = tie.close (tie.spec node-of-requires listing-at-requires returns)
+listing-of-spec = tie.close (tie.spec (λ c κs. search needs) (λ c κs. search needs) returns)
