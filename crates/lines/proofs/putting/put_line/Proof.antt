@@ -13,14 +13,8 @@ put-requires c κs = let a = c .before .before .before .before .args in omega (a
 put-requires-2 : tie.Need-put-requires-2
 put-requires-2 c κs = let a = c .before .before .before .before .before .before .before .before .args in omega (arith, line-long (a .key .now) (a .value .now))
 
-slice-aggregate-put : tie.Need-slice-aggregate-put
-slice-aggregate-put c = search needs
-
 put-requires-3 : tie.Need-put-requires-3
 put-requires-3 c κs = let a = c .before .before .before .before .before .before .before .before .before .before .before .before .before .args in omega (arith, line-long (a .key .now) (a .value .now))
-
-same-length : tie.Need-same-length
-same-length c = search needs
 
 returns : tie.Need-returns
 unfolding line
@@ -28,4 +22,4 @@ returns c = then (c .before .before .before .before .before .before .before .bef
 
 pub put-line-spec : {M : Type 1} → statement M
 put-line-spec =
-    tie.close (tie.spec put-requires put-requires-2 slice-aggregate-put put-requires-3 same-length returns)
+    tie.close (tie.spec put-requires put-requires-2 (search needs) put-requires-3 (search needs) returns)

@@ -12,14 +12,8 @@ use Rattle.lines.proofs.reading.decimal_in.Tie as tie
 returns : tie.Need-returns
 returns c = ap saidNumber (sym (no-digit _ _ (c .if1 .taken)))
 
-shared-slice-read-if3 : tie.Need-shared-slice-read-if3
-shared-slice-read-if3 c = search needs
-
 returns-2 : tie.Need-returns-2
 returns-2 c = ap saidNumber (sym (leading-zero _ _ (c .before .before .if2 .taken) (eqb-true _ _ (c .if3 .taken))))
-
-grown-by-requires : tie.Need-grown-by-requires
-grown-by-requires c κs = search needs
 
 returns-3 : tie.Need-returns-3
 returns-3 c =
@@ -29,4 +23,4 @@ returns-3 c =
 
 pub decimal-in-spec : {M : Type 1} → statement M
 decimal-in-spec =
-    tie.close (tie.spec returns shared-slice-read-if3 returns-2 grown-by-requires returns-3)
+    tie.close (tie.spec returns (search needs) returns-2 (search needs) returns-3)

@@ -16,17 +16,8 @@ abbrev μ-loop : tie.MeasureT-loop
 loop-holds : tie.Need-loop-holds Inv-loop μ-loop
 loop-holds c = seek _ _ (search needs)
 
-shared-slice-read-if1 : tie.Need-shared-slice-read-if1 Inv-loop μ-loop
-shared-slice-read-if1 c = search needs
-
 returns : tie.Need-returns Inv-loop μ-loop
 returns c = sought _ _ _ (search needs) (c .if1 .taken) (search needs)
-
-add-i : tie.Need-add-i Inv-loop μ-loop
-add-i c = search needs
-
-loop-less : tie.Need-loop-less Inv-loop μ-loop
-loop-less c = search needs
 
 loop-again : tie.Need-loop-again Inv-loop μ-loop
 loop-again c = seek-on _ _ _ (search needs) (c .if1 .left) (search needs)
@@ -41,9 +32,9 @@ feed-from-spec =
     Inv-loop
     μ-loop
     loop-holds
-    shared-slice-read-if1
+    (search needs)
     returns
-    add-i
-    loop-less
+    (search needs)
+    (search needs)
     loop-again
     returns-2)

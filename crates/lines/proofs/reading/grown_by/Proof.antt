@@ -21,20 +21,11 @@ abbrev μ-loop : tie.MeasureT-loop
 loop-holds : tie.Need-loop-holds Inv-loop μ-loop
 loop-holds c = grown-none _ _
 
-shared-slice-read-b : tie.Need-shared-slice-read-b Inv-loop μ-loop
-shared-slice-read-b c = search needs
-
 returns : tie.Need-returns Inv-loop μ-loop
 returns c =
     let now = c .before .before .before .loop in
     let more = c .before .before .loop-test .taken in
     ap saidNumber (sym (⊎-elim (λ w. too-low _ _ _ _ more (w .taken) (now .inv)) (λ w. too-high _ _ _ _ more (ltb-true 57 _ (w .1 .taken)) (now .inv)) (c .if1 .came)))
-
-cast-more : tie.Need-cast-more Inv-loop μ-loop
-cast-more c = search needs
-
-mul-more : tie.Need-mul-more Inv-loop μ-loop
-mul-more c = search needs
 
 cast-more-2 : tie.Need-cast-more-2 Inv-loop μ-loop
 cast-more-2 c = omega (arith, ltb-false)
@@ -44,15 +35,6 @@ add-more c = omega (arith, ltb-false)
 
 returns-2 : tie.Need-returns-2 Inv-loop μ-loop
 returns-2 c = ap saidNumber (sym (too-large _ _ _ _ (search needs) (c .if3 .taken) (c .before .before .before .before .before .loop .inv)))
-
-cast-value : tie.Need-cast-value Inv-loop μ-loop
-cast-value c = search needs
-
-add-i : tie.Need-add-i Inv-loop μ-loop
-add-i c = search needs
-
-loop-less : tie.Need-loop-less Inv-loop μ-loop
-loop-less c = search needs
 
 loop-again : tie.Need-loop-again Inv-loop μ-loop
 loop-again c = grown-one _ _ _ _ (search needs) (c .before .before .if1 .left) (ltb-false 57 _ (c .before .if2 .left)) (c .if3 .left) (c .before .before .before .before .before .loop .inv)
@@ -67,15 +49,15 @@ grown-by-spec =
     Inv-loop
     μ-loop
     loop-holds
-    shared-slice-read-b
+    (search needs)
     returns
-    cast-more
-    mul-more
+    (search needs)
+    (search needs)
     cast-more-2
     add-more
     returns-2
-    cast-value
-    add-i
-    loop-less
+    (search needs)
+    (search needs)
+    (search needs)
     loop-again
     returns-3)

@@ -14,15 +14,6 @@ use Rattle.lines.proofs.Signs.{said-signed, said-no-signed}
 use Rattle.lines.proofs.reading.signed_line.Statement.{statement}
 use Rattle.lines.proofs.reading.signed_line.Tie as tie
 
-bytes-line-requires : tie.Need-bytes-line-requires
-bytes-line-requires c κs = search needs
-
-enum-known-from : tie.Need-enum-known-from
-enum-known-from c = search needs
-
-enum-told : tie.Need-enum-told
-enum-told c = search needs
-
 value-part : (c : tie.After-known-told) →
     let a = c .before .before .before .before .before .before .args in
     PartReached (a .input .now) (a .at + length (a .key .now)) (bytesLine (a .key .now) (drop (a .at) (a .input .now))) (c .before .from .given .0 .0) (c .before .from .given .0 .1 .0)
@@ -41,15 +32,6 @@ part-signed-in-start c = value-part c .forward
 
 part-signed-in-end : tie.Need-part-signed-in-end
 part-signed-in-end c = omega (arith, value-part c .reached .within)
-
-signed-in-requires : tie.Need-signed-in-requires
-signed-in-requires c κs = search needs
-
-enum-known-n : tie.Need-enum-known-n
-enum-known-n c = search needs
-
-enum-told-2 : tie.Need-enum-told-2
-enum-told-2 c = search needs
 
 returns-2 : tie.Need-returns-2
 returns-2 c =
@@ -71,16 +53,16 @@ pub signed-line-spec : {M : Type 1} → statement M
 signed-line-spec =
     tie.close
     (tie.spec
-    bytes-line-requires
-    enum-known-from
-    enum-told
+    (search needs)
+    (search needs)
+    (search needs)
     returns
     sub-signed-in
     part-signed-in-start
     part-signed-in-end
-    signed-in-requires
-    enum-known-n
-    enum-told-2
+    (search needs)
+    (search needs)
+    (search needs)
     returns-2
     add-t10
     returns-3)

@@ -12,15 +12,6 @@ use Rattle.lines.proofs.Signs.{said-number, said-no-number}
 use Rattle.lines.proofs.reading.unsigned_line.Statement.{statement}
 use Rattle.lines.proofs.reading.unsigned_line.Tie as tie
 
-bytes-line-requires : tie.Need-bytes-line-requires
-bytes-line-requires c κs = search needs
-
-enum-known-from : tie.Need-enum-known-from
-enum-known-from c = search needs
-
-enum-told : tie.Need-enum-told
-enum-told c = search needs
-
 value-part : (c : tie.After-known-told) →
     let a = c .before .before .before .before .before .before .args in
     PartReached (a .input .now) (a .at + length (a .key .now)) (bytesLine (a .key .now) (drop (a .at) (a .input .now))) (c .before .from .given .0 .0) (c .before .from .given .0 .1 .0)
@@ -39,15 +30,6 @@ part-decimal-in-start c = value-part c .forward
 
 part-decimal-in-end : tie.Need-part-decimal-in-end
 part-decimal-in-end c = omega (arith, value-part c .reached .within)
-
-decimal-in-requires : tie.Need-decimal-in-requires
-decimal-in-requires c κs = search needs
-
-enum-known-n : tie.Need-enum-known-n
-enum-known-n c = search needs
-
-enum-told-2 : tie.Need-enum-told-2
-enum-told-2 c = search needs
 
 returns-2 : tie.Need-returns-2
 returns-2 c =
@@ -68,16 +50,16 @@ pub unsigned-line-spec : {M : Type 1} → statement M
 unsigned-line-spec =
     tie.close
     (tie.spec
-    bytes-line-requires
-    enum-known-from
-    enum-told
+    (search needs)
+    (search needs)
+    (search needs)
     returns
     sub-decimal-in
     part-decimal-in-start
     part-decimal-in-end
-    decimal-in-requires
-    enum-known-n
-    enum-told-2
+    (search needs)
+    (search needs)
+    (search needs)
     returns-2
     add-t11
     returns-3)
