@@ -27,18 +27,6 @@ handed : (c : tie.After-known-told) →
     (r : Input) × Parts (a .input .now) (tableOf (l .1 .0) (l .1 .1 .0) (l .1 .1 .1 .0) (l .1 .1 .1 .1 .0) (l .1 .1 .1 .1 .1 .0)) (v .0) (v .1 .0) (v .1 .1 .1 .0) (v .1 .1 .1 .1 .0) (tableFrom (r .stands)) (r .text)
 handed c = parts-read _ _ _ _ _ _ _ _ _ (read c)
 
-read-input-requires : tie.Need-read-input-requires
-read-input-requires c κs = search needs
-
-enum-known-reading : tie.Need-enum-known-reading
-enum-known-reading c = search needs
-
-enum-told : tie.Need-enum-told
-enum-told c = search needs
-
-put-refusal-requires : tie.Need-put-refusal-requires
-put-refusal-requires c κs = search needs
-
 returns : tie.Need-returns
 returns c = refused-14 _ _ _ (c .put-refusal .ensures) _ (rw (c .before .before .enum-told .given .1) at (c .before .before .before .before .read-input .ensures)) refl
 
@@ -79,10 +67,10 @@ pub answer-spec : {M : Type 1} → statement M
 answer-spec =
     tie.close
     (tie.spec
-    read-input-requires
-    enum-known-reading
-    enum-told
-    put-refusal-requires
+    (search needs)
+    (search needs)
+    (search needs)
+    (search needs)
     returns
     slice-aggregate-reply
     add-reply

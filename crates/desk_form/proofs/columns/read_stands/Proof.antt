@@ -46,9 +46,6 @@ east-fits c = search needs
 north-fits : (c : tie.After-known-told Inv-loop μ-loop) → SFits w32 (c .before .from .given .0 .1 .1 .1 .0)
 north-fits c = search needs
 
-slice-write-starts : tie.Need-slice-write-starts Inv-loop μ-loop
-slice-write-starts c = search needs
-
 loop-holds : tie.Need-loop-holds Inv-loop μ-loop
 loop-holds c =
     let a = c .before .before .before .before .args in
@@ -56,12 +53,6 @@ loop-holds c =
 
 read-stand-requires : tie.Need-read-stand-requires Inv-loop μ-loop
 read-stand-requires c κs = c .before .loop .inv .within
-
-enum-known-from : tie.Need-enum-known-from Inv-loop μ-loop
-enum-known-from c = search needs
-
-enum-told : tie.Need-enum-told Inv-loop μ-loop
-enum-told c = search needs
 
 same-length : tie.Need-same-length Inv-loop μ-loop
 same-length c = long (c .before .before .before .before) .text
@@ -144,11 +135,11 @@ read-stands-spec =
     (tie.spec
     Inv-loop
     μ-loop
-    slice-write-starts
+    (search needs)
     loop-holds
     read-stand-requires
-    enum-known-from
-    enum-told
+    (search needs)
+    (search needs)
     same-length
     same-length-2
     same-length-3

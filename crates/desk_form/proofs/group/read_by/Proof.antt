@@ -33,15 +33,6 @@ score : (c : tie.After-known-told4) →
     Reached (a .input .now) (unsignedLine 65535 (a .last .now) (drop (c .before .before .before .before .before .north .given .0 .1 .0) (a .input .now))) (c .before .score .given .0 .0) (c .before .score .given .0 .1 .0)
 score c = rw (c .before .score .given .1) at (c .before .before .before .unsigned-line .ensures)
 
-bytes-line-requires : tie.Need-bytes-line-requires
-bytes-line-requires c κs = search needs
-
-enum-known-from : tie.Need-enum-known-from
-enum-known-from c = search needs
-
-enum-told : tie.Need-enum-told
-enum-told c = search needs
-
 returns : tie.Need-returns
 unfolding standBy firstBad past onward
 returns c = let e = rw (c .enum-told .given .1) at (c .before .before .bytes-line .ensures) in record { none = rw (e); bad = rw (e); of-four = omega arith }
@@ -49,17 +40,8 @@ returns c = let e = rw (c .enum-told .given .1) at (c .before .before .bytes-lin
 add-signed-line : tie.Need-add-signed-line
 add-signed-line c = omega (arith, bytes c .reached .within, c .before .before .before .before .before .before .before .good .0)
 
-slice-aggregate-signed-line : tie.Need-slice-aggregate-signed-line
-slice-aggregate-signed-line c = search needs
-
 signed-line-requires : tie.Need-signed-line-requires
 signed-line-requires c κs = bytes (c .before) .reached .within
-
-enum-known-east : tie.Need-enum-known-east
-enum-known-east c = search needs
-
-enum-told-2 : tie.Need-enum-told-2
-enum-told-2 c = search needs
 
 returns-2 : tie.Need-returns-2
 unfolding standBy firstBad past onward
@@ -68,17 +50,8 @@ returns-2 c =
     let e = rw (c .enum-told2 .given .1) at (c .before .before .signed-line .ensures) in
     record { none = rw (b, e); bad = rw (b, e); of-four = omega arith }
 
-slice-aggregate-signed-line-2 : tie.Need-slice-aggregate-signed-line-2
-slice-aggregate-signed-line-2 c = search needs
-
 signed-line-requires-2 : tie.Need-signed-line-requires-2
 signed-line-requires-2 c κs = east (c .before) .within
-
-enum-known-north : tie.Need-enum-known-north
-enum-known-north c = search needs
-
-enum-told-3 : tie.Need-enum-told-3
-enum-told-3 c = search needs
 
 returns-3 : tie.Need-returns-3
 unfolding standBy firstBad past onward
@@ -90,12 +63,6 @@ returns-3 c =
 
 unsigned-line-requires : tie.Need-unsigned-line-requires
 unsigned-line-requires c κs = north c .within
-
-enum-known-score : tie.Need-enum-known-score
-enum-known-score c = search needs
-
-enum-told-4 : tie.Need-enum-told-4
-enum-told-4 c = search needs
 
 returns-4 : tie.Need-returns-4
 unfolding standBy firstBad past onward
@@ -119,23 +86,23 @@ pub read-by-spec : {M : Type 1} → statement M
 read-by-spec =
     tie.close
     (tie.spec
-    bytes-line-requires
-    enum-known-from
-    enum-told
+    (search needs)
+    (search needs)
+    (search needs)
     returns
     add-signed-line
-    slice-aggregate-signed-line
+    (search needs)
     signed-line-requires
-    enum-known-east
-    enum-told-2
+    (search needs)
+    (search needs)
     returns-2
-    slice-aggregate-signed-line-2
+    (search needs)
     signed-line-requires-2
-    enum-known-north
-    enum-told-3
+    (search needs)
+    (search needs)
     returns-3
     unsigned-line-requires
-    enum-known-score
-    enum-told-4
+    (search needs)
+    (search needs)
     returns-4
     returns-5)

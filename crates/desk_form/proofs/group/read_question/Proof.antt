@@ -24,36 +24,12 @@ k : (c : tie.After-known-told2) →
     Reached (a .input .now) (unsignedLine 65535 (ascii "k=") (drop (c .before .before .before .before .before .before .from .given .0 .1 .1 .1 .1 .1 .0) (a .input .now))) (c .before .k .given .0 .0) (c .before .k .given .0 .1 .0)
 k c = rw (c .before .k .given .1) at (c .before .before .before .unsigned-line .ensures)
 
-slice-aggregate-read-by : tie.Need-slice-aggregate-read-by
-slice-aggregate-read-by c = search needs
-
-slice-aggregate-read-by-2 : tie.Need-slice-aggregate-read-by-2
-slice-aggregate-read-by-2 c = search needs
-
-read-by-requires : tie.Need-read-by-requires
-read-by-requires c κs = search needs
-
-enum-known-from : tie.Need-enum-known-from
-enum-known-from c = search needs
-
-enum-told : tie.Need-enum-told
-enum-told c = search needs
-
 returns : tie.Need-returns
 unfolding questionLines onward
 returns c = rw (rw (c .enum-told .given .1) at (c .before .before .read-by .ensures) .none)
 
-slice-aggregate-unsigned-line : tie.Need-slice-aggregate-unsigned-line
-slice-aggregate-unsigned-line c = search needs
-
 unsigned-line-requires : tie.Need-unsigned-line-requires
 unsigned-line-requires c κs = four (c .before) .reached .within
-
-enum-known-k : tie.Need-enum-known-k
-enum-known-k c = search needs
-
-enum-told-2 : tie.Need-enum-told-2
-enum-told-2 c = search needs
 
 returns-2 : tie.Need-returns-2
 unfolding questionLines onward
@@ -73,15 +49,15 @@ pub read-question-spec : {M : Type 1} → statement M
 read-question-spec =
     tie.close
     (tie.spec
-    slice-aggregate-read-by
-    slice-aggregate-read-by-2
-    read-by-requires
-    enum-known-from
-    enum-told
+    (search needs)
+    (search needs)
+    (search needs)
+    (search needs)
+    (search needs)
     returns
-    slice-aggregate-unsigned-line
+    (search needs)
     unsigned-line-requires
-    enum-known-k
-    enum-told-2
+    (search needs)
+    (search needs)
     returns-2
     returns-3)
