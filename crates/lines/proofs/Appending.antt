@@ -22,8 +22,7 @@ module _ (out : List ℕ) (at : ℕ) (bytes : List ℕ) where
   pub copy-one : (now : List ℕ) (i : ℕ) → RoomAt out at bytes → i < length bytes → Copying out at bytes now i
       → Copying out at bytes (set now (at + i) (getD bytes i 0)) (i + 1)
   copy-one now i room h s =
-      let e : set (paste out at bytes i) (at + i) (getD bytes i 0) ≡ paste out at bytes (suc i) = paste-suc out at bytes i 0 (omega arith) h in
-      record { within = omega arith; is = rw (s .is, add-one) e; long = length-set now (at + i) (getD bytes i 0) ∙ s .long }
+      record { within = omega arith; is = rw (s .is, add-one) (paste-suc out at bytes i 0 (omega arith) h); long = length-set now (at + i) (getD bytes i 0) ∙ s .long }
 
   pub copied : (now : List ℕ) (i : ℕ) → RoomAt out at bytes → length bytes ≤ i → Copying out at bytes now i → Puts bytes out at now (at + i)
   copied now i room h s =

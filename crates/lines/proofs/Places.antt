@@ -1,7 +1,6 @@
 -- Readers at a place of the input: what the tests that the code makes there say of the lines that begin there.
 -- Assumes nothing.
 use mathlib.Core.Path.{_≡_, refl, _∙_}
-use mathlib.Core.Logic.{_⊎_, inl, inr}
 use mathlib.Core.Bool.{true, false}
 use mathlib.Core.List.{List, [], _∷_}
 use mathlib.Core.Option.{Option, none, some}
@@ -10,20 +9,16 @@ use native.Mathlib.Omega.{arith}
 use lib.Dec.{eqb}
 use lib.ListN.{length, take, drop, getD, length-drop}
 use lib.Seq.{take-all, drop-drop}
+use borrow.Table.Steps.{cases}
 use borrow.Author.Tests.{lt-ltb, le-ltb, eq-eqb, ne-eqb}
 use Rattle.base.specs.Lists.{begins, positionIn}
-use Rattle.base.proofs.Tests.{which}
 use Rattle.base.proofs.Begins.{begins-length}
 use Rattle.lines.specs.Reads.{nothing, onward, toFeed, bytesLine, valueLine, grownBy, wellLed, decimalIn}
 use Rattle.lines.specs.Says.{part, Reached, PartReached}
 
 position-le : (x : ℕ) (l : List ℕ) → positionIn x l ≤ length l
 position-le x [] = omega arith
-position-le x (y ∷ l) = step (position-le x l) (which (eqb x y))
-  where
-    step : positionIn x l ≤ length l → (eqb x y ≡ true) ⊎ (eqb x y ≡ false) → positionIn x (y ∷ l) ≤ length (y ∷ l)
-    step h (inl q) = rw q (omega arith)
-    step h (inr q) = rw q (omega arith)
+position-le x (y ∷ l) = cases (eqb x y) (λ q. rw q (omega arith)) (λ q. rw q (omega (arith, position-le x l)))
 
 -- from a place on: the first line feed, or the input's end
 module _ (l : List ℕ) (from past : ℕ) (is : past ≡ from + positionIn 10 (drop from l)) (h : from ≤ length l) where

@@ -20,9 +20,7 @@ value-part : (c : tie.After-known-told) →
 value-part c = rw (c .before .from .given .1) at (c .before .before .before .bytes-line .ensures)
 
 returns : tie.Need-returns
-returns c =
-    let a = c .before .before .before .before .before .args in
-    value-missing signedIn (a .key .now) _ (rw (c .enum-told .given .1) at (c .before .before .bytes-line .ensures))
+returns c = value-missing signedIn _ _ (rw (c .enum-told .given .1) at (c .before .before .bytes-line .ensures))
 
 sub-signed-in : tie.Need-sub-signed-in
 sub-signed-in c = value-part c .forward
@@ -35,19 +33,15 @@ part-signed-in-end c = omega (arith, value-part c .reached .within)
 
 returns-2 : tie.Need-returns-2
 returns-2 c =
-    let a = c .before .before .before .before .before .before .before .before .before .before .args in
-    let e = c .before .before .before .before in
-    value-broken signedIn (a .key .now) _ (a .input .now) _ _ _ (value-part e) (said-no-signed _ (sym (c .before .before .signed-in .ensures) ∙ c .enum-told2 .given .1))
+    value-broken signedIn _ _ _ _ _ _ (value-part (c .before .before .before .before)) (said-no-signed _ (sym (c .before .before .signed-in .ensures) ∙ c .enum-told2 .given .1))
 
 add-t10 : tie.Need-add-t10
 add-t10 c = let e = c .before .before .before .before .before in omega (arith, value-part e .reached .within, e .before .before .before .before .before .before .good .0)
 
 returns-3 : tie.Need-returns-3
 returns-3 c =
-    let a = c .before .before .before .before .before .before .before .before .before .before .before .args in
-    let e = c .before .before .before .before .before in
     rw (toZ-ofZ {w = w32} {z = c .before .n .given .0 .0} (search needs))
-    (value-there signedIn (a .key .now) _ (a .input .now) _ _ _ (value-part e) _ (said-signed _ _ (sym (c .before .before .before .signed-in .ensures) ∙ c .before .n .given .1)))
+    (value-there signedIn _ _ _ _ _ _ (value-part (c .before .before .before .before .before)) _ (said-signed _ _ (sym (c .before .before .before .signed-in .ensures) ∙ c .before .n .given .1)))
 
 pub signed-line-spec : {M : Type 1} → statement M
 signed-line-spec =

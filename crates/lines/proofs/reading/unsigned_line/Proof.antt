@@ -18,9 +18,7 @@ value-part : (c : tie.After-known-told) →
 value-part c = rw (c .before .from .given .1) at (c .before .before .before .bytes-line .ensures)
 
 returns : tie.Need-returns
-returns c =
-    let a = c .before .before .before .before .before .args in
-    value-missing (decimalIn (a .most)) (a .key .now) _ (rw (c .enum-told .given .1) at (c .before .before .bytes-line .ensures))
+returns c = value-missing (decimalIn _) _ _ (rw (c .enum-told .given .1) at (c .before .before .bytes-line .ensures))
 
 sub-decimal-in : tie.Need-sub-decimal-in
 sub-decimal-in c = value-part c .forward
@@ -33,18 +31,14 @@ part-decimal-in-end c = omega (arith, value-part c .reached .within)
 
 returns-2 : tie.Need-returns-2
 returns-2 c =
-    let a = c .before .before .before .before .before .before .before .before .before .before .args in
-    let e = c .before .before .before .before in
-    value-broken (decimalIn (a .most)) (a .key .now) _ (a .input .now) _ _ _ (value-part e) (said-no-number _ (sym (c .before .before .decimal-in .ensures) ∙ c .enum-told2 .given .1))
+    value-broken (decimalIn _) _ _ _ _ _ _ (value-part (c .before .before .before .before)) (said-no-number _ (sym (c .before .before .decimal-in .ensures) ∙ c .enum-told2 .given .1))
 
 add-t11 : tie.Need-add-t11
 add-t11 c = let e = c .before .before .before .before .before in omega (arith, value-part e .reached .within, e .before .before .before .before .before .before .good .0)
 
 returns-3 : tie.Need-returns-3
 returns-3 c =
-    let a = c .before .before .before .before .before .before .before .before .before .before .before .args in
-    let e = c .before .before .before .before .before in
-    value-there (decimalIn (a .most)) (a .key .now) _ (a .input .now) _ _ _ (value-part e) _ (said-number _ _ (sym (c .before .before .before .decimal-in .ensures) ∙ c .before .n .given .1))
+    value-there (decimalIn _) _ _ _ _ _ _ (value-part (c .before .before .before .before .before)) _ (said-number _ _ (sym (c .before .before .before .decimal-in .ensures) ∙ c .before .n .given .1))
 
 pub unsigned-line-spec : {M : Type 1} → statement M
 unsigned-line-spec =
