@@ -30,16 +30,10 @@ feed-from-requires : tie.Need-feed-from-requires
 feed-from-requires c κs = fits c
 
 returns-2 : tie.Need-returns-2
-returns-2 c =
-    let e = c .before .before in
-    let a = e .before .before .before .before .before .args in
-    feed-missing (a .input .now) (a .key .now) (a .at) (c .before .feed-from .result) (key-there e) (fits e) (c .before .feed-from .ensures) (c .if2 .taken)
+returns-2 c = feed-missing _ _ _ _ (key-there (c .before .before)) (fits (c .before .before)) (c .before .feed-from .ensures) (c .if2 .taken)
 
 returns-3 : tie.Need-returns-3
-returns-3 c =
-    let e = c .before .before in
-    let a = e .before .before .before .before .before .args in
-    line-there (a .input .now) (a .key .now) (a .at) (c .before .feed-from .result) (key-there e) (fits e) (c .before .feed-from .ensures) (c .if2 .left)
+returns-3 c = line-there _ _ _ _ (key-there (c .before .before)) (fits (c .before .before)) (c .before .feed-from .ensures) (c .if2 .left)
 
 pub bytes-line-spec : {M : Type 1} → statement M
 bytes-line-spec =
