@@ -71,17 +71,11 @@ module _ (most : ℕ) where
   leading-zero (b ∷ []) h e = absurd (omega arith)
   leading-zero (b ∷ c ∷ l) h e = rw (eq-eqb b 48 e)
 
-  pub one-digit : (l : List ℕ) → (length l ≡ 0 → ⊥) → length l ≤ 1 → decimalIn most l ≡ grownBy most 0 l
-  unfolding decimalIn wellLed
-  one-digit [] n h = absurd (n refl)
-  one-digit (b ∷ []) n h = refl
-  one-digit (b ∷ c ∷ l) n h = absurd (omega arith)
-
-  pub no-leading-zero : (l : List ℕ) → (length l ≡ 0 → ⊥) → (getD l 0 0 ≡ 48 → ⊥) → decimalIn most l ≡ grownBy most 0 l
+  pub no-leading-zero : (l : List ℕ) → (length l ≡ 0 → ⊥) → (1 < length l → getD l 0 0 ≡ 48 → ⊥) → decimalIn most l ≡ grownBy most 0 l
   unfolding decimalIn wellLed
   no-leading-zero [] n e = absurd (n refl)
   no-leading-zero (b ∷ []) n e = refl
-  no-leading-zero (b ∷ c ∷ l) n e = rw (ne-eqb b 48 e)
+  no-leading-zero (b ∷ c ∷ l) n e = rw (ne-eqb b 48 (e (omega arith)))
 
 -- a line's value, where the line was got, and where it was not
 module _ {A : Type 0} (read : List ℕ → Option A) (key rest : List ℕ) where

@@ -2,10 +2,11 @@
 -- Assumes nothing.
 use mathlib.Core.Path.{sym, ap, _∙_}
 use mathlib.Core.Logic.{⊎-elim}
+use native.Mathlib.Omega.{arith}
 use borrow.Author.Needs.{needs}
 use borrow.Author.Tests.{eqb-true, eqb-false}
 use Rattle.lines.specs.Says.{saidNumber}
-use Rattle.lines.proofs.Places.{no-digit, leading-zero, one-digit, no-leading-zero}
+use Rattle.lines.proofs.Places.{no-digit, leading-zero, no-leading-zero}
 use Rattle.lines.proofs.reading.decimal_in.Statement.{statement}
 use Rattle.lines.proofs.reading.decimal_in.Tie as tie
 
@@ -17,9 +18,7 @@ returns-2 c = ap saidNumber (sym (leading-zero _ _ (c .before .before .if2 .take
 
 returns-3 : tie.Need-returns-3
 returns-3 c =
-    let a = c .before .before .before .before .args in
-    let some = c .before .before .if1 .left in
-    c .grown-by .ensures ∙ ap saidNumber (sym (⊎-elim (λ w. no-leading-zero (a .most) (a .digits .now) some (eqb-false _ _ (w .2 .left))) (λ w. one-digit (a .most) (a .digits .now) some (w .left)) (c .before .if2 .came)))
+    c .grown-by .ensures ∙ ap saidNumber (sym (no-leading-zero _ _ (c .before .before .if1 .left) (λ h e. ⊎-elim (λ w. eqb-false _ _ (w .2 .left) e) (λ w. omega arith) (c .before .if2 .came))))
 
 pub decimal-in-spec : {M : Type 1} → statement M
 decimal-in-spec =
