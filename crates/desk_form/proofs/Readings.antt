@@ -1,17 +1,15 @@
 -- From the lines that were got, or not, to what reading a whole input promises.
 -- Assumes nothing.
 use mathlib.Core.Path.{_≡_, refl, sym, ap, _∙_}
-use mathlib.Core.Logic.{_⊎_, inl, inr}
-use mathlib.Core.Bool.{true, false}
 use mathlib.Core.List.{List, [], _++_}
 use Prim.Native.Nat.{ℕ, _+_, _-_, _≤_, _<_}
 use native.Mathlib.Omega.{arith}
 use lib.Dec.{leb}
 use lib.ListN.{length, drop, length-append, length-drop, drop-of-length-le}
 use lib.Seq.{drop-cons, length-take-le}
+use borrow.Table.Steps.{cases}
 use borrow.Author.Tests.{le-leb, lt-leb}
 use Rattle.base.specs.Lists.{eachList}
-use Rattle.base.proofs.Tests.{which}
 use Rattle.rules.specs.declared.Grid.{Grid}
 use Rattle.rules.specs.declared.Ranking.{Ranking}
 use Rattle.rules.specs.declared.Refusal.the-variants.{InputMalformed}
@@ -54,11 +52,7 @@ module _ (l : List ℕ) (rooms after : Table) where
 
   lines-refused : allLines l ≡ nothing → ReadsInput l rooms (Refused InputMalformed) after
   unfolding readInput
-  lines-refused e = refused (step (which (leb (length l) 16384)))
-    where
-      step : (leb (length l) 16384 ≡ true) ⊎ (leb (length l) 16384 ≡ false) → readInput l ≡ nothing
-      step (inl q) = rw (q, e)
-      step (inr q) = rw q
+  lines-refused e = refused (cases (leb (length l) 16384) (λ q. rw (q, e)) (λ q. rw q))
 
   pub no-opening : gridLines l ≡ nothing → ReadsInput l rooms (Refused InputMalformed) after
   unfolding allLines onward
