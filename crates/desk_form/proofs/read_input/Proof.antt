@@ -56,9 +56,6 @@ read-stands-requires c κs =
 returns-3 : tie.Need-returns-3
 returns-3 c = no-stands _ _ _ _ _ _ (opening (c .before .before .before .before .before .before .before .before)) (rw (c .enum-told2 .given .1) at (c .before .before .read-stands .ensures))
 
-read-question-requires : tie.Need-read-question-requires
-read-question-requires c κs = stands c .reached .within
-
 returns-4 : tie.Need-returns-4
 returns-4 c = no-question _ _ _ _ _ _ (opening (c .before .before .before .before .before .before .before .before .before .before .before .before)) _ _ (stands (c .before .before .before)) (rw (c .enum-told3 .given .1) at (c .before .before .read-question .ensures))
 
@@ -82,7 +79,7 @@ read-input-spec =
     (search needs)
     (search needs)
     returns-3
-    read-question-requires
+    (λ c κs. stands c .reached .within)
     (search needs)
     (search needs)
     returns-4

@@ -10,9 +10,6 @@ use Rattle.desk_answer.proofs.Listing.{hit-put}
 use Rattle.desk_answer.proofs.printing.put_hit.Statement.{statement}
 use Rattle.desk_answer.proofs.printing.put_hit.Tie as tie
 
-put-number-requires : tie.Need-put-number-requires
-put-number-requires c κs = number-room _ _ _ _ (search needs) (search needs)
-
 put-line-requires : tie.Need-put-line-requires
 put-line-requires c κs =
     let s = c .before .before .before .before .before .before .before .before .before in
@@ -35,7 +32,7 @@ put-hit-spec =
     (search needs)
     (search needs)
     (search needs)
-    put-number-requires
+    (λ c κs. number-room _ _ _ _ (search needs) (search needs))
     (search needs)
     put-line-requires
     (search needs)

@@ -14,9 +14,6 @@ Inv-loop out₀ text starts found values count at₀ i₀ out at i = Listing tex
 abbrev μ-loop : tie.MeasureT-loop
 μ-loop out₀ text starts found values count at₀ i₀ out at i = count - i
 
-put-number-requires : tie.Need-put-number-requires Inv-loop μ-loop
-put-number-requires c κs = number-room _ _ _ _ (search needs) (search needs)
-
 loop-holds : tie.Need-loop-holds Inv-loop μ-loop
 loop-holds c = none-listed _ _ _ _ _ _ _
 
@@ -44,7 +41,7 @@ put-hits-spec =
     Inv-loop
     μ-loop
     (search needs)
-    put-number-requires
+    (λ c κs. number-room _ _ _ _ (search needs) (search needs))
     loop-holds
     (search needs)
     (search needs)

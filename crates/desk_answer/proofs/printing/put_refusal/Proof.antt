@@ -6,9 +6,6 @@ use Rattle.lines.proofs.Digits.{number-room}
 use Rattle.desk_answer.proofs.printing.put_refusal.Statement.{statement}
 use Rattle.desk_answer.proofs.printing.put_refusal.Tie as tie
 
-put-number-requires : tie.Need-put-number-requires
-put-number-requires c κs = number-room _ _ _ _ (search needs) (search needs)
-
 returns : tie.Need-returns
 unfolding printedRefusal
 returns c = rw (c .before .number .ensures) at (c .put-number .ensures)
@@ -20,5 +17,5 @@ put-refusal-spec =
     (search needs)
     (search needs)
     (search needs)
-    put-number-requires
+    (λ c κs. number-room _ _ _ _ (search needs) (search needs))
     returns)

@@ -5,8 +5,6 @@ use Prim.Native.Nat.{ℕ, _+_, _-_}
 use native.Mathlib.Omega.{arith}
 use lib.ListN.{length, drop, set, length-set}
 use borrow.Author.Needs.{needs}
-use mir.Syntax.{w32}
-use mir.Val.{SFits}
 use Rattle.base.proofs.Machine.{arrives}
 use Rattle.rules.specs.Tables.{tableOf}
 use Rattle.lines.specs.Writing.{ascii}
@@ -40,19 +38,10 @@ there : (c : tie.After-known-told Inv-loop μ-loop) →
     StandReached (a .input .now) (c .before .before .before .before .before .loop .next + length (ascii "name=")) (standLines (drop (c .before .before .before .before .before .loop .next) (a .input .now))) (s .0) (s .1 .0) (s .1 .1 .0) (s .1 .1 .1 .0) (s .1 .1 .1 .1 .0) (s .1 .1 .1 .1 .1 .0)
 there c = rw (c .before .from .given .1) at (c .before .before .before .read-stand .ensures)
 
-east-fits : (c : tie.After-known-told Inv-loop μ-loop) → SFits w32 (c .before .from .given .0 .1 .1 .0)
-east-fits c = search needs
-
-north-fits : (c : tie.After-known-told Inv-loop μ-loop) → SFits w32 (c .before .from .given .0 .1 .1 .1 .0)
-north-fits c = search needs
-
 loop-holds : tie.Need-loop-holds Inv-loop μ-loop
 loop-holds c =
     let a = c .before .before .before .before .args in
     lay-none _ _ _ _ (with-first _ _ _ _ _ _ _ _ (c .before .before .before .before .pre)) (first-start (a .starts .now) (omega (arith, c .before .before .before .before .pre .starts)))
-
-read-stand-requires : tie.Need-read-stand-requires Inv-loop μ-loop
-read-stand-requires c κs = c .before .loop .inv .within
 
 returns : tie.Need-returns Inv-loop μ-loop
 returns c = no-stand _ _ _ _ _ _ _ _ (c .before .before .before .loop-test .taken) (rw (c .enum-told .given .1) at (c .before .before .read-stand .ensures) .none) (c .before .before .before .before .loop .inv)
@@ -82,7 +71,7 @@ loop-again c =
     let at = c .before .before .before .before .before .before .before .before .before .before .before .before .before .before .before .before in
     let read = at .before .from .given .0 in
     let now = c .before .before .before .before .before .before .before .before .before .before .before .before .before .before .before .before .before .before .before .before .before in
-    lay-one _ _ _ _ _ _ _ _ _ _ _ _ _ _ _ (there at) (now .loop .inv) (room now) (c .before .before .before .before .before .before .before .before .before .before .before .before .before .before .before .before .before .before .before .before .loop-test .taken) _ _ _ _ _ _ (c .before .before .before .before .before .before .before .before .before .before .before .before .before .put .ensures) (put .end-is) (put .x-is ∙ arrives (set (now .loop .east) (now .loop .i)) (read .1 .1 .0) (east-fits at)) (put .y-is ∙ arrives (set (now .loop .north) (now .loop .i)) (read .1 .1 .1 .0) (north-fits at)) (put .value-is)
+    lay-one _ _ _ _ _ _ _ _ _ _ _ _ _ _ _ (there at) (now .loop .inv) (room now) (c .before .before .before .before .before .before .before .before .before .before .before .before .before .before .before .before .before .before .before .before .loop-test .taken) _ _ _ _ _ _ (c .before .before .before .before .before .before .before .before .before .before .before .before .before .put .ensures) (put .end-is) (put .x-is ∙ arrives (set (now .loop .east) (now .loop .i)) (read .1 .1 .0) (search needs)) (put .y-is ∙ arrives (set (now .loop .north) (now .loop .i)) (read .1 .1 .1 .0) (search needs)) (put .value-is)
 
 returns-2 : tie.Need-returns-2 Inv-loop μ-loop
 returns-2 c = from-entry _ _ _ _ _ _ _ _ _ _ (all-laid _ _ _ _ _ _ _ _ (c .loop-test .left) (c .before .loop .inv))
@@ -95,7 +84,7 @@ read-stands-spec =
     μ-loop
     (search needs)
     loop-holds
-    read-stand-requires
+    (λ c κs. c .before .loop .inv .within)
     (search needs)
     (search needs)
     (λ c. long (c .before .before .before .before) .text)

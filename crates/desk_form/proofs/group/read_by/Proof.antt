@@ -40,18 +40,12 @@ returns c = let e = rw (c .enum-told .given .1) at (c .before .before .bytes-lin
 add-signed-line : tie.Need-add-signed-line
 add-signed-line c = omega (arith, bytes c .reached .within, c .before .before .before .before .before .before .before .good .0)
 
-signed-line-requires : tie.Need-signed-line-requires
-signed-line-requires c κs = bytes (c .before) .reached .within
-
 returns-2 : tie.Need-returns-2
 unfolding standBy firstBad past onward
 returns-2 c =
     let b = bytes (c .before .before .before .before) .reached .is in
     let e = rw (c .enum-told2 .given .1) at (c .before .before .signed-line .ensures) in
     record { none = rw (b, e); bad = rw (b, e); of-four = omega arith }
-
-signed-line-requires-2 : tie.Need-signed-line-requires-2
-signed-line-requires-2 c κs = east (c .before) .within
 
 returns-3 : tie.Need-returns-3
 unfolding standBy firstBad past onward
@@ -60,9 +54,6 @@ returns-3 c =
     let b = bytes (at-east .before .before .before .before .before) .reached .is in
     let e = rw (c .enum-told3 .given .1) at (c .before .before .signed-line2 .ensures) in
     record { none = rw (b, east at-east .is, e); bad = rw (b, east at-east .is, e); of-four = omega arith }
-
-unsigned-line-requires : tie.Need-unsigned-line-requires
-unsigned-line-requires c κs = north c .within
 
 returns-4 : tie.Need-returns-4
 unfolding standBy firstBad past onward
@@ -92,16 +83,16 @@ read-by-spec =
     returns
     add-signed-line
     (search needs)
-    signed-line-requires
+    (λ c κs. bytes (c .before) .reached .within)
     (search needs)
     (search needs)
     returns-2
     (search needs)
-    signed-line-requires-2
+    (λ c κs. east (c .before) .within)
     (search needs)
     (search needs)
     returns-3
-    unsigned-line-requires
+    (λ c κs. north c .within)
     (search needs)
     (search needs)
     returns-4

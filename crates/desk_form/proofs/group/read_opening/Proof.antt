@@ -36,17 +36,11 @@ unfolding gridLines onward
 returns c =
     rw (rw (c .enum-told .given .1) at (c .before .before .signed-line .ensures))
 
-signed-line-requires-2 : tie.Need-signed-line-requires-2
-signed-line-requires-2 c κs = west (c .before) .within
-
 returns-2 : tie.Need-returns-2
 unfolding gridLines onward
 returns-2 c =
     let at-west = c .before .before .before .before in
     rw (west at-west .is, rw (c .enum-told2 .given .1) at (c .before .before .signed-line2 .ensures))
-
-unsigned-line-requires : tie.Need-unsigned-line-requires
-unsigned-line-requires c κs = south (c .before) .within
 
 returns-3 : tie.Need-returns-3
 unfolding gridLines onward
@@ -54,9 +48,6 @@ returns-3 c =
     let at-south = c .before .before .before .before in
     let at-west = at-south .before .before .before .before .before in
     rw (west at-west .is, south at-south .is, rw (c .enum-told3 .given .1) at (c .before .before .unsigned-line .ensures))
-
-unsigned-line-requires-2 : tie.Need-unsigned-line-requires-2
-unsigned-line-requires-2 c κs = cell (c .before) .within
 
 returns-4 : tie.Need-returns-4
 unfolding gridLines onward
@@ -85,17 +76,17 @@ read-opening-spec =
     (search needs)
     returns
     (search needs)
-    signed-line-requires-2
+    (λ c κs. west (c .before) .within)
     (search needs)
     (search needs)
     returns-2
     (search needs)
-    unsigned-line-requires
+    (λ c κs. south (c .before) .within)
     (search needs)
     (search needs)
     returns-3
     (search needs)
-    unsigned-line-requires-2
+    (λ c κs. cell (c .before) .within)
     (search needs)
     (search needs)
     returns-4

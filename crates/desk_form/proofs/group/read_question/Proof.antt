@@ -28,9 +28,6 @@ returns : tie.Need-returns
 unfolding questionLines onward
 returns c = rw (rw (c .enum-told .given .1) at (c .before .before .read-by .ensures) .none)
 
-unsigned-line-requires : tie.Need-unsigned-line-requires
-unsigned-line-requires c κs = four (c .before) .reached .within
-
 returns-2 : tie.Need-returns-2
 unfolding questionLines onward
 returns-2 c =
@@ -56,7 +53,7 @@ read-question-spec =
     (search needs)
     returns
     (search needs)
-    unsigned-line-requires
+    (λ c κs. four (c .before) .reached .within)
     (search needs)
     (search needs)
     returns-2

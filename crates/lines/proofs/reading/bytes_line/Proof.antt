@@ -26,9 +26,6 @@ returns c =
     let a = c .before .before .before .before .before .args in
     key-missing (a .input .now) (a .key .now) (a .at) (sym (c .before .begins .ensures) ∙ not-true _ (c .if1 .taken))
 
-feed-from-requires : tie.Need-feed-from-requires
-feed-from-requires c κs = fits c
-
 returns-2 : tie.Need-returns-2
 returns-2 c = feed-missing _ _ _ _ (key-there (c .before .before)) (fits (c .before .before)) (c .before .feed-from .ensures) (c .if2 .taken)
 
@@ -45,6 +42,6 @@ bytes-line-spec =
     (search needs)
     returns
     (search needs)
-    feed-from-requires
+    (λ c κs. fits c)
     returns-2
     returns-3)

@@ -25,12 +25,6 @@ cast-t11 c = plain-fits _ (plain (c .before .before .before .before)) _ (sym (c 
 returns-2 : tie.Need-returns-2
 returns-2 c = plain-some _ (plain (c .before .before .before .before)) _ (sym (c .before .before .before .decimal-in .ensures) ∙ c .before .n .given .1)
 
-sub-decimal-in : tie.Need-sub-decimal-in
-sub-decimal-in c = sign-there (c .before .before .before .before .args .digits .now) (minus c)
-
-part-decimal-in-start : tie.Need-part-decimal-in-start
-part-decimal-in-start c = sign-there (c .before .before .before .before .args .digits .now) (minus c)
-
 returns-3 : tie.Need-returns-3
 returns-3 c = minus-none _ (minus (c .before .before .before .before)) (sym (c .before .before .decimal-in2 .ensures) ∙ c .enum-told2 .given .1)
 
@@ -66,8 +60,8 @@ signed-in-spec =
     returns
     cast-t11
     returns-2
-    sub-decimal-in
-    part-decimal-in-start
+    (λ c. sign-there (c .before .before .before .before .args .digits .now) (minus c))
+    (λ c. sign-there (c .before .before .before .before .args .digits .now) (minus c))
     (search needs)
     (search needs)
     (search needs)

@@ -22,15 +22,6 @@ value-part c = rw (c .before .from .given .1) at (c .before .before .before .byt
 returns : tie.Need-returns
 returns c = value-missing signedIn _ _ (rw (c .enum-told .given .1) at (c .before .before .bytes-line .ensures))
 
-sub-signed-in : tie.Need-sub-signed-in
-sub-signed-in c = value-part c .forward
-
-part-signed-in-start : tie.Need-part-signed-in-start
-part-signed-in-start c = value-part c .forward
-
-part-signed-in-end : tie.Need-part-signed-in-end
-part-signed-in-end c = omega (arith, value-part c .reached .within)
-
 returns-2 : tie.Need-returns-2
 returns-2 c =
     value-broken signedIn _ _ _ _ _ _ (value-part (c .before .before .before .before)) (said-no-signed _ (sym (c .before .before .signed-in .ensures) ∙ c .enum-told2 .given .1))
@@ -51,9 +42,9 @@ signed-line-spec =
     (search needs)
     (search needs)
     returns
-    sub-signed-in
-    part-signed-in-start
-    part-signed-in-end
+    (λ c. value-part c .forward)
+    (λ c. value-part c .forward)
+    (λ c. omega (arith, value-part c .reached .within))
     (search needs)
     (search needs)
     (search needs)

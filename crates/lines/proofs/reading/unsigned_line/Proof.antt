@@ -20,15 +20,6 @@ value-part c = rw (c .before .from .given .1) at (c .before .before .before .byt
 returns : tie.Need-returns
 returns c = value-missing (decimalIn _) _ _ (rw (c .enum-told .given .1) at (c .before .before .bytes-line .ensures))
 
-sub-decimal-in : tie.Need-sub-decimal-in
-sub-decimal-in c = value-part c .forward
-
-part-decimal-in-start : tie.Need-part-decimal-in-start
-part-decimal-in-start c = value-part c .forward
-
-part-decimal-in-end : tie.Need-part-decimal-in-end
-part-decimal-in-end c = omega (arith, value-part c .reached .within)
-
 returns-2 : tie.Need-returns-2
 returns-2 c =
     value-broken (decimalIn _) _ _ _ _ _ _ (value-part (c .before .before .before .before)) (said-no-number _ (sym (c .before .before .decimal-in .ensures) ∙ c .enum-told2 .given .1))
@@ -48,9 +39,9 @@ unsigned-line-spec =
     (search needs)
     (search needs)
     returns
-    sub-decimal-in
-    part-decimal-in-start
-    part-decimal-in-end
+    (λ c. value-part c .forward)
+    (λ c. value-part c .forward)
+    (λ c. omega (arith, value-part c .reached .within))
     (search needs)
     (search needs)
     (search needs)
