@@ -1,7 +1,7 @@
 -- From the lines that were got, or not, to what reading a whole input promises.
 -- Assumes nothing.
 use mathlib.Core.Path.{_≡_, refl, sym, ap, _∙_}
-use mathlib.Core.List.{List, [], _++_}
+use mathlib.Core.List.{List, []}
 use Prim.Native.Nat.{ℕ, _+_, _-_, _≤_, _<_}
 use native.Mathlib.Omega.{arith}
 use lib.Dec.{leb}
@@ -9,13 +9,11 @@ use lib.ListN.{length, drop, length-append, length-drop, drop-of-length-le}
 use lib.Seq.{drop-cons, length-take-le}
 use borrow.Table.Steps.{cases}
 use borrow.Author.Tests.{le-leb, lt-leb}
-use Rattle.base.specs.Lists.{eachList}
 use Rattle.rules.specs.declared.Grid.{Grid}
 use Rattle.rules.specs.declared.Ranking.{Ranking}
 use Rattle.rules.specs.declared.Refusal.the-variants.{InputMalformed}
 use Rattle.rules.specs.Tables.{Table}
-use Rattle.lines.specs.Writing.{ascii}
-use Rattle.desk_form.specs.Form.{Input, gridText, standText, inputText, InRanges}
+use Rattle.desk_form.specs.Form.{Input}
 use Rattle.desk_form.specs.Columns.{tableFrom, laidTable, textAt}
 use Rattle.desk_form.specs.Answers.{readingNumbers, readingOf, ReadsInput}
 use Rattle.lines.specs.Reads.{got, nothing, onward}

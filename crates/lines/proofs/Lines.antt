@@ -12,7 +12,7 @@ use lib.ListN.{length, take, drop, length-append, take-append-drop}
 use lib.Seq.{take-append-seam, drop-append-seam, drop-append-add}
 use borrow.Table.Steps.{cases}
 use borrow.Author.Tests.{lt-ltb, ltb-true, eqb-true, eqb-false}
-use Rattle.base.specs.Lists.{In, begins, positionIn}
+use Rattle.base.specs.Lists.{In, positionIn}
 use Rattle.base.proofs.Begins.{begins-append, begins-is-take}
 use Rattle.base.proofs.Members.{position-seam}
 use Rattle.lines.specs.Writing.{line, OneLine}
