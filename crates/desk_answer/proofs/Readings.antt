@@ -62,17 +62,14 @@ pub record Parts (input : List ℕ) (after : Table) (stands bytes from past : �
   pub typed : part from past input ≡ p
 
 -- an input, cut at its question's text
-regrouped : (grid stands key text feed east north weight k : List ℕ)
-    → grid ++ stands ++ (key ++ text ++ feed ++ east ++ north ++ weight ++ k) ≡ (grid ++ stands ++ key) ++ (text ++ (feed ++ (east ++ (north ++ (weight ++ k)))))
-regrouped grid stands key text feed east north weight k = simp append-assoc
-
 abbrev beforeText : Input → List ℕ
 beforeText r = gridText (r .grid) (length (r .stands)) ++ eachList standText (r .stands) ++ ascii "text="
 
 text-between : (r : Input) → (rest : List ℕ) × (inputText r ≡ beforeText r ++ (r .text ++ rest))
 unfolding inputText questionText line
 text-between r =
-    (_, regrouped (gridText (r .grid) (length (r .stands))) (eachList standText (r .stands)) (ascii "text=") (r .text) (ascii "\n") (line (ascii "east=") (signedOf (r .ranking .place .east))) (line (ascii "north=") (signedOf (r .ranking .place .north))) (line (ascii "weight=") (decimalOf (r .ranking .weight))) (line (ascii "k=") (decimalOf (r .ranking .k))))
+    let place = line (ascii "east=") (signedOf (r .ranking .place .east)) ++ line (ascii "north=") (signedOf (r .ranking .place .north)) in
+    (ascii "\n" ++ place ++ line (ascii "weight=") (decimalOf (r .ranking .weight)) ++ line (ascii "k=") (decimalOf (r .ranking .k)), simp append-assoc)
 
 cut : (a b c input : List ℕ) (from past : ℕ) → input ≡ a ++ (b ++ c) → from ≡ length a → past ≡ length a + length b → (past ≤ length input) × (part from past input ≡ b)
 cut a b c input from past e f h =

@@ -7,7 +7,7 @@ use mir.Facts.{toZ-ofZ}
 use lib.ListN.{length, drop}
 use borrow.Author.Needs.{needs}
 use Rattle.lines.specs.Writing.{ascii}
-use Rattle.lines.specs.Reads.{onward, bytesLine, signedLine, unsignedLine}
+use Rattle.lines.specs.Reads.{onward, bytesLine, signedLine}
 use Rattle.lines.specs.Says.{Reached, PartReached}
 use Rattle.desk_form.specs.Reads.{standBy, past, firstBad}
 use Rattle.desk_form.proofs.group.read_by.Statement.{statement}
@@ -27,11 +27,6 @@ north : (c : tie.After-known-told3) →
     let a = c .before .before .before .before .before .before .before .before .before .before .before .before .before .before .before .before .before .args in
     Reached (a .input .now) (signedLine (ascii "north=") (drop (c .before .before .before .before .before .before .east .given .0 .1 .0) (a .input .now))) (c .before .north .given .0 .0) (c .before .north .given .0 .1 .0)
 north c = rw (c .before .north .given .1) at (c .before .before .before .signed-line2 .ensures)
-
-score : (c : tie.After-known-told4) →
-    let a = c .before .before .before .before .before .before .before .before .before .before .before .before .before .before .before .before .before .before .before .before .before .args in
-    Reached (a .input .now) (unsignedLine 65535 (a .last .now) (drop (c .before .before .before .before .before .north .given .0 .1 .0) (a .input .now))) (c .before .score .given .0 .0) (c .before .score .given .0 .1 .0)
-score c = rw (c .before .score .given .1) at (c .before .before .before .unsigned-line .ensures)
 
 returns : tie.Need-returns
 unfolding standBy firstBad past onward
@@ -70,8 +65,9 @@ returns-5 c =
     let at-north = c .before .before .before .before in
     let at-east = at-north .before .before .before .before .before in
     let b = bytes (at-east .before .before .before .before .before) in
+    let score = rw (c .before .score .given .1) at (c .before .before .before .unsigned-line .ensures) in
     rw (toZ-ofZ {w = w32} {z = at-east .before .east .given .0 .0} (search needs), toZ-ofZ {w = w32} {z = at-north .before .north .given .0 .0} (search needs))
-    (record { begun = b .begun; forward = b .forward; inside = omega (arith, b .reached .within); reached = record { within = score c .within; is = rw (b .reached .is, east at-east .is, north at-north .is, score c .is) } })
+    (record { begun = b .begun; forward = b .forward; inside = omega (arith, b .reached .within); reached = record { within = score .within; is = rw (b .reached .is, east at-east .is, north at-north .is, score .is) } })
 
 pub read-by-spec : {M : Type 1} → statement M
 read-by-spec =

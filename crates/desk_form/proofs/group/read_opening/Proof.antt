@@ -26,11 +26,6 @@ cell : (c : tie.After-known-told3) →
     Reached (a .input .now) (unsignedLine 65535 (ascii "cell=") (drop (c .before .before .before .before .before .before .south .given .0 .1 .0) (a .input .now))) (c .before .cell .given .0 .0) (c .before .cell .given .0 .1 .0)
 cell c = rw (c .before .cell .given .1) at (c .before .before .before .unsigned-line .ensures)
 
-stands : (c : tie.After-known-told4) →
-    let a = c .before .before .before .before .before .before .before .before .before .before .before .before .before .before .before .before .before .before .before .before .before .args in
-    Reached (a .input .now) (unsignedLine 64 (ascii "stands=") (drop (c .before .before .before .before .before .before .cell .given .0 .1 .0) (a .input .now))) (c .before .stands .given .0 .0) (c .before .stands .given .0 .1 .0)
-stands c = rw (c .before .stands .given .1) at (c .before .before .before .unsigned-line2 .ensures)
-
 returns : tie.Need-returns
 unfolding gridLines onward
 returns c =
@@ -63,8 +58,9 @@ returns-5 c =
     let at-cell = c .before .before .before .before .before in
     let at-south = at-cell .before .before .before .before .before in
     let at-west = at-south .before .before .before .before .before in
+    let stands = rw (c .before .stands .given .1) at (c .before .before .before .unsigned-line2 .ensures) in
     rw (toZ-ofZ {w = w32} {z = at-west .before .west .given .0 .0} (search needs), toZ-ofZ {w = w32} {z = at-south .before .south .given .0 .0} (search needs))
-    (record { within = stands c .within; is = rw (west at-west .is, south at-south .is, cell at-cell .is, stands c .is) })
+    (record { within = stands .within; is = rw (west at-west .is, south at-south .is, cell at-cell .is, stands .is) })
 
 pub read-opening-spec : {M : Type 1} → statement M
 read-opening-spec =

@@ -6,8 +6,7 @@ use mir.Facts.{toZ-ofZ}
 use lib.ListN.{length, drop}
 use borrow.Author.Needs.{needs}
 use Rattle.lines.specs.Writing.{ascii}
-use Rattle.lines.specs.Reads.{onward, unsignedLine}
-use Rattle.lines.specs.Says.{Reached}
+use Rattle.lines.specs.Reads.{onward}
 use Rattle.desk_form.specs.Reads.{standBy, questionLines}
 use Rattle.desk_form.specs.Says.{StandReached}
 use Rattle.desk_form.proofs.group.read_question.Statement.{statement}
@@ -18,11 +17,6 @@ four : (c : tie.After-known-told) →
     let h = c .before .from .given .0 in
     StandReached (a .input .now) (a .at + length (ascii "text=")) (standBy (ascii "text=") (ascii "weight=") (drop (a .at) (a .input .now))) (h .0) (h .1 .0) (h .1 .1 .0) (h .1 .1 .1 .0) (h .1 .1 .1 .1 .0) (h .1 .1 .1 .1 .1 .0)
 four c = rw (c .before .from .given .1) at (c .before .before .before .read-by .ensures)
-
-k : (c : tie.After-known-told2) →
-    let a = c .before .before .before .before .before .before .before .before .before .before .before .before .args in
-    Reached (a .input .now) (unsignedLine 65535 (ascii "k=") (drop (c .before .before .before .before .before .before .from .given .0 .1 .1 .1 .1 .1 .0) (a .input .now))) (c .before .k .given .0 .0) (c .before .k .given .0 .1 .0)
-k c = rw (c .before .k .given .1) at (c .before .before .before .unsigned-line .ensures)
 
 returns : tie.Need-returns
 unfolding questionLines onward
@@ -39,8 +33,9 @@ returns-3 c =
     let at-four = c .before .before .before .before .before in
     let h = four at-four in
     let z = at-four .before .from .given .0 .1 .1 in
+    let k = rw (c .before .k .given .1) at (c .before .before .before .unsigned-line .ensures) in
     rw (toZ-ofZ {w = w32} {z = z .0} (search needs), toZ-ofZ {w = w32} {z = z .1 .0} (search needs))
-    (record { begun = h .begun; forward = h .forward; inside = h .inside; reached = record { within = k c .within; is = rw (h .reached .is, k c .is) } })
+    (record { begun = h .begun; forward = h .forward; inside = h .inside; reached = record { within = k .within; is = rw (h .reached .is, k .is) } })
 
 pub read-question-spec : {M : Type 1} → statement M
 read-question-spec =
