@@ -13,28 +13,19 @@ Inv-loop out₀ at bytes i₀ out i = Copying out₀ at bytes out i
 abbrev μ-loop : tie.MeasureT-loop
 μ-loop out₀ at bytes i₀ out i = length bytes - i
 
-loop-holds : tie.Need-loop-holds Inv-loop μ-loop
-loop-holds c = copy-none _ _ _
-
-loop-again : tie.Need-loop-again Inv-loop μ-loop
-loop-again c = copy-one _ _ _ _ _ (c .before .before .before .pre) (c .before .loop-test .taken) (c .before .before .loop .inv)
-
-returns : tie.Need-returns Inv-loop μ-loop
-returns c = copied _ _ _ _ _ (search needs) (c .loop-test .left) (c .before .loop .inv)
-
 pub put-spec : {M : Type 1} → statement M
 put-spec =
     tie.close
     (tie.spec
     Inv-loop
     μ-loop
-    loop-holds
+    (λ c. search (needs, copy-none))
     (search needs)
     (search needs)
     (search needs)
     (search needs)
     (search needs)
-    loop-again
+    (λ c. search (needs, copy-one))
     (search needs)
     (search needs)
-    returns)
+    (λ c. search (needs, copied)))

@@ -10,16 +10,10 @@ use Rattle.lines.proofs.Places.{no-digit, leading-zero, no-leading-zero
 use Rattle.lines.proofs.reading.decimal_in.Statement.{statement}
 use Rattle.lines.proofs.reading.decimal_in.Tie as tie
 
-returns : tie.Need-returns
-returns c = ap saidNumber (sym (no-digit _ _ (c .if1 .taken)))
-
-returns-2 : tie.Need-returns-2
-returns-2 c = ap saidNumber (sym (leading-zero _ _ (c .before .before .if2 .taken) (eqb-true _ _ (c .if3 .taken))))
-
 returns-3 : tie.Need-returns-3
 returns-3 c =
     c .grown-by .ensures ∙ ap saidNumber (sym (no-leading-zero _ _ (c .before .before .if1 .left) (λ h e. ⊎-elim (λ w. eqb-false _ _ (w .2 .left) e) (λ w. omega arith) (c .before .if2 .came))))
 
 pub decimal-in-spec : {M : Type 1} → statement M
 decimal-in-spec =
-    tie.close (tie.spec returns (search needs) returns-2 (search needs) returns-3)
+    tie.close (tie.spec (λ c. search (needs, no-digit)) (search needs) (λ c. search (needs, leading-zero, eqb-true)) (search needs) returns-3)

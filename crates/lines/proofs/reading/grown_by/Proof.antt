@@ -18,18 +18,12 @@ Inv-loop digits most value₀ i₀ value i = Growing most digits value i
 abbrev μ-loop : tie.MeasureT-loop
 μ-loop digits most value₀ i₀ value i = length digits - i
 
-loop-holds : tie.Need-loop-holds Inv-loop μ-loop
-loop-holds c = grown-none _ _
-
 returns : tie.Need-returns Inv-loop μ-loop
 returns c =
     ap saidNumber (sym (broken _ _ _ _ (c .before .before .loop-test .taken) (λ f. ⊎-elim (λ w. omega arith) (λ w. omega (arith, ltb-true)) (c .if1 .came)) (c .before .before .before .loop .inv)))
 
 returns-2 : tie.Need-returns-2 Inv-loop μ-loop
 returns-2 c = ap saidNumber (sym (broken _ _ _ _ (search needs) (λ f. omega arith) (c .before .before .before .before .before .loop .inv)))
-
-loop-again : tie.Need-loop-again Inv-loop μ-loop
-loop-again c = grown-one _ _ _ _ (search needs) (record { low = c .before .before .if1 .left; high = ltb-false 57 _ (c .before .if2 .left); few = c .if3 .left }) (c .before .before .before .before .before .loop .inv)
 
 returns-3 : tie.Need-returns-3 Inv-loop μ-loop
 returns-3 c = ap saidNumber (sym (grown-all _ _ _ _ (c .loop-test .left) (c .before .loop .inv)))
@@ -40,7 +34,7 @@ grown-by-spec =
     (tie.spec
     Inv-loop
     μ-loop
-    loop-holds
+    (λ c. search (needs, grown-none))
     (search needs)
     returns
     (search needs)
@@ -51,5 +45,5 @@ grown-by-spec =
     (search needs)
     (search needs)
     (search needs)
-    loop-again
+    (λ c. search (needs, grown-one, ltb-false))
     returns-3)
