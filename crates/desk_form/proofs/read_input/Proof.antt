@@ -32,9 +32,6 @@ question : (c : tie.After-known-told3) →
     QuestionReached (a .input .now) at (questionLines (drop at (a .input .now))) (q .0) (q .1 .0) (q .1 .1 .0) (q .1 .1 .1 .0)
 question c = rw (c .before .from .given .1) at (c .before .before .before .read-question .ensures)
 
-returns : tie.Need-returns
-returns c = too-long _ _ _ (c .if1 .taken)
-
 returns-2 : tie.Need-returns-2
 returns-2 c = no-opening _ _ _ (rw (c .enum-told .given .1) at (c .before .before .read-opening .ensures))
 
@@ -69,7 +66,7 @@ pub read-input-spec : {M : Type 1} → statement M
 read-input-spec =
     tie.close
     (tie.spec
-    returns
+    (λ c. search (needs, too-long))
     (search needs)
     (search needs)
     (search needs)

@@ -14,25 +14,12 @@ Inv-loop out₀ text starts found values count at₀ i₀ out at i = Listing tex
 abbrev μ-loop : tie.MeasureT-loop
 μ-loop out₀ text starts found values count at₀ i₀ out at i = count - i
 
-loop-holds : tie.Need-loop-holds Inv-loop μ-loop
-loop-holds c = none-listed _ _ _ _ _ _ _
-
 put-hit-requires : tie.Need-put-hit-requires Inv-loop μ-loop
 put-hit-requires c κs =
     let l = c .before .before .before .before .loop .inv in
     let a = c .before .before .before .before .before .before .before .before .before .before in
     let more = c .before .before .before .loop-test .taken in
     (omega (arith, past-number _ _ (c .before .before .before .before .before .put-number .ensures) (search needs), l .puts .next, l .short, a .pre .few, more), a .pre .short _ more)
-
-loop-again : tie.Need-loop-again Inv-loop μ-loop
-loop-again c =
-    let a = c .before .before .before .before .before .before .before .before .before .before .before .args in
-    listed-more (a .text .now) (a .starts .now) (a .found .now) (a .values .now) (c .before .before .before .before .loop-test .taken) (c .before .before .before .before .before .loop .inv) (c .put-hit .ensures)
-
-returns : tie.Need-returns Inv-loop μ-loop
-returns c =
-    let a = c .before .before .before .before .before .before .before .args in
-    all-listed (a .text .now) (a .starts .now) (a .found .now) (a .values .now) (c .loop-test .left) (c .before .before .put-number .ensures) (c .before .loop .inv)
 
 pub put-hits-spec : {M : Type 1} → statement M
 put-hits-spec =
@@ -42,7 +29,7 @@ put-hits-spec =
     μ-loop
     (search needs)
     (λ c κs. number-room _ _ _ _ (search needs) (search needs))
-    loop-holds
+    (λ c. search (needs, none-listed))
     (search needs)
     (search needs)
     (search needs)
@@ -50,5 +37,5 @@ put-hits-spec =
     put-hit-requires
     (search needs)
     (search needs)
-    loop-again
-    returns)
+    (λ c. search (needs, listed-more))
+    (λ c. search (needs, all-listed)))

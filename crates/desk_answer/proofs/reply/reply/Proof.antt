@@ -14,9 +14,6 @@ returns c =
 ask-requires : tie.Need-ask-requires
 ask-requires c κs = (rw (c .before .before .before .before .before .before .before .enum-told .given .1) at (c .before .before .before .before .before .before .before .before .before .index-made .ensures)) .lawful refl
 
-returns-2 : tie.Need-returns-2
-returns-2 c = c .ask .ensures
-
 pub reply-spec : {M : Type 1} → statement M
 reply-spec =
     tie.close
@@ -27,4 +24,4 @@ reply-spec =
     returns
     (search needs)
     ask-requires
-    returns-2)
+    (λ c. search needs))

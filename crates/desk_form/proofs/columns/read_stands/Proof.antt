@@ -73,9 +73,6 @@ loop-again c =
     let now = c .before .before .before .before .before .before .before .before .before .before .before .before .before .before .before .before .before .before .before .before .before in
     lay-one _ _ _ _ _ _ _ _ _ _ _ _ _ _ _ (there at) (now .loop .inv) (room now) (c .before .before .before .before .before .before .before .before .before .before .before .before .before .before .before .before .before .before .before .before .loop-test .taken) _ _ _ _ _ _ (c .before .before .before .before .before .before .before .before .before .before .before .before .before .put .ensures) (put .end-is) (put .x-is ∙ arrives (set (now .loop .east) (now .loop .i)) (read .1 .1 .0) (search needs)) (put .y-is ∙ arrives (set (now .loop .north) (now .loop .i)) (read .1 .1 .1 .0) (search needs)) (put .value-is)
 
-returns-2 : tie.Need-returns-2 Inv-loop μ-loop
-returns-2 c = from-entry _ _ _ _ _ _ _ _ _ _ (all-laid _ _ _ _ _ _ _ _ (c .loop-test .left) (c .before .loop .inv))
-
 pub read-stands-spec : {M : Type 1} → statement M
 read-stands-spec =
     tie.close
@@ -107,4 +104,4 @@ read-stands-spec =
     (λ c. long (c .before) .east)
     (λ c. long (c .before) .north)
     (λ c. long (c .before) .score)
-    returns-2)
+    (λ c. search (needs, from-entry, all-laid)))
