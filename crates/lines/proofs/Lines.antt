@@ -79,10 +79,8 @@ module _ {A : Type 0} (key : List ℕ) {write : A → List ℕ} {InOrder : A →
       → InOrder a × (l ≡ line key (write a) ++ rest)
   of-value l v rest₀ none a rest s q e = lost e
   of-value l v rest₀ (some a′) a rest s q e =
-      let t : a′ ≡ a = cc in
-      let u : rest₀ ≡ rest = cc in
-      let w = law .sound a v (q ∙ ap some t) in
-      (w .0, rw (w .1, u) at s)
+      let w = law .sound a′ v q in
+      as-got (λ b m. InOrder b × (l ≡ line key (write b) ++ m)) a′ a rest₀ rest e (w .0, rw (w .1) at s)
 
   -- a value that is read back by itself is read back in a line
   value-law : ReadBack (λ a. line key (write a)) InOrder (valueLine read key)
