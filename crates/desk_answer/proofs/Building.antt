@@ -1,14 +1,14 @@
 -- Building into the program's rooms: 64 stands always fit, so only the table can be refused, and checking accepts what was built.
 -- Assumes nothing.
 use mathlib.Core.Path.{_≡_, sym, ap, _∙_}
-use mathlib.Core.Logic.{_⊎_, inl, inr}
-use mathlib.Core.Bool.{true, false, cond}
+use mathlib.Core.Bool.{true, cond}
 use mathlib.Core.List.{List}
-use Prim.Native.Nat.{ℕ, _*_, _≤_, _<_}
+use Prim.Native.Nat.{ℕ, _*_, _≤_}
 use native.Mathlib.Omega.{arith}
 use lib.ListN.{length}
-use borrow.Author.Tests.{le-ltb, ne-eqb, eq-eqb}
-use Rattle.base.proofs.Tests.{which, le-or-lt}
+use lib.Dec.{eqb}
+use borrow.Table.Steps.{cases}
+use borrow.Author.Tests.{le-ltb, ne-eqb, eq-eqb, eqb-true, eqb-false}
 use Rattle.rules.specs.declared.Grid.{Grid}
 use Rattle.rules.specs.declared.Ranking.{Ranking}
 use Rattle.rules.specs.declared.Refusal.{Refusal}
@@ -51,14 +51,10 @@ module _ (t : Table) (g : Grid) where
     -- what was built is lawful, since checking accepts it
     pub built-lawful : (n e : ℕ) (y : Index) → BuildPromise t g x (built.Index n e) y → setLawful t g y ≡ true
     unfolding checkTold
-    built-lawful n e y p = step (which (setLawful t g y))
-      where
-        step : (setLawful t g y ≡ true) ⊎ (setLawful t g y ≡ false) → setLawful t g y ≡ true
-        step (inl q) = q
-        step (inr q) =
-            let same : checked.Unlawful ≡ checked.Lawful n e = build-then-check t g x n e y checked.Unlawful p (rw q) in
-            let z : _≡_ {A = ℕ} 0 1 = cc in
-            absurd (omega arith)
+    built-lawful n e y p =
+        cases (setLawful t g y) (λ q. q) (λ q.
+        let same : checked.Unlawful ≡ checked.Lawful n e = build-then-check t g x n e y checked.Unlawful p (rw q) in
+        cc)
 
     pub index-passed : (n e : ℕ) (y : Index) → BuildPromise t g x (built.Index n e) y → MakesIndex t g verdict.Passed y
     index-passed n e y p =
@@ -79,12 +75,14 @@ module _ (t : Table) (g : Grid) where
 
       pub index-refused : (why : Refusal) (y : Index) → BuildPromise t g x (built.Refused why) y → MakesIndex t g (verdict.Refused why) y
       unfolding buildRefusal buildTold
-      index-refused why y b = record { refusal = step (le-or-lt (tableRefusal t g) 0); lawful = λ e. absurd (refusal-some why e) }
-        where
-          step : (tableRefusal t g ≤ 0) ⊎ (0 < tableRefusal t g) → refusalNumber why ≡ tableRefusal t g
-          step (inl h) =
-              let none : buildRefusal t g x ≡ 0 = enough (omega arith) in
-              absurd (refusal-some why (ap (λ (a : BuildTold). a .refusal) (rw (eq-eqb (buildRefusal t g x) 0 none) at (b .told))))
-          step (inr h) =
-              let first : buildRefusal t g x ≡ tableRefusal t g = first-given (tableRefusal t g) (cond (tooSmall t g x) 6 0) (λ e. omega arith) in
-              ap (λ (a : BuildTold). a .refusal) (rw (ne-eqb (buildRefusal t g x) 0 (λ e. omega arith)) at (b .told)) ∙ first
+      index-refused why y b =
+          record {
+            refusal =
+                cases (eqb (tableRefusal t g) 0)
+                (λ e. absurd (refusal-some why (ap (λ (a : BuildTold). a .refusal) (rw (eq-eqb (buildRefusal t g x) 0 (enough (eqb-true _ _ e))) at (b .told)))))
+                (λ e.
+                let some = eqb-false _ _ e in
+                let first : buildRefusal t g x ≡ tableRefusal t g = first-given (tableRefusal t g) (cond (tooSmall t g x) 6 0) some in
+                ap (λ (a : BuildTold). a .refusal) (rw (ne-eqb (buildRefusal t g x) 0 (λ z. some (sym first ∙ z))) at (b .told)) ∙ first);
+            lawful = λ e. absurd (refusal-some why e);
+          }

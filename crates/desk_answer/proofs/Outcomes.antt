@@ -1,20 +1,16 @@
 -- For the reader: an input has one output, whatever its bytes. No two satisfy the promise.
 -- Assumes nothing.
 use mathlib.Core.Path.{_≡_, sym, ap, _∙_, ap₂}
-use mathlib.Core.Logic.{_⊎_, inl, inr}
 use mathlib.Core.List.{List, _++_}
 use Prim.Native.Nat.{ℕ}
 use lib.ListN.{take, drop, length, take-append-drop}
 use Rattle.desk_form.specs.Printed.{Prints}
 use Rattle.desk_answer.specs.Promises.{AnswersInput}
-use Rattle.desk_answer.proofs.Readings.{OfForm, of-form-or-not}
+use Rattle.desk_answer.proofs.Readings.{of-form-or-not}
 
 pub one-output : (input a b : List ℕ) → Prints input a → Prints input b → a ≡ b
-one-output input a b p q = step (of-form-or-not input)
-  where
-    step : OfForm input ⊎ (OfForm input → ⊥) → a ≡ b
-    step (inl f) = p .of-form (f .0) (f .1) (f .2) ∙ sym (q .of-form (f .0) (f .1) (f .2))
-    step (inr n) = p .other (λ r h t. n (r, h, t)) ∙ sym (q .other (λ r h t. n (r, h, t)))
+one-output input a b p q =
+    of-form-or-not input (λ r h t. p .of-form r h t ∙ sym (q .of-form r h t)) (λ none. p .other none ∙ sym (q .other none))
 
 -- so how many bytes are printed is settled, and with them the whole room
 pub one-answer : (input out after after′ : List ℕ) (r r′ : ℕ) → AnswersInput input out after r → AnswersInput input out after′ r′ → (r ≡ r′) × (after ≡ after′)

@@ -1,7 +1,6 @@
 -- From what reading an input promises to what is printed: the parts that are handed to the finder are those of the input's record.
 -- Assumes nothing.
 use mathlib.Core.Path.{_≡_, refl, sym, ap, _∙_}
-use mathlib.Core.Logic.{_⊎_, inl, inr}
 use mathlib.Core.List.{List, _++_, append-assoc}
 use Prim.Native.Nat.{ℕ, _+_, _-_, _≤_}
 use native.Mathlib.Omega.{arith}
@@ -30,15 +29,13 @@ use Rattle.desk_form.proofs.Layouts.{length-starts, same-table}
 use Rattle.desk_answer.specs.Promises.{AnswersInput}
 
 -- any input is of the form, or is not
-abbrev pub OfForm : List ℕ → Type 0
-OfForm input = (r : Input) × InRanges r × (inputText r ≡ input)
-
-pub of-form-or-not : (input : List ℕ) → OfForm input ⊎ (OfForm input → ⊥)
-of-form-or-not input = step (readInput input) refl
+pub of-form-or-not : {X : Type 0} (input : List ℕ) → ((r : Input) → InRanges r → inputText r ≡ input → X)
+    → (((r : Input) → InRanges r → inputText r ≡ input → ⊥) → X) → X
+of-form-or-not {X} input form other = step (readInput input) refl
   where
-    step : (f : Got Input) → readInput input ≡ f → OfForm input ⊎ (OfForm input → ⊥)
-    step (got r rest) e = let s = input-sound input r rest e in inl (r, s .0, s .1)
-    step nothing e = inr (λ f. lost (sym e ∙ ap readInput (sym (f .2)) ∙ input-back (f .0) (f .1)))
+    step : (f : Got Input) → readInput input ≡ f → X
+    step (got r rest) e = let s = input-sound input r rest e in form r (s .0) (s .1)
+    step nothing e = other (λ r h t. lost (sym e ∙ ap readInput (sym t) ∙ input-back r h))
 
 -- the first n of a list are these
 pub record Front {A : Type 0} (n : ℕ) (l w : List A) : Type 0 where
@@ -65,17 +62,14 @@ pub record Parts (input : List ℕ) (after : Table) (stands bytes from past : �
   pub typed : part from past input ≡ p
 
 -- an input, cut at its question's text
-regrouped : (grid stands key text feed east north weight k : List ℕ)
-    → grid ++ stands ++ (key ++ text ++ feed ++ east ++ north ++ weight ++ k) ≡ (grid ++ stands ++ key) ++ (text ++ (feed ++ (east ++ (north ++ (weight ++ k)))))
-regrouped grid stands key text feed east north weight k = simp append-assoc
-
 abbrev beforeText : Input → List ℕ
 beforeText r = gridText (r .grid) (length (r .stands)) ++ eachList standText (r .stands) ++ ascii "text="
 
 text-between : (r : Input) → (rest : List ℕ) × (inputText r ≡ beforeText r ++ (r .text ++ rest))
 unfolding inputText questionText line
 text-between r =
-    (_, regrouped (gridText (r .grid) (length (r .stands))) (eachList standText (r .stands)) (ascii "text=") (r .text) (ascii "\n") (line (ascii "east=") (signedOf (r .ranking .place .east))) (line (ascii "north=") (signedOf (r .ranking .place .north))) (line (ascii "weight=") (decimalOf (r .ranking .weight))) (line (ascii "k=") (decimalOf (r .ranking .k))))
+    let place = line (ascii "east=") (signedOf (r .ranking .place .east)) ++ line (ascii "north=") (signedOf (r .ranking .place .north)) in
+    (ascii "\n" ++ place ++ line (ascii "weight=") (decimalOf (r .ranking .weight)) ++ line (ascii "k=") (decimalOf (r .ranking .k)), simp append-assoc)
 
 cut : (a b c input : List ℕ) (from past : ℕ) → input ≡ a ++ (b ++ c) → from ≡ length a → past ≡ length a + length b → (past ≤ length input) × (part from past input ≡ b)
 cut a b c input from past e f h =
@@ -107,15 +101,10 @@ module _ (input : List ℕ) (rooms after : Table) (stands bytes : ℕ) (grid : G
 
   -- an input that was read has a record
   pub parts-read : ReadsInput input rooms (Of stands bytes grid from past ranking) after → (r : Input) × Parts input after stands bytes from past (tableFrom (r .stands)) (r .text)
-  parts-read reads = step (of-form-or-not input)
-    where
-      step : OfForm input ⊎ (OfForm input → ⊥) → (r : Input) × Parts input after stands bytes from past (tableFrom (r .stands)) (r .text)
-      step (inl f) =
-          let a = reads .of-form (f .0) (f .1) (f .2) in
-          (f .0, parts (f .0) (f .1) (f .2) (a .0) (a .1))
-      step (inr n) =
-          let z : _≡_ {A = ℕ} 0 14 = ap (λ (a : ReadingTold). a .refusal) (reads .other (λ r h t. n (r, h, t))) in
-          absurd (omega arith)
+  parts-read reads =
+      of-form-or-not input
+      (λ r h t. let a = reads .of-form r h t in (r, parts r h t (a .0) (a .1)))
+      (λ none. let z : _≡_ {A = ℕ} 0 14 = ap (λ (a : ReadingTold). a .refusal) (reads .other none) in absurd (omega arith))
 
 module _ (input : List ℕ) (rooms after : Table) {bytes out out′ : List ℕ} {r : ℕ} (p : Puts bytes out 0 out′ r) where
   answers : Prints input bytes → AnswersInput input out out′ r
@@ -125,27 +114,27 @@ module _ (input : List ℕ) (rooms after : Table) {bytes out out′ : List ℕ} 
       record { counts = (omega (arith, length-take r out′), e); prints = rw (p .front) prints; rest = p .rest }
 
   pub refused-14 : (why : Refusal) → ReadsInput input rooms (Refused why) after → bytes ≡ printedRefusal 14 → AnswersInput input out out′ r
-  refused-14 why reads is = answers (record { of-form = form; other = λ no. is })
-    where
-      form : (s : Input) → InRanges s → inputText s ≡ input → bytes ≡ outputOf s
-      form s h t = absurd (refusal-some why (ap (λ (a : ReadingTold). a .refusal) (reads .of-form s h t .0)))
+  refused-14 why reads is =
+      answers
+      (record {
+        of-form = λ s h t. absurd (refusal-some why (ap (λ (a : ReadingTold). a .refusal) (reads .of-form s h t .0)));
+        other = λ none. is;
+      })
 
   pub replied : (stands bytes₀ : ℕ) (grid : Grid) (from past : ℕ) (ranking : Ranking) → ReadsInput input rooms (Of stands bytes₀ grid from past ranking) after
       → bytes ≡ replyTo (tableOf (take bytes₀ (after .text)) (take (stands + 1) (after .starts)) (take stands (after .east)) (take stands (after .north)) (take stands (after .score))) grid (part from past input) ranking
       → AnswersInput input out out′ r
   unfolding outputOf
-  replied stands bytes₀ grid from past ranking reads is = answers (record { of-form = form; other = other })
-    where
-      form : (s : Input) → InRanges s → inputText s ≡ input → bytes ≡ outputOf s
-      form s h t =
-          let a = reads .of-form s h t in
-          let q = parts input rooms after stands bytes₀ grid from past ranking s h t (a .0) (a .1) in
-          let g : grid ≡ s .grid = ap (λ (a : ReadingTold). a .grid) (a .0) in
-          let k : ranking ≡ s .ranking = ap (λ (a : ReadingTold). a .ranking) (a .0) in
-          let table = same-table (q .text .is) (q .starts .is) (q .east .is) (q .north .is) (q .score .is) in
-          is ∙ rw (g, k, q .typed) (ap (λ u. replyTo u (s .grid) (s .text) (s .ranking)) table)
-
-      other : ((s : Input) → InRanges s → inputText s ≡ input → ⊥) → bytes ≡ printedRefusal 14
-      other none =
-          let z : _≡_ {A = ℕ} 0 14 = ap (λ (a : ReadingTold). a .refusal) (reads .other none) in
-          absurd (omega arith)
+  replied stands bytes₀ grid from past ranking reads is =
+      answers
+      (record {
+        of-form =
+            λ s h t.
+            let a = reads .of-form s h t in
+            let q = parts input rooms after stands bytes₀ grid from past ranking s h t (a .0) (a .1) in
+            let g : grid ≡ s .grid = ap (λ (a : ReadingTold). a .grid) (a .0) in
+            let k : ranking ≡ s .ranking = ap (λ (a : ReadingTold). a .ranking) (a .0) in
+            let table = same-table (q .text .is) (q .starts .is) (q .east .is) (q .north .is) (q .score .is) in
+            is ∙ rw (g, k, q .typed) (ap (λ u. replyTo u (s .grid) (s .text) (s .ranking)) table);
+        other = λ none. let z : _≡_ {A = ℕ} 0 14 = ap (λ (a : ReadingTold). a .refusal) (reads .other none) in absurd (omega arith);
+      })

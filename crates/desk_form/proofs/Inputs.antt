@@ -1,16 +1,13 @@
 -- Whole inputs are read back: `readInput` accepts exactly the texts of records in their ranges, and gives the record.
 -- Group by group, each from the laws of its lines. Assumes nothing.
 use mathlib.Core.Path.{_≡_, refl, sym, ap, _∙_}
-use mathlib.Core.Logic.{_⊎_, inl, inr, ⊎-elim}
-use mathlib.Core.Bool.{true, false}
+use mathlib.Core.Logic.{inl, inr, ⊎-elim}
 use mathlib.Core.List.{List, [], _∷_, _++_, append-assoc, append-nil}
 use Prim.Native.Nat.{ℕ, zero, suc, _≤_}
 use native.Mathlib.Omega.{arith}
-use lib.Dec.{leb}
 use lib.ListN.{length}
 use borrow.Author.Tests.{le-leb, leb-true}
 use Rattle.base.specs.Lists.{In, eachList}
-use Rattle.base.proofs.Tests.{which}
 use Rattle.rules.specs.declared.Grid.{Grid}
 use Rattle.rules.specs.declared.Ranking.{Ranking}
 use Rattle.lines.specs.Writing.{ascii, decimalOf, signedOf, line, OneLine}
@@ -18,6 +15,7 @@ use Rattle.desk_form.specs.Form.{StandLines, Input, gridText, standText,
 use Rattle.lines.specs.Reads.{got, onward}
 use Rattle.desk_form.specs.Reads.{gridLines, standBy, standLines, allStands, questionLines, ended, inputOf, allLines, readInput}
 use Rattle.lines.specs.Back.{ReadBack}
+use Rattle.lines.proofs.Decimals.{tested}
 use Rattle.lines.proofs.Lines.{lost, as-got, in-a-row, past-line, read-back}
 
 abbrev GridOk : Grid × ℕ → Type 0
@@ -122,17 +120,14 @@ grouped r = simp (append-assoc, append-nil)
 pub input-back : (r : Input) → InRanges r → readInput (inputText r) ≡ got r []
 unfolding readInput allLines onward
 input-back r h =
-    let lines : allLines (inputText r) ≡ got r [] =
-    rw (grouped r, grid-back (r .grid, length (r .stands)) _ (h .grid, h .few), stands-back (length (r .stands)) (r .stands) _ (refl, h .stands), question-back (r .text, r .ranking) [] (h .text, h .ranking)) in
-    rw (le-leb _ _ (h .short)) lines
+    rw (le-leb _ _ (h .short), grouped r, grid-back (r .grid, length (r .stands)) _ (h .grid, h .few), stands-back (length (r .stands)) (r .stands) _ (refl, h .stands), question-back (r .text, r .ranking) [] (h .text, h .ranking))
 
 joined : (l : List ℕ) (h : Grid × ℕ) (stands : List StandLines) (q : List ℕ × Ranking) → GridOk h → StandsOk (h .1) stands → QuestionOk q
     → l ≡ gridText (h .0) (h .1) ++ (eachList standText stands ++ (questionText (q .0) (q .1) ++ [])) → length l ≤ 16384
     → InRanges (inputOf (h .0) stands q) × (inputText (inputOf (h .0) stands q) ≡ l)
 joined l h stands q g s w e short =
     let t : inputText (inputOf (h .0) stands q) ≡ l = grouped (inputOf (h .0) stands q) ∙ rw (s .0) (sym e) in
-    let few : length stands ≤ 64 = rw (s .0) (g .1) in
-    (record { grid = g .0; few = few; stands = s .1; text = w .0; ranking = w .1; short = rw t short }, t)
+    (record { grid = g .0; few = rw (s .0) (g .1); stands = s .1; text = w .0; ranking = w .1; short = rw t short }, t)
 
 none-behind : {A X : Type 0} (a b : A) (l rest : List ℕ) → ended a l ≡ got b rest → (l ≡ [] → a ≡ b → X) → X
 none-behind a b [] rest e next = next refl (as-got (λ z m. a ≡ z) a b [] rest e refl)
@@ -140,20 +135,14 @@ none-behind a b (c ∷ l) rest e next = lost e
 
 pub input-sound : (l : List ℕ) (r : Input) (rest : List ℕ) → readInput l ≡ got r rest → InRanges r × (inputText r ≡ l)
 unfolding readInput allLines
-input-sound l r rest e = step (which (leb (length l) 16384))
-  where
-    lines : length l ≤ 16384 → allLines l ≡ got r rest → InRanges r × (inputText r ≡ l)
-    lines short q =
-        past-line grid-law l _ r rest q (λ h l₁ r₁ s₁ e₁.
-        in-a-row _ _ r rest e₁ (λ stands l₂ q₂ e₂.
-        past-line question-law l₂ _ r rest e₂ (λ question l₃ r₃ s₃ e₃.
-        none-behind _ r l₃ rest e₃ (λ none same.
-        let t = stands-sound (h .1) l₁ stands l₂ q₂ in
-        rw same at (joined l h stands question r₁ (t .0) r₃ (rw (s₁, t .1, s₃, none)) short)))))
-
-    step : (leb (length l) 16384 ≡ true) ⊎ (leb (length l) 16384 ≡ false) → InRanges r × (inputText r ≡ l)
-    step (inl q) = lines (leb-true _ _ q) (rw q at e)
-    step (inr q) = lost (rw q at e)
+input-sound l r rest e =
+    let q = tested _ lost e in
+    past-line grid-law l _ r rest (q .1) (λ h l₁ r₁ s₁ e₁.
+    in-a-row _ _ r rest e₁ (λ stands l₂ q₂ e₂.
+    past-line question-law l₂ _ r rest e₂ (λ question l₃ r₃ s₃ e₃.
+    none-behind _ r l₃ rest e₃ (λ none same.
+    let t = stands-sound (h .1) l₁ stands l₂ q₂ in
+    rw same at (joined l h stands question r₁ (t .0) r₃ (rw (s₁, t .1, s₃, none)) (leb-true _ _ (q .0)))))))
 
 -- so no two records in their ranges have one text
 pub one-record : (r s : Input) → InRanges r → InRanges s → inputText r ≡ inputText s → r ≡ s

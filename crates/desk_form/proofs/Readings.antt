@@ -1,23 +1,19 @@
 -- From the lines that were got, or not, to what reading a whole input promises.
 -- Assumes nothing.
 use mathlib.Core.Path.{_≡_, refl, sym, ap, _∙_}
-use mathlib.Core.Logic.{_⊎_, inl, inr}
-use mathlib.Core.Bool.{true, false}
-use mathlib.Core.List.{List, [], _++_}
+use mathlib.Core.List.{List, []}
 use Prim.Native.Nat.{ℕ, _+_, _-_, _≤_, _<_}
 use native.Mathlib.Omega.{arith}
 use lib.Dec.{leb}
 use lib.ListN.{length, drop, length-append, length-drop, drop-of-length-le}
 use lib.Seq.{drop-cons, length-take-le}
+use borrow.Table.Steps.{cases}
 use borrow.Author.Tests.{le-leb, lt-leb}
-use Rattle.base.specs.Lists.{eachList}
-use Rattle.base.proofs.Tests.{which}
 use Rattle.rules.specs.declared.Grid.{Grid}
 use Rattle.rules.specs.declared.Ranking.{Ranking}
 use Rattle.rules.specs.declared.Refusal.the-variants.{InputMalformed}
 use Rattle.rules.specs.Tables.{Table}
-use Rattle.lines.specs.Writing.{ascii}
-use Rattle.desk_form.specs.Form.{Input, gridText, standText, inputText, InRanges}
+use Rattle.desk_form.specs.Form.{Input}
 use Rattle.desk_form.specs.Columns.{tableFrom, laidTable, textAt}
 use Rattle.desk_form.specs.Answers.{readingNumbers, readingOf, ReadsInput}
 use Rattle.lines.specs.Reads.{got, nothing, onward}
@@ -26,7 +22,7 @@ use Rattle.lines.specs.Says.{part, Reached}
 use Rattle.desk_form.specs.Says.{StandsReached, QuestionReached}
 use Rattle.desk_form.specs.declared.Reading.{Reading}
 use Rattle.desk_form.specs.declared.Reading.the-variants.{Of, Refused}
-use Rattle.lines.proofs.Lines.{lost}
+use Rattle.lines.proofs.Lines.{lost, as-got}
 use Rattle.desk_form.proofs.Inputs.{grid-law, stands-sound, input-back, input-sound}
 
 same-reading : {stands stands′ bytes bytes′ from from′ past past′ : ℕ} {grid : Grid} {ranking : Ranking} → stands ≡ stands′ → bytes ≡ bytes′ → from ≡ from′
@@ -40,13 +36,11 @@ module _ (l : List ℕ) (rooms after : Table) where
   accepted : (answer : Reading) (r : Input) (rest : List ℕ) → readInput l ≡ got r rest → readingNumbers answer ≡ readingOf r
       → after ≡ laidTable (tableFrom (r .stands)) rooms → ReadsInput l rooms answer after
   accepted answer r rest e a b =
-      record { of-form = same; other = λ no. absurd (no r (input-sound l r rest e .0) (input-sound l r rest e .1)) }
-    where
-      same : (s : Input) → InRanges s → inputText s ≡ l → (readingNumbers answer ≡ readingOf s) × (after ≡ laidTable (tableFrom (s .stands)) rooms)
-      same s h t =
-          let q : got r rest ≡ got s [] = sym e ∙ ap readInput (sym t) ∙ input-back s h in
-          let i : r ≡ s = cc in
-          (rw i at a, rw i at b)
+      let same = as-got (λ s m. (readingNumbers answer ≡ readingOf s) × (after ≡ laidTable (tableFrom (s .stands)) rooms)) in
+      record {
+        of-form = λ s h t. same r s rest [] (sym e ∙ ap readInput (sym t) ∙ input-back s h) (a, b);
+        other = λ no. absurd (no r (input-sound l r rest e .0) (input-sound l r rest e .1));
+      }
 
   pub too-long : 16384 < length l → ReadsInput l rooms (Refused InputMalformed) after
   unfolding readInput
@@ -54,11 +48,7 @@ module _ (l : List ℕ) (rooms after : Table) where
 
   lines-refused : allLines l ≡ nothing → ReadsInput l rooms (Refused InputMalformed) after
   unfolding readInput
-  lines-refused e = refused (step (which (leb (length l) 16384)))
-    where
-      step : (leb (length l) 16384 ≡ true) ⊎ (leb (length l) 16384 ≡ false) → readInput l ≡ nothing
-      step (inl q) = rw (q, e)
-      step (inr q) = rw q
+  lines-refused e = refused (cases (leb (length l) 16384) (λ q. rw (q, e)) (λ q. rw q))
 
   pub no-opening : gridLines l ≡ nothing → ReadsInput l rooms (Refused InputMalformed) after
   unfolding allLines onward
@@ -85,11 +75,10 @@ module _ (l : List ℕ) (rooms after : Table) where
         begun : from ≡ textAt (inputOf grid (laid .stands) (part from past l, ranking))
         unfolding textAt
         begun =
-            let g = ap length (grid-law .sound l (grid, n) (drop at₁ l) (opening .is) .1) ∙ length-append (gridText grid n) (drop at₁ l) in
-            let s = ap length (stands-sound n (drop at₁ l) (laid .stands) (drop at₂ l) (laid .reached .is) .1) ∙ length-append (eachList standText (laid .stands)) (drop at₂ l) in
-            let t = length-append (gridText grid n ++ eachList standText (laid .stands)) (ascii "text=") in
-            let u = length-append (gridText grid n) (eachList standText (laid .stands)) in
-            rw counted (omega (arith, g, s, t, u, length-drop at₁ l, length-drop at₂ l, opening .within, laid .reached .within, asked .begun))
+            let g = ap length (grid-law .sound l (grid, n) (drop at₁ l) (opening .is) .1) in
+            let s = ap length (stands-sound n (drop at₁ l) (laid .stands) (drop at₂ l) (laid .reached .is) .1) in
+            rw counted
+            (simp length-append (omega (arith, simp (length-append, length-drop) at g, simp (length-append, length-drop) at s, opening .within, laid .reached .within, asked .begun)))
 
         ended-at : past ≡ from + length (part from past l)
         ended-at = omega (arith, length-take-le (past - from) (drop from l) (omega (arith, length-drop from l, asked .inside)), asked .forward)

@@ -1,7 +1,6 @@
 -- For the reader: `floorDiv` rounds down, the greatest whole number of sides that is not above the difference;
 -- lifting keeps the order of metres; and a place's column is the floor that an edge's column is. Assumes nothing.
 use mathlib.Core.Path.{_≡_, refl, sym, _∙_}
-use mathlib.Core.Logic.{⊎-elim}
 use mathlib.Core.Bool.{true}
 use Prim.Native.Nat.{ℕ, zero, suc, _+_, _-_, _*_, _/_, _<_, _≤_}
 use native.Mathlib.Nat.{div-mul-le-self, lt-div-mul-add, add-mul, suc-mul, zero-mul}
@@ -9,10 +8,10 @@ use native.Mathlib.Omega.{arith}
 use lib.IntN.{ℤ, pos, negsuc, negℤ, _+ℤ_, _*ℤ_}
 use lib.Signed.{leZ, _≤ℤ_, _<ℤ_}
 use lib.Dec.{leb, le→leb, lt→ltb}
-use borrow.Author.Tests.{le-leb, lt-leb}
+use borrow.Table.Steps.{cases}
+use borrow.Author.Tests.{le-leb, lt-leb, leb-true, leb-false}
 use mir.Syntax.{w32}
 use mir.Val.{SFits}
-use Rattle.base.proofs.Tests.{le-or-lt}
 use Rattle.rules.specs.Places.{lifted, floorDiv, edgeStrip, within, strip}
 use Rattle.grid.proofs.Signed.{one-up, ahead}
 use Rattle.rules.proofs.Places.{from-edge}
@@ -39,20 +38,16 @@ pub floor-greatest : (x : ℤ) (c : ℕ) → 0 < c → x <ℤ ((floorDiv x c +�
 floor-greatest (pos n) c h = record { lt = lt→ltb n ((n / c + 1) * c) (omega (arith, add-mul (n / c) 1 c, lt-div-mul-add {a = n} {b = c} h)) }
 floor-greatest (negsuc n) c h = rw (one-up (n / c), neg-times (n / c) c) (neg-above (n / c * c) n (div-mul-le-self n c))
 
+same-test : (a b c d : ℕ) → (a ≤ b → c ≤ d) → (b < a → d < c) → leb a b ≡ leb c d
+same-test a b c d up down =
+    cases (leb a b) (λ q. q ∙ sym (le-leb c d (up (leb-true a b q)))) (λ q. q ∙ sym (lt-leb c d (down (leb-false a b q))))
+
 -- lifted metres stand in the order of the metres
 pub lifted-order : (a b : ℤ) → SFits w32 a → SFits w32 b → leZ a b ≡ leb (lifted a) (lifted b)
-lifted-order (pos a) (pos b) fa fb =
-    ⊎-elim
-    (λ (h : a ≤ b). le-leb a b h ∙ sym (le-leb (a + 2147483648) (b + 2147483648) (omega arith)))
-    (λ (h : b < a). lt-leb a b h ∙ sym (lt-leb (a + 2147483648) (b + 2147483648) (omega arith)))
-    (le-or-lt a b)
+lifted-order (pos a) (pos b) fa fb = same-test a b (a + 2147483648) (b + 2147483648) (λ h. omega arith) (λ h. omega arith)
 lifted-order (pos a) (negsuc b) fa fb = sym (lt-leb (a + 2147483648) (2147483647 - b) (omega arith))
 lifted-order (negsuc a) (pos b) fa fb = sym (le-leb (2147483647 - a) (b + 2147483648) (omega arith))
-lifted-order (negsuc a) (negsuc b) fa fb =
-    ⊎-elim
-    (λ (h : b ≤ a). le-leb b a h ∙ sym (le-leb (2147483647 - a) (2147483647 - b) (omega arith)))
-    (λ (h : a < b). lt-leb b a h ∙ sym (lt-leb (2147483647 - a) (2147483647 - b) (omega (arith, fb .sfits))))
-    (le-or-lt b a)
+lifted-order (negsuc a) (negsuc b) fa fb = same-test b a (2147483647 - a) (2147483647 - b) (λ h. omega arith) (λ h. omega (arith, fb .sfits))
 
 -- an edge along a metre of the grid is in the column of the places there
 pub strip-floor : (o : ℤ) (c : ℕ) (x : ℤ) → SFits w32 o → SFits w32 x → within o c x ≡ true → edgeStrip o c x ≡ pos (strip o c x)

@@ -1,7 +1,6 @@
 -- The regions of a set as a rising list: the set bits of its low word, then those of its high one.
 -- The calls that take the smallest region away, until none is left, go by this list. Assumes nothing.
 use mathlib.Core.Path.{_≡_, refl, sym, ap, ap₂, _∙_}
-use mathlib.Core.Logic.{_⊎_, inl, inr}
 use mathlib.Core.Bool.{Bool, false, _&&_}
 use mathlib.Core.List.{List, [], _∷_, _++_}
 use Prim.Native.Nat.{ℕ, _+_, _-_, _≤_, _<_}
@@ -10,10 +9,10 @@ use lib.Bits.{bitAnd}
 use lib.Count.{ones, trailingZeros}
 use lib.ListN.{length, length-append}
 use lib.Dec.{eqb}
-use borrow.Author.Tests.{lt-ltb, le-ltb, eqb-false, eq-eqb, ne-eqb}
+use borrow.Table.Steps.{cases}
+use borrow.Author.Tests.{lt-ltb, le-ltb, eqb-true, eqb-false}
 use Rattle.base.specs.Lists.{upTo, keep, each, isEmpty, In}
 use Rattle.base.specs.Bits.{bitAt}
-use Rattle.base.proofs.Tests.{le-or-lt}
 use Rattle.base.proofs.Members.{keep-in, keep-same, length-keep, keep-both, length-each}
 use Rattle.base.proofs.Runs.{length-from, in-from, keep-halves}
 use Rattle.base.proofs.Lowest.{setBits, bits-none, bits-lowest, bits-count}
@@ -84,11 +83,10 @@ module _ (c : Cells) where
 
   -- with no low bit the set is empty exactly if there is no high one
   pub empty-by : c .low ≡ 0 → c .high < 4294967296 → eqb (c .high) 0 ≡ isEmpty (regionsIn c)
-  empty-by e u = step (le-or-lt (c .high) 0)
-    where
-      step : (c .high ≤ 0) ⊎ (0 < c .high) → eqb (c .high) 0 ≡ isEmpty (regionsIn c)
-      step (inl h) = let z : c .high ≡ 0 = omega arith in eq-eqb (c .high) 0 z ∙ sym (ap isEmpty (nothing e z))
-      step (inr h) = ne-eqb (c .high) 0 (λ z. omega arith) ∙ sym (ap isEmpty (from-high e h u))
+  empty-by e u =
+      cases (eqb (c .high) 0)
+      (λ z. z ∙ sym (ap isEmpty (nothing e (eqb-true (c .high) 0 z))))
+      (λ z. let some = eqb-false (c .high) 0 z in z ∙ sym (ap isEmpty (from-high e (omega arith) u)))
 
   -- so that a set which is not empty has a bit in one of them
   pub some-high : c .low ≡ 0 → c .high < 4294967296 → isEmpty (regionsIn c) ≡ false → 0 < c .high

@@ -1,15 +1,14 @@
 -- Four rows to a word, eight bits each: the columns' mask, laid at each row of the span, makes the word of the touched regions.
 -- Assumes nothing.
 use mathlib.Core.Path.{_≡_, refl, _∙_}
-use mathlib.Core.Logic.{⊎-elim}
 use mathlib.Core.Bool.{Bool, true, false, cond, _&&_, and-true, and-false}
 use Prim.Native.Nat.{ℕ, zero, suc, _+_, _*_, _/_, _%_, _^_, _<_, _≤_}
 use native.Mathlib.Nat.{mul-le-mul-right, zero-add}
 use native.Mathlib.Numerals.{add-one}
 use native.Mathlib.Omega.{arith}
+use borrow.Table.Steps.{cases}
 use lib.Pow.{pow-add, pow-mono, shl-exact}
 use Rattle.base.specs.Bits.{wordOf}
-use Rattle.base.proofs.Tests.{which}
 use Rattle.base.proofs.Words.{word-same, word-none, word-split}
 use Rattle.grid.specs.declared.cells.Span.{Span}
 use Rattle.grid.specs.Cells.{inSpan, touched, laid}
@@ -26,10 +25,9 @@ module _ (columns rows : Span) where
   -- a row of the span has the columns' mask, any other none
   row-word : (r : ℕ) → wordOf (touched columns rows) (8 * r) 8 ≡ cond (inSpan rows r) (wordOf (inSpan columns) 0 8) 0
   row-word r =
-      ⊎-elim
-      (λ (e : inSpan rows r ≡ true). rw e (word-same _ _ (8 * r) 0 8 (λ k h. region-touched r k h ∙ rw (e, zero-add k) (and-true (inSpan columns k)))))
-      (λ (e : inSpan rows r ≡ false). rw e (word-same _ (λ k. false) (8 * r) 0 8 (λ k h. region-touched r k h ∙ rw e (and-false (inSpan columns k))) ∙ word-none 0 8))
-      (which (inSpan rows r))
+      cases (inSpan rows r)
+      (λ e. rw e (word-same _ _ (8 * r) 0 8 (λ k h. region-touched r k h ∙ rw (e, zero-add k) (and-true (inSpan columns k)))))
+      (λ e. rw e (word-same _ (λ k. false) (8 * r) 0 8 (λ k h. region-touched r k h ∙ rw e (and-false (inSpan columns k))) ∙ word-none 0 8))
 
   -- n rows from `from` on are 8n regions
   pub laid-touched : (from n : ℕ) → laid (wordOf (inSpan columns) 0 8) rows from n ≡ wordOf (touched columns rows) (8 * from) (8 * n)

@@ -1,13 +1,15 @@
 -- Signed metres as the machine holds them: what is read back, lifting by 2 ^ 31, differences, signs and floor division.
 -- Assumes nothing.
-use mathlib.Core.Path.{_≡_, refl, ap, _∙_}
+use mathlib.Core.Path.{_≡_, refl, sym, ap, _∙_}
 use mathlib.Core.Logic.{⊎-elim}
-use mathlib.Core.Bool.{true, false, true≢false, false≢true}
+use mathlib.Core.Bool.{Bool, not, cond}
 use Prim.Native.Nat.{ℕ, zero, suc, _-_, _/_, _<_, _≤_}
 use native.Mathlib.Nat.{zero-div, div-le-self}
 use native.Mathlib.Omega.{arith}
 use lib.IntN.{ℤ, pos, negsuc, subℕ, negℤ, _+ℤ_, _-ℤ_}
 use lib.Signed.{ltZ, leZ, quotZ}
+use lib.Dec.{leb, ltb}
+use borrow.Table.Steps.{cases}
 use borrow.Author.Tests.{le-ltb, lt-ltb, le-leb, lt-leb, ltb-true, ltb-false}
 use mir.Syntax.{w32, w64}
 use mir.Val.{SFits, Fits, toZ, ofZ}
@@ -73,29 +75,17 @@ difference-fits x o hx ho =
     (le-or-lt (lifted o) (lifted x))
 
 -- a number of 64 bits that is negative, and one that is not, as a test of the machine tells it
-pub record Below (x : ℤ) : Type 0 where
+pub record Signed (sign : ℕ → ℤ) (x : ℤ) : Type 0 where
   pub n : ℕ
   pub small : n < 9223372036854775808
-  pub is : x ≡ negsuc n
+  pub is : x ≡ sign n
 
-pub record Above (x : ℤ) : Type 0 where
-  pub n : ℕ
-  pub small : n < 9223372036854775808
-  pub is : x ≡ pos n
-
-pub below : (x : ℤ) → SFits w64 x → ltZ (toZ w64 (ofZ w64 x)) (pos 0) ≡ true → Below x
-below x h t = plain x h (rw (toZ-ofZ h) at t)
+pub by-sign : (x : ℤ) (t : Bool) → SFits w64 x → ltZ (toZ w64 (ofZ w64 x)) (pos 0) ≡ t → Signed (cond t negsuc pos) x
+by-sign x t h e = plain x h (rw (toZ-ofZ h) at e)
   where
-    plain : (x : ℤ) → SFits w64 x → ltZ x (pos 0) ≡ true → Below x
-    plain (pos n) h t = absurd (omega (arith, ltb-true n 0 t))
-    plain (negsuc n) h t = record { n = n; small = h .sfits; is = refl }
-
-pub above : (x : ℤ) → SFits w64 x → ltZ (toZ w64 (ofZ w64 x)) (pos 0) ≡ false → Above x
-above x h t = plain x h (rw (toZ-ofZ h) at t)
-  where
-    plain : (x : ℤ) → SFits w64 x → ltZ x (pos 0) ≡ false → Above x
-    plain (pos n) h t = record { n = n; small = h .sfits; is = refl }
-    plain (negsuc n) h t = absurd (true≢false t)
+    plain : (x : ℤ) → SFits w64 x → ltZ x (pos 0) ≡ t → Signed (cond t negsuc pos) x
+    plain (pos n) h e = rw (sym e ∙ le-ltb n 0 (omega arith)) (record { n = n; small = h .sfits; is = refl })
+    plain (negsuc n) h e = rw (sym e) (record { n = n; small = h .sfits; is = refl })
 
 -- floor division of a negative number: one up, toward zero, one down
 pub one-up : (n : ℕ) → negsuc n +ℤ pos 1 ≡ negℤ (pos n)
@@ -120,15 +110,12 @@ quotient n c h f = rw (one-up n, toZ-ofZ (neg-fits n h), toZ-pos w64 {n = c} (om
 pub part-less : (n c : ℕ) → n < 9223372036854775808 → n / c < 9223372036854775808
 part-less n c h = omega (arith, div-le-self n c)
 
--- the two outcomes of a signed test
-pub lt-not-le : (a b : ℤ) → ltZ a b ≡ true → leZ b a ≡ false
-lt-not-le (pos a) (pos b) h = lt-leb b a (ltb-true a b h)
-lt-not-le (pos a) (negsuc b) h = absurd (false≢true h)
-lt-not-le (negsuc a) (pos b) h = refl
-lt-not-le (negsuc a) (negsuc b) h = lt-leb a b (ltb-true b a h)
+-- one signed test says the opposite of the other
+le-not-lt : (a b : ℕ) → leb b a ≡ not (ltb a b)
+le-not-lt a b = cases (ltb a b) (λ q. rw (q, lt-leb b a (ltb-true a b q))) (λ q. rw (q, le-leb b a (ltb-false a b q)))
 
-pub not-lt-le : (a b : ℤ) → ltZ a b ≡ false → leZ b a ≡ true
-not-lt-le (pos a) (pos b) h = le-leb b a (ltb-false a b h)
-not-lt-le (pos a) (negsuc b) h = refl
-not-lt-le (negsuc a) (pos b) h = absurd (true≢false h)
-not-lt-le (negsuc a) (negsuc b) h = le-leb a b (ltb-false b a h)
+pub turned : (a b : ℤ) → leZ b a ≡ not (ltZ a b)
+turned (pos a) (pos b) = le-not-lt a b
+turned (pos a) (negsuc b) = refl
+turned (negsuc a) (pos b) = refl
+turned (negsuc a) (negsuc b) = le-not-lt b a

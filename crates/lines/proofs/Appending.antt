@@ -2,7 +2,7 @@
 -- Assumes nothing.
 use mathlib.Core.Path.{_≡_, refl, sym, ap, _∙_}
 use mathlib.Core.List.{List, [], _++_, append-assoc, append-nil}
-use Prim.Native.Nat.{ℕ, suc, _+_, _≤_, _<_}
+use Prim.Native.Nat.{ℕ, _+_, _≤_, _<_}
 use native.Mathlib.Numerals.{add-one}
 use native.Mathlib.Omega.{arith}
 use lib.ListN.{length, take, drop, getD, set, length-append, length-set}
@@ -22,8 +22,7 @@ module _ (out : List ℕ) (at : ℕ) (bytes : List ℕ) where
   pub copy-one : (now : List ℕ) (i : ℕ) → RoomAt out at bytes → i < length bytes → Copying out at bytes now i
       → Copying out at bytes (set now (at + i) (getD bytes i 0)) (i + 1)
   copy-one now i room h s =
-      let e : set (paste out at bytes i) (at + i) (getD bytes i 0) ≡ paste out at bytes (suc i) = paste-suc out at bytes i 0 (omega arith) h in
-      record { within = omega arith; is = rw (s .is, add-one) e; long = length-set now (at + i) (getD bytes i 0) ∙ s .long }
+      record { within = omega arith; is = rw (s .is, add-one) (paste-suc out at bytes i 0 (omega arith) h); long = length-set now (at + i) (getD bytes i 0) ∙ s .long }
 
   pub copied : (now : List ℕ) (i : ℕ) → RoomAt out at bytes → length bytes ≤ i → Copying out at bytes now i → Puts bytes out at now (at + i)
   copied now i room h s =

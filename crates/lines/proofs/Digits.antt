@@ -24,24 +24,18 @@ decimal-digits (suc zero) n f =
     let e : n % 10 ≡ n = omega arith in
     rw (e, lt-ltb n 10 h) (sym (small n h))
 decimal-digits (suc (suc k)) n f =
-    let less-one : suc (suc k) - 1 ≡ suc k = omega arith in
-    let high : 10 ^ suc k ≤ n = rw less-one at (f .2 (omega arith)) in
+    let less : (m : ℕ) → suc m - 1 ≡ m = λ m. omega arith in
+    let high : 10 ^ suc k ≤ n = rw (less (suc k)) at (f .2 (omega arith)) in
     let a = pow-suc 10 k in
-    let b = pow-suc 10 (suc k) in
-    let some : 0 < 10 ^ k = some-power k in
-    let less : n / 10 < 10 ^ suc k = omega (arith, f .1) in
-    let before : suc k - 1 ≡ k = omega arith in
-    let below = decimal-digits (suc k) (n / 10) (omega arith, less, λ h. rw before (omega arith)) in
+    let some = some-power k in
+    let below = decimal-digits (suc k) (n / 10) (omega arith, omega (arith, f .1, pow-suc 10 (suc k)), λ h. rw (less k) (omega arith)) in
     let e : n / 10 * 10 + n % 10 ≡ n = omega arith in
     rw (below, lt-ltb (n % 10) 10 (omega arith)) (sym (longer (n / 10) (n % 10) (omega arith) (omega arith)) ∙ rw e)
 
 -- a number below a power of ten has no more digits than that power says
 short : (n k : ℕ) → n < 10 ^ suc k → length (decimalOf n) ≤ suc k
-short = by-digits (λ n. (k : ℕ) → n < 10 ^ suc k → length (decimalOf n) ≤ suc k) one more
+short = by-digits (λ n. (k : ℕ) → n < 10 ^ suc k → length (decimalOf n) ≤ suc k) (λ n h k l. rw (small n h) (omega arith)) more
   where
-    one : (n : ℕ) → n < 10 → (k : ℕ) → n < 10 ^ suc k → length (decimalOf n) ≤ suc k
-    one n h k l = rw (small n h) (omega arith)
-
     more : (a d : ℕ) → 0 < a → d < 10 → ((k : ℕ) → a < 10 ^ suc k → length (decimalOf a) ≤ suc k) → (k : ℕ) → a * 10 + d < 10 ^ suc k
         → length (decimalOf (a * 10 + d)) ≤ suc k
     more a d h s below zero l = absurd (omega (arith, pow-suc 10 0))

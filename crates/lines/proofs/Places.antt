@@ -1,7 +1,6 @@
 -- Readers at a place of the input: what the tests that the code makes there say of the lines that begin there.
 -- Assumes nothing.
 use mathlib.Core.Path.{_≡_, refl, _∙_}
-use mathlib.Core.Logic.{_⊎_, inl, inr}
 use mathlib.Core.Bool.{true, false}
 use mathlib.Core.List.{List, [], _∷_}
 use mathlib.Core.Option.{Option, none, some}
@@ -10,20 +9,16 @@ use native.Mathlib.Omega.{arith}
 use lib.Dec.{eqb}
 use lib.ListN.{length, take, drop, getD, length-drop}
 use lib.Seq.{take-all, drop-drop}
+use borrow.Table.Steps.{cases}
 use borrow.Author.Tests.{lt-ltb, le-ltb, eq-eqb, ne-eqb}
 use Rattle.base.specs.Lists.{begins, positionIn}
-use Rattle.base.proofs.Tests.{which}
 use Rattle.base.proofs.Begins.{begins-length}
 use Rattle.lines.specs.Reads.{nothing, onward, toFeed, bytesLine, valueLine, grownBy, wellLed, decimalIn}
 use Rattle.lines.specs.Says.{part, Reached, PartReached}
 
 position-le : (x : ℕ) (l : List ℕ) → positionIn x l ≤ length l
 position-le x [] = omega arith
-position-le x (y ∷ l) = step (position-le x l) (which (eqb x y))
-  where
-    step : positionIn x l ≤ length l → (eqb x y ≡ true) ⊎ (eqb x y ≡ false) → positionIn x (y ∷ l) ≤ length (y ∷ l)
-    step h (inl q) = rw q (omega arith)
-    step h (inr q) = rw q (omega arith)
+position-le x (y ∷ l) = cases (eqb x y) (λ q. rw q (omega arith)) (λ q. rw q (omega (arith, position-le x l)))
 
 -- from a place on: the first line feed, or the input's end
 module _ (l : List ℕ) (from past : ℕ) (is : past ≡ from + positionIn 10 (drop from l)) (h : from ≤ length l) where
@@ -76,17 +71,11 @@ module _ (most : ℕ) where
   leading-zero (b ∷ []) h e = absurd (omega arith)
   leading-zero (b ∷ c ∷ l) h e = rw (eq-eqb b 48 e)
 
-  pub one-digit : (l : List ℕ) → (length l ≡ 0 → ⊥) → length l ≤ 1 → decimalIn most l ≡ grownBy most 0 l
-  unfolding decimalIn wellLed
-  one-digit [] n h = absurd (n refl)
-  one-digit (b ∷ []) n h = refl
-  one-digit (b ∷ c ∷ l) n h = absurd (omega arith)
-
-  pub no-leading-zero : (l : List ℕ) → (length l ≡ 0 → ⊥) → (getD l 0 0 ≡ 48 → ⊥) → decimalIn most l ≡ grownBy most 0 l
+  pub no-leading-zero : (l : List ℕ) → (length l ≡ 0 → ⊥) → (1 < length l → getD l 0 0 ≡ 48 → ⊥) → decimalIn most l ≡ grownBy most 0 l
   unfolding decimalIn wellLed
   no-leading-zero [] n e = absurd (n refl)
   no-leading-zero (b ∷ []) n e = refl
-  no-leading-zero (b ∷ c ∷ l) n e = rw (ne-eqb b 48 e)
+  no-leading-zero (b ∷ c ∷ l) n e = rw (ne-eqb b 48 (e (omega arith)))
 
 -- a line's value, where the line was got, and where it was not
 module _ {A : Type 0} (read : List ℕ → Option A) (key rest : List ℕ) where

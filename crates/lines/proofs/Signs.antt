@@ -61,22 +61,15 @@ module _ (l : List ℕ) (minus : begins (ascii "-") l ≡ true) where
   sign-there = begins-length (ascii "-") l minus
 
   -- its digits are all behind it
-  digits : List ℕ
-  digits = take (length l - 1) (drop 1 l)
-
-  below : (o : Option ℕ) → decimalIn 2147483648 digits ≡ o → signedIn l ≡ negated o
-  unfolding digits signedIn
-  below o e =
-      let all : take (length l - 1) (drop 1 l) ≡ drop 1 l = take-all (length l - 1) (drop 1 l) (omega (arith, length-drop 1 l)) in
-      rw (minus, rw all at e)
+  below : (o : Option ℕ) → decimalIn 2147483648 (take (length l - 1) (drop 1 l)) ≡ o → signedIn l ≡ negated o
+  unfolding signedIn
+  below o e = rw (minus, rw (take-all (length l - 1) (drop 1 l) (omega (arith, length-drop 1 l))) at e)
 
   pub minus-none : saidNumber (decimalIn 2147483648 (take (length l - 1) (drop 1 l))) ≡ decimal.Malformed → signed-decimal.Malformed ≡ saidSigned (signedIn l)
-  unfolding digits
   minus-none e = ap saidSigned (sym (below none (said-no-number _ e)))
 
   module _ (n : ℕ) (is : saidNumber (decimalIn 2147483648 (take (length l - 1) (drop 1 l))) ≡ decimal.Number n) where
     pub minus-zero : n ≡ 0 → signed-decimal.Malformed ≡ saidSigned (signedIn l)
-    unfolding digits
     minus-zero e = ap saidSigned (sym (below (some 0) (said-number _ n is ∙ ap some e)))
 
     module _ (some-digit : n ≡ 0 → ⊥) where
@@ -90,7 +83,6 @@ module _ (l : List ℕ) (minus : begins (ascii "-") l ≡ true) where
       down-fits = rw down (record { sfits = minus-fits .sfits })
 
       pub minus-some : signed-decimal.Number (toZ w32 (ofZ w32 (negsuc 0 -ℤ toZ w32 (n - 1)))) ≡ saidSigned (signedIn l)
-      unfolding digits
       minus-some =
           let s : n ≡ suc (n - 1) = omega (arith, some-digit) in
           ap signed-decimal.Number (toZ-ofZ down-fits ∙ down) ∙ ap saidSigned (sym (below (some (suc (n - 1))) (said-number _ n is ∙ ap some s)))

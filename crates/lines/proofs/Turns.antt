@@ -9,10 +9,11 @@ use native.Mathlib.Numerals.{add-one}
 use native.Mathlib.Omega.{arith}
 use lib.ListN.{length, getD, drop, drop-of-length-le}
 use lib.Seq.{drop-cons}
-use borrow.Author.Tests.{eq-eqb, ne-eqb, le-leb, lt-leb}
+use borrow.Author.Tests.{eq-eqb, ne-eqb}
 use Rattle.base.specs.Lists.{positionIn}
-use Rattle.base.proofs.Tests.{every-of, every-not}
+use Rattle.base.proofs.Tests.{refuted}
 use Rattle.lines.specs.Reads.{grown, digitFits, grownBy}
+use Rattle.lines.proofs.Decimals.{Fits, fits, fitting}
 
 pub record Seeking (l : List ℕ) (at i : ℕ) : Type 0 where
   pub from : at ≤ i
@@ -51,23 +52,12 @@ module _ (most : ℕ) (l : List ℕ) where
   next value i fits h e s = s .rest ∙ rw (drop-cons l i 0 h, e, add-one)
 
   -- a byte that is no digit, or one too many, ends it
-  pub too-low : (value i : ℕ) → i < length l → getD l i 0 < 48 → Growing most l value i → grownBy most 0 l ≡ none
-  unfolding digitFits
-  too-low value i h e s = next value i false h (every-not _ 0 (lt-leb 48 (getD l i 0) e)) s
+  pub broken : (value i : ℕ) → i < length l → (Fits most value (getD l i 0) → ⊥) → Growing most l value i → grownBy most 0 l ≡ none
+  broken value i h unfit s = next value i false h (refuted _ (λ e. unfit (fits most value (getD l i 0) e))) s
 
-  pub too-high : (value i : ℕ) → i < length l → 57 < getD l i 0 → Growing most l value i → grownBy most 0 l ≡ none
-  unfolding digitFits
-  too-high value i h e s = next value i false h (every-not _ 1 (lt-leb (getD l i 0) 57 e)) s
-
-  pub too-large : (value i : ℕ) → i < length l → most < grown value (getD l i 0) → Growing most l value i → grownBy most 0 l ≡ none
-  unfolding digitFits
-  too-large value i h e s = next value i false h (every-not _ 2 (lt-leb (grown value (getD l i 0)) most e)) s
-
-  pub grown-one : (value i : ℕ) → i < length l → 48 ≤ getD l i 0 → getD l i 0 ≤ 57 → grown value (getD l i 0) ≤ most → Growing most l value i
-      → Growing most l (grown value (getD l i 0)) (i + 1)
-  unfolding digitFits
-  grown-one value i h a b c s =
-      record { small = c; within = omega arith; rest = next value i true h (every-of _ (le-leb 48 (getD l i 0) a, (le-leb (getD l i 0) 57 b, (le-leb (grown value (getD l i 0)) most c, tt)))) s }
+  pub grown-one : (value i : ℕ) → i < length l → Fits most value (getD l i 0) → Growing most l value i → Growing most l (grown value (getD l i 0)) (i + 1)
+  grown-one value i h f s =
+      record { small = f .few; within = omega arith; rest = next value i true h (fitting most value (getD l i 0) f) s }
 
   pub grown-all : (value i : ℕ) → length l ≤ i → Growing most l value i → grownBy most 0 l ≡ some value
   unfolding grownBy

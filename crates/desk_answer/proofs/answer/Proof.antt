@@ -27,41 +27,8 @@ handed : (c : tie.After-known-told) →
     (r : Input) × Parts (a .input .now) (tableOf (l .1 .0) (l .1 .1 .0) (l .1 .1 .1 .0) (l .1 .1 .1 .1 .0) (l .1 .1 .1 .1 .1 .0)) (v .0) (v .1 .0) (v .1 .1 .1 .0) (v .1 .1 .1 .1 .0) (tableFrom (r .stands)) (r .text)
 handed c = parts-read _ _ _ _ _ _ _ _ _ (read c)
 
-read-input-requires : tie.Need-read-input-requires
-read-input-requires c κs = search needs
-
-enum-known-reading : tie.Need-enum-known-reading
-enum-known-reading c = search needs
-
-enum-told : tie.Need-enum-told
-enum-told c = search needs
-
-put-refusal-requires : tie.Need-put-refusal-requires
-put-refusal-requires c κs = search needs
-
 returns : tie.Need-returns
 returns c = refused-14 _ _ _ (c .put-refusal .ensures) _ (rw (c .before .before .enum-told .given .1) at (c .before .before .before .before .read-input .ensures)) refl
-
-slice-aggregate-reply : tie.Need-slice-aggregate-reply
-slice-aggregate-reply c = counted (handed (c .before .before .before .before .before .before .before .before .before .before .before .before) .1 .text)
-
-add-reply : tie.Need-add-reply
-add-reply c = record { fits = omega (arith, handed (c .before .before .before .before .before .before .before .before .before .before .before .before) .1 .few) }
-
-slice-aggregate-reply-2 : tie.Need-slice-aggregate-reply-2
-slice-aggregate-reply-2 c = counted (handed (c .before .before .before .before .before .before .before .before .before .before .before .before .before) .1 .starts)
-
-slice-aggregate-reply-3 : tie.Need-slice-aggregate-reply-3
-slice-aggregate-reply-3 c = counted (handed (c .before .before .before .before .before .before .before .before .before .before .before .before .before .before) .1 .east)
-
-slice-aggregate-reply-4 : tie.Need-slice-aggregate-reply-4
-slice-aggregate-reply-4 c = counted (handed (c .before .before .before .before .before .before .before .before .before .before .before .before .before .before .before) .1 .north)
-
-slice-aggregate-reply-5 : tie.Need-slice-aggregate-reply-5
-slice-aggregate-reply-5 c = counted (handed (c .before .before .before .before .before .before .before .before .before .before .before .before .before .before .before .before) .1 .score)
-
-sub-reply : tie.Need-sub-reply
-sub-reply c = handed (c .before .before .before .before .before .before .before .before .before .before .before .before .before .before .before .before .before .before .before) .1 .forward
 
 part-reply-start : tie.Need-part-reply-start
 part-reply-start c = let p = handed (c .before .before .before .before .before .before .before .before .before .before .before .before .before .before .before .before .before .before .before) .1 in omega (arith, p .forward, p .inside)
@@ -79,18 +46,18 @@ pub answer-spec : {M : Type 1} → statement M
 answer-spec =
     tie.close
     (tie.spec
-    read-input-requires
-    enum-known-reading
-    enum-told
-    put-refusal-requires
+    (search needs)
+    (search needs)
+    (search needs)
+    (search needs)
     returns
-    slice-aggregate-reply
-    add-reply
-    slice-aggregate-reply-2
-    slice-aggregate-reply-3
-    slice-aggregate-reply-4
-    slice-aggregate-reply-5
-    sub-reply
+    (λ c. counted (handed (c .before .before .before .before .before .before .before .before .before .before .before .before) .1 .text))
+    (λ c. record { fits = omega (arith, handed (c .before .before .before .before .before .before .before .before .before .before .before .before) .1 .few) })
+    (λ c. counted (handed (c .before .before .before .before .before .before .before .before .before .before .before .before .before) .1 .starts))
+    (λ c. counted (handed (c .before .before .before .before .before .before .before .before .before .before .before .before .before .before) .1 .east))
+    (λ c. counted (handed (c .before .before .before .before .before .before .before .before .before .before .before .before .before .before .before) .1 .north))
+    (λ c. counted (handed (c .before .before .before .before .before .before .before .before .before .before .before .before .before .before .before .before) .1 .score))
+    (λ c. handed (c .before .before .before .before .before .before .before .before .before .before .before .before .before .before .before .before .before .before .before) .1 .forward)
     part-reply-start
     part-reply-end
     reply-requires

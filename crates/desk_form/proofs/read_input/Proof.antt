@@ -32,23 +32,8 @@ question : (c : tie.After-known-told3) →
     QuestionReached (a .input .now) at (questionLines (drop at (a .input .now))) (q .0) (q .1 .0) (q .1 .1 .0) (q .1 .1 .1 .0)
 question c = rw (c .before .from .given .1) at (c .before .before .before .read-question .ensures)
 
-returns : tie.Need-returns
-returns c = too-long _ _ _ (c .if1 .taken)
-
-read-opening-requires : tie.Need-read-opening-requires
-read-opening-requires c κs = search needs
-
-enum-known-grid : tie.Need-enum-known-grid
-enum-known-grid c = search needs
-
-enum-told : tie.Need-enum-told
-enum-told c = search needs
-
 returns-2 : tie.Need-returns-2
 returns-2 c = no-opening _ _ _ (rw (c .enum-told .given .1) at (c .before .before .read-opening .ensures))
-
-cast-stands : tie.Need-cast-stands
-cast-stands c = search needs
 
 read-stands-requires : tie.Need-read-stands-requires
 read-stands-requires c κs =
@@ -65,23 +50,8 @@ read-stands-requires c κs =
       score = omega (arith, few, c .read-stands-arg5 .given .0 .1);
     }
 
-enum-known-bytes : tie.Need-enum-known-bytes
-enum-known-bytes c = search needs
-
-enum-told-2 : tie.Need-enum-told-2
-enum-told-2 c = search needs
-
 returns-3 : tie.Need-returns-3
 returns-3 c = no-stands _ _ _ _ _ _ (opening (c .before .before .before .before .before .before .before .before)) (rw (c .enum-told2 .given .1) at (c .before .before .read-stands .ensures))
-
-read-question-requires : tie.Need-read-question-requires
-read-question-requires c κs = stands c .reached .within
-
-enum-known-from : tie.Need-enum-known-from
-enum-known-from c = search needs
-
-enum-told-3 : tie.Need-enum-told-3
-enum-told-3 c = search needs
 
 returns-4 : tie.Need-returns-4
 returns-4 c = no-question _ _ _ _ _ _ (opening (c .before .before .before .before .before .before .before .before .before .before .before .before)) _ _ (stands (c .before .before .before)) (rw (c .enum-told3 .given .1) at (c .before .before .read-question .ensures))
@@ -96,19 +66,19 @@ pub read-input-spec : {M : Type 1} → statement M
 read-input-spec =
     tie.close
     (tie.spec
-    returns
-    read-opening-requires
-    enum-known-grid
-    enum-told
+    (λ c. search (needs, too-long))
+    (search needs)
+    (search needs)
+    (search needs)
     returns-2
-    cast-stands
+    (search needs)
     read-stands-requires
-    enum-known-bytes
-    enum-told-2
+    (search needs)
+    (search needs)
     returns-3
-    read-question-requires
-    enum-known-from
-    enum-told-3
+    (λ c κs. stands c .reached .within)
+    (search needs)
+    (search needs)
     returns-4
     returns-5
     returns-6)

@@ -19,19 +19,13 @@ north-is c =
     let a = c .before .before .before .before .before .before .before .args in
     c .within2 .ensures ∙ both-arrive (λ o x. within o (a .grid .cell) x) (a .grid .south) (a .place .north) (search needs) (search needs)
 
-within-requires : tie.Need-within-requires
-within-requires c κs = search needs
-
 returns : tie.Need-returns
 unfolding inGrid
 returns c = rw (breaks _ _ (east-is (c .before)) (c .if1 .taken))
-
-within-requires-2 : tie.Need-within-requires-2
-within-requires-2 c κs = search needs
 
 returns-2 : tie.Need-returns-2
 unfolding inGrid
 returns-2 c = rw (holds _ _ (east-is (c .before .before .before .before)) (c .before .before .before .if1 .left)) (north-is c)
 
 pub holds-spec : {M : Type 1} → statement M
-holds-spec = tie.close (tie.spec within-requires returns within-requires-2 returns-2)
+holds-spec = tie.close (tie.spec (search needs) returns (search needs) returns-2)

@@ -6,7 +6,7 @@ use borrow.Author.Needs.{needs}
 use Rattle.base.specs.Lists.{every}
 use Rattle.base.proofs.Tests.{every-not}
 use Rattle.rules.specs.Places.{inRect}
-use Rattle.grid.proofs.Compared.{not-above, above, passed}
+use Rattle.grid.proofs.Compared.{not-above, compared}
 use Rattle.grid.proofs.in_rect.Statement.{statement}
 use Rattle.grid.proofs.in_rect.Tie as tie
 
@@ -14,19 +14,19 @@ returns : tie.Need-returns
 unfolding inRect
 returns c =
     let a = c .before .before .before .before .before .args in
-    sym (every-not _ 0 (above (a .rect .west) (a .place .east) (search needs) (search needs) (c .if1 .taken)))
+    sym (every-not _ 0 (compared (a .rect .west) (a .place .east) (search needs) (search needs) (c .if1 .taken)))
 
 returns-2 : tie.Need-returns-2
 unfolding inRect
 returns-2 c =
     let a = c .before .before .before .before .before .before .before .before .before .before .args in
-    sym (every-not _ 1 (above (a .place .east) (a .rect .east) (search needs) (search needs) (c .if2 .taken)))
+    sym (every-not _ 1 (compared (a .place .east) (a .rect .east) (search needs) (search needs) (c .if2 .taken)))
 
 returns-3 : tie.Need-returns-3
 unfolding inRect
 returns-3 c =
     let a = c .before .before .before .before .before .before .before .before .before .before .before .before .before .before .before .args in
-    sym (every-not _ 2 (above (a .rect .south) (a .place .north) (search needs) (search needs) (c .if3 .taken)))
+    sym (every-not _ 2 (compared (a .rect .south) (a .place .north) (search needs) (search needs) (c .if3 .taken)))
 
 returns-4 : tie.Need-returns-4
 unfolding inRect every
@@ -36,9 +36,9 @@ returns-4 c =
     let west = east .before .before .before .before .before in
     let a = west .before .before .before .before .before .args in
     rw (
-      passed (a .rect .west) (a .place .east) (search needs) (search needs) (west .if1 .left),
-      passed (a .place .east) (a .rect .east) (search needs) (search needs) (east .if2 .left),
-      passed (a .rect .south) (a .place .north) (search needs) (search needs) (north .if3 .left),
+      compared (a .rect .west) (a .place .east) (search needs) (search needs) (west .if1 .left),
+      compared (a .place .east) (a .rect .east) (search needs) (search needs) (east .if2 .left),
+      compared (a .rect .south) (a .place .north) (search needs) (search needs) (north .if3 .left),
     )
     (not-above (a .place .north) (a .rect .north) (search needs) (search needs) ∙ sym (and-true _))
 

@@ -18,15 +18,9 @@ west-is c = c .edge-lawful .ensures ∙ arrives edgeLawful (c .before .before .a
 south-is : (c : tie.After-edge-lawful2) → c .edge-lawful2 .result ≡ edgeLawful (c .before .before .before .before .before .args .grid .south)
 south-is c = c .edge-lawful2 .ensures ∙ arrives edgeLawful (c .before .before .before .before .before .args .grid .south) (search needs)
 
-edge-lawful-requires : tie.Need-edge-lawful-requires
-edge-lawful-requires c κs = search needs
-
 returns : tie.Need-returns
 unfolding gridLawful
 returns c = sym (every-not _ 0 (breaks _ _ (west-is (c .before)) (c .if1 .taken)))
-
-edge-lawful-requires-2 : tie.Need-edge-lawful-requires-2
-edge-lawful-requires-2 c κs = search needs
 
 returns-2 : tie.Need-returns-2
 unfolding gridLawful
@@ -46,4 +40,4 @@ returns-4 c =
 pub lawful-spec : {M : Type 1} → statement M
 lawful-spec =
     tie.close
-    (tie.spec edge-lawful-requires returns edge-lawful-requires-2 returns-2 returns-3 returns-4)
+    (tie.spec (search needs) returns (search needs) returns-2 returns-3 returns-4)

@@ -6,15 +6,9 @@ use Rattle.rules.specs.Places.{regionTold}
 use Rattle.grid.proofs.locate.Statement.{statement}
 use Rattle.grid.proofs.locate.Tie as tie
 
-lawful-requires : tie.Need-lawful-requires
-lawful-requires c κs = search needs
-
 returns : tie.Need-returns
 unfolding regionTold
 returns c = rw (breaks _ _ (c .before .lawful .ensures) (c .if1 .taken))
-
-holds-requires : tie.Need-holds-requires
-holds-requires c κs = search needs
 
 returns-2 : tie.Need-returns-2
 unfolding regionTold
@@ -35,4 +29,4 @@ returns-3 c =
 pub locate-spec : {M : Type 1} → statement M
 locate-spec =
     tie.close
-    (tie.spec lawful-requires returns holds-requires returns-2 region-of-requires returns-3)
+    (tie.spec (search needs) returns (search needs) returns-2 region-of-requires returns-3)

@@ -2,7 +2,7 @@
 -- Assumes nothing.
 use borrow.Author.Needs.{needs}
 use Rattle.rules.specs.Places.{rectLawful}
-use Rattle.grid.proofs.Compared.{not-above, above, passed}
+use Rattle.grid.proofs.Compared.{not-above, compared}
 use Rattle.grid.proofs.rect_lawful.Statement.{statement}
 use Rattle.grid.proofs.rect_lawful.Tie as tie
 
@@ -10,13 +10,13 @@ returns : tie.Need-returns
 unfolding rectLawful
 returns c =
     let r = c .before .before .before .args .rect in
-    rw (above (r .west) (r .east) (search needs) (search needs) (c .if1 .taken))
+    rw (compared (r .west) (r .east) (search needs) (search needs) (c .if1 .taken))
 
 returns-2 : tie.Need-returns-2
 unfolding rectLawful
 returns-2 c =
     let r = c .before .before .before .before .before .args .rect in
-    rw (passed (r .west) (r .east) (search needs) (search needs) (c .before .before .if1 .left))
+    rw (compared (r .west) (r .east) (search needs) (search needs) (c .before .before .if1 .left))
     (not-above (r .south) (r .north) (search needs) (search needs))
 
 pub rect-lawful-spec : {M : Type 1} → statement M

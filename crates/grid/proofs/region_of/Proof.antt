@@ -4,7 +4,7 @@ use mathlib.Core.Path.{_≡_, _∙_}
 use native.Mathlib.Omega.{arith}
 use borrow.Author.Needs.{needs}
 use Rattle.base.proofs.Machine.{both-arrive}
-use Rattle.rules.specs.Places.{within, strip, regionOf}
+use Rattle.rules.specs.Places.{strip, regionOf}
 use Rattle.rules.proofs.Places.{cell-some, east-inside, north-inside, strip-less}
 use Rattle.grid.proofs.region_of.Statement.{statement}
 use Rattle.grid.proofs.region_of.Tie as tie
@@ -19,18 +19,6 @@ row-is : (c : tie.After-strip2) → c .strip2 .result ≡ strip (c .before .befo
 row-is c =
     let a = c .before .before .before .before .before .before .args in
     c .strip2 .ensures ∙ both-arrive (λ o x. strip o (a .grid .cell) x) (a .grid .south) (a .place .north) (search needs) (search needs)
-
-strip-requires : tie.Need-strip-requires
-strip-requires c κs =
-    let s = c .before .before in
-    let a = s .args in
-    (cell-some _ (s .pre .0), both-arrive (λ o x. within o (a .grid .cell) x) (a .grid .west) (a .place .east) (search needs) (search needs) ∙ east-inside _ _ (s .pre .1))
-
-strip-requires-2 : tie.Need-strip-requires-2
-strip-requires-2 c κs =
-    let s = c .before .before .before .before .before in
-    let a = s .args in
-    (cell-some _ (s .pre .0), both-arrive (λ o x. within o (a .grid .cell) x) (a .grid .south) (a .place .north) (search needs) (search needs) ∙ north-inside _ _ (s .pre .1))
 
 mul-result : tie.Need-mul-result
 mul-result c =
@@ -49,4 +37,4 @@ unfolding regionOf
 returns c = rw (row-is c, column-is (c .before .before .before))
 
 pub region-of-spec : {M : Type 1} → statement M
-region-of-spec = tie.close (tie.spec strip-requires strip-requires-2 mul-result add-result returns)
+region-of-spec = tie.close (tie.spec (λ c κs. search (needs, cell-some, east-inside)) (λ c κs. search (needs, cell-some, north-inside)) mul-result add-result returns)

@@ -15,17 +15,8 @@ x-is c = c .lift .ensures ∙ arrives lifted (c .before .args .x) (c .before .fi
 edge-is : (c : tie.After-lift2) → c .lift2 .result ≡ lifted (c .before .before .args .edge)
 edge-is c = c .lift2 .ensures ∙ arrives lifted (c .before .before .args .edge) (c .before .before .fits .edge)
 
-lift-requires : tie.Need-lift-requires
-lift-requires c κs = search needs
-
-lift-requires-2 : tie.Need-lift-requires-2
-lift-requires-2 c κs = search needs
-
 sub-into : tie.Need-sub-into
 sub-into c = omega (arith, x-is (c .before), edge-is c, from-edge _ _ _ (c .before .before .pre .1))
-
-div-result : tie.Need-div-result
-div-result c = search needs
 
 cast-result : tie.Need-cast-result
 cast-result c =
@@ -37,4 +28,4 @@ returns c = rw (x-is (c .before), edge-is c)
 
 pub strip-spec : {M : Type 1} → statement M
 strip-spec =
-    tie.close (tie.spec lift-requires lift-requires-2 sub-into div-result cast-result returns)
+    tie.close (tie.spec (search needs) (search needs) sub-into (search needs) cast-result returns)

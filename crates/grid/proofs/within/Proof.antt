@@ -17,24 +17,12 @@ start-is c = c .lift .ensures ∙ arrives lifted (c .before .args .edge) (c .bef
 at-is : (c : tie.After-lift2) → c .lift2 .result ≡ lifted (c .before .before .args .x)
 at-is c = c .lift2 .ensures ∙ arrives lifted (c .before .before .args .x) (c .before .before .fits .x)
 
-lift-requires : tie.Need-lift-requires
-lift-requires c κs = search needs
-
-lift-requires-2 : tie.Need-lift-requires-2
-lift-requires-2 c κs = search needs
-
 returns : tie.Need-returns
 unfolding within
 returns c =
     let s = c .before .before .before in
     let h : lifted (s .args .x) < lifted (s .args .edge) = omega (arith, at-is (c .before), start-is (c .before .before)) in
     rw (lt-leb _ _ h)
-
-cast-result : tie.Need-cast-result
-cast-result c = search needs
-
-mul-result : tie.Need-mul-result
-mul-result c = search needs
 
 add-result : tie.Need-add-result
 add-result c =
@@ -51,4 +39,4 @@ returns-2 c =
 pub within-spec : {M : Type 1} → statement M
 within-spec =
     tie.close
-    (tie.spec lift-requires lift-requires-2 returns cast-result mul-result add-result returns-2)
+    (tie.spec (search needs) (search needs) returns (search needs) (search needs) add-result returns-2)

@@ -14,27 +14,6 @@ Inv-loop out₀ text starts found values count at₀ i₀ out at i = Listing tex
 abbrev μ-loop : tie.MeasureT-loop
 μ-loop out₀ text starts found values count at₀ i₀ out at i = count - i
 
-slice-aggregate-put-number : tie.Need-slice-aggregate-put-number Inv-loop μ-loop
-slice-aggregate-put-number c = search needs
-
-put-number-requires : tie.Need-put-number-requires Inv-loop μ-loop
-put-number-requires c κs = number-room _ _ _ _ (search needs) (search needs)
-
-loop-holds : tie.Need-loop-holds Inv-loop μ-loop
-loop-holds c = none-listed _ _ _ _ _ _ _
-
-mul-t17 : tie.Need-mul-t17 Inv-loop μ-loop
-mul-t17 c = search needs
-
-element-copy-out-t20 : tie.Need-element-copy-out-t20 Inv-loop μ-loop
-element-copy-out-t20 c = search needs
-
-mul-put-hit : tie.Need-mul-put-hit Inv-loop μ-loop
-mul-put-hit c = search needs
-
-element-copy-out-put-hit : tie.Need-element-copy-out-put-hit Inv-loop μ-loop
-element-copy-out-put-hit c = search needs
-
 put-hit-requires : tie.Need-put-hit-requires Inv-loop μ-loop
 put-hit-requires c κs =
     let l = c .before .before .before .before .loop .inv in
@@ -42,37 +21,21 @@ put-hit-requires c κs =
     let more = c .before .before .before .loop-test .taken in
     (omega (arith, past-number _ _ (c .before .before .before .before .before .put-number .ensures) (search needs), l .puts .next, l .short, a .pre .few, more), a .pre .short _ more)
 
-add-i : tie.Need-add-i Inv-loop μ-loop
-add-i c = search needs
-
-loop-less : tie.Need-loop-less Inv-loop μ-loop
-loop-less c = search needs
-
-loop-again : tie.Need-loop-again Inv-loop μ-loop
-loop-again c =
-    let a = c .before .before .before .before .before .before .before .before .before .before .before .args in
-    listed-more (a .text .now) (a .starts .now) (a .found .now) (a .values .now) (c .before .before .before .before .loop-test .taken) (c .before .before .before .before .before .loop .inv) (c .put-hit .ensures)
-
-returns : tie.Need-returns Inv-loop μ-loop
-returns c =
-    let a = c .before .before .before .before .before .before .before .args in
-    all-listed (a .text .now) (a .starts .now) (a .found .now) (a .values .now) (c .loop-test .left) (c .before .before .put-number .ensures) (c .before .loop .inv)
-
 pub put-hits-spec : {M : Type 1} → statement M
 put-hits-spec =
     tie.close
     (tie.spec
     Inv-loop
     μ-loop
-    slice-aggregate-put-number
-    put-number-requires
-    loop-holds
-    mul-t17
-    element-copy-out-t20
-    mul-put-hit
-    element-copy-out-put-hit
+    (search needs)
+    (λ c κs. number-room _ _ _ _ (search needs) (search needs))
+    (λ c. search (needs, none-listed))
+    (search needs)
+    (search needs)
+    (search needs)
+    (search needs)
     put-hit-requires
-    add-i
-    loop-less
-    loop-again
-    returns)
+    (search needs)
+    (search needs)
+    (λ c. search (needs, listed-more))
+    (λ c. search (needs, all-listed)))

@@ -6,18 +6,6 @@ use Rattle.lines.proofs.Digits.{number-room}
 use Rattle.desk_answer.proofs.printing.put_refusal.Statement.{statement}
 use Rattle.desk_answer.proofs.printing.put_refusal.Tie as tie
 
-slice-aggregate-put-number : tie.Need-slice-aggregate-put-number
-slice-aggregate-put-number c = search needs
-
-number-requires : tie.Need-number-requires
-number-requires c κs = search needs
-
-cast-put-number : tie.Need-cast-put-number
-cast-put-number c = search needs
-
-put-number-requires : tie.Need-put-number-requires
-put-number-requires c κs = number-room _ _ _ _ (search needs) (search needs)
-
 returns : tie.Need-returns
 unfolding printedRefusal
 returns c = rw (c .before .number .ensures) at (c .put-number .ensures)
@@ -26,8 +14,8 @@ pub put-refusal-spec : {M : Type 1} → statement M
 put-refusal-spec =
     tie.close
     (tie.spec
-    slice-aggregate-put-number
-    number-requires
-    cast-put-number
-    put-number-requires
+    (search needs)
+    (search needs)
+    (search needs)
+    (λ c κs. number-room _ _ _ _ (search needs) (search needs))
     returns)

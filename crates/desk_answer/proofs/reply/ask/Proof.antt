@@ -6,31 +6,10 @@ use Rattle.desk_answer.proofs.Asking.{refusal-told, names-short, hits-t
 use Rattle.desk_answer.proofs.reply.ask.Statement.{statement}
 use Rattle.desk_answer.proofs.reply.ask.Tie as tie
 
-slice-aggregate-ranked : tie.Need-slice-aggregate-ranked
-slice-aggregate-ranked c = search needs
-
-slice-aggregate-ranked-2 : tie.Need-slice-aggregate-ranked-2
-slice-aggregate-ranked-2 c = search needs
-
-ranked-requires : tie.Need-ranked-requires
-ranked-requires c κs = search needs
-
-enum-known-answer : tie.Need-enum-known-answer
-enum-known-answer c = search needs
-
-cast-put-hits : tie.Need-cast-put-hits
-cast-put-hits c = search needs
-
 put-hits-requires : tie.Need-put-hits-requires
 put-hits-requires c κs =
     let law = c .before .before .before .before .before .before .before .before .before .before .before .before .before .before .before .before .before .before .pre in
     names-short _ _ _ _ _ _ _ _ _ law refl refl _ (rw (c .before .before .before .before .answer .given .1) at (c .before .before .before .before .before .before .before .before .ranked .ensures .exact law))
-
-enum-known-answer-2 : tie.Need-enum-known-answer-2
-enum-known-answer-2 c = search needs
-
-put-refusal-requires : tie.Need-put-refusal-requires
-put-refusal-requires c κs = search needs
 
 returns : tie.Need-returns
 returns c =
@@ -46,13 +25,13 @@ pub ask-spec : {M : Type 1} → statement M
 ask-spec =
     tie.close
     (tie.spec
-    slice-aggregate-ranked
-    slice-aggregate-ranked-2
-    ranked-requires
-    enum-known-answer
-    cast-put-hits
+    (search needs)
+    (search needs)
+    (search needs)
+    (search needs)
+    (search needs)
     put-hits-requires
-    enum-known-answer-2
-    put-refusal-requires
+    (search needs)
+    (search needs)
     returns
     returns-2)

@@ -7,30 +7,12 @@ use Rattle.desk_answer.proofs.Building.{Rooms, built-lawful, never-unla
 use Rattle.desk_answer.proofs.reply.index_made.Statement.{statement}
 use Rattle.desk_answer.proofs.reply.index_made.Tie as tie
 
-build-requires : tie.Need-build-requires
-build-requires c κs = search needs
-
-enum-known-built : tie.Need-enum-known-built
-enum-known-built c = search needs
-
 returns : tie.Need-returns
 returns c =
     let s = c .before .before .before .before .before .before .before .before .before .before in
     let a = s .args in
     let rooms : Rooms (indexOf (a .order .now) (a .nodes .now) (a .entries .now)) = record { order = omega (arith, c .before .before .before .before .before .before .build-arg .given .0 .1); nodes = omega (arith, c .before .before .before .before .before .build-arg2 .given .0 .1); entries = omega (arith, c .before .before .before .before .build-arg3 .given .0 .1) } in
     index-refused _ _ _ (s .pre) rooms _ _ (rw (c .before .built .given .1) at (c .before .before .before .build .ensures))
-
-enum-told : tie.Need-enum-told
-enum-told c = search needs
-
-check-requires : tie.Need-check-requires
-check-requires c κs = search needs
-
-enum-told-2 : tie.Need-enum-told-2
-enum-told-2 c = search needs
-
-enum-told-3 : tie.Need-enum-told-3
-enum-told-3 c = search needs
 
 returns-2 : tie.Need-returns-2
 returns-2 c =
@@ -44,12 +26,12 @@ pub index-made-spec : {M : Type 1} → statement M
 index-made-spec =
     tie.close
     (tie.spec
-    build-requires
-    enum-known-built
+    (search needs)
+    (search needs)
     returns
-    enum-told
-    check-requires
-    enum-told-2
-    enum-told-3
+    (search needs)
+    (search needs)
+    (search needs)
+    (search needs)
     returns-2
     returns-3)

@@ -6,37 +6,22 @@ use Rattle.desk_answer.proofs.Building.{made-refused}
 use Rattle.desk_answer.proofs.reply.reply.Statement.{statement}
 use Rattle.desk_answer.proofs.reply.reply.Tie as tie
 
-index-made-requires : tie.Need-index-made-requires
-index-made-requires c κs = search needs
-
-enum-known-made : tie.Need-enum-known-made
-enum-known-made c = search needs
-
-put-refusal-requires : tie.Need-put-refusal-requires
-put-refusal-requires c κs = search needs
-
 returns : tie.Need-returns
 returns c =
     let a = c .before .before .before .before .before .before .before .before .before .before .before .before .before .args in
     rw (made-refused _ _ _ (a .typed .now) (a .asked) _ (rw (c .before .before .before .made .given .1) at (c .before .before .before .before .before .index-made .ensures))) at (c .put-refusal .ensures)
 
-enum-told : tie.Need-enum-told
-enum-told c = search needs
-
 ask-requires : tie.Need-ask-requires
 ask-requires c κs = (rw (c .before .before .before .before .before .before .before .enum-told .given .1) at (c .before .before .before .before .before .before .before .before .before .index-made .ensures)) .lawful refl
-
-returns-2 : tie.Need-returns-2
-returns-2 c = c .ask .ensures
 
 pub reply-spec : {M : Type 1} → statement M
 reply-spec =
     tie.close
     (tie.spec
-    index-made-requires
-    enum-known-made
-    put-refusal-requires
+    (search needs)
+    (search needs)
+    (search needs)
     returns
-    enum-told
+    (search needs)
     ask-requires
-    returns-2)
+    (λ c. search needs))

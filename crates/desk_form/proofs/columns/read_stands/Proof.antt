@@ -5,8 +5,6 @@ use Prim.Native.Nat.{ℕ, _+_, _-_}
 use native.Mathlib.Omega.{arith}
 use lib.ListN.{length, drop, set, length-set}
 use borrow.Author.Needs.{needs}
-use mir.Syntax.{w32}
-use mir.Val.{SFits}
 use Rattle.base.proofs.Machine.{arrives}
 use Rattle.rules.specs.Tables.{tableOf}
 use Rattle.lines.specs.Writing.{ascii}
@@ -40,55 +38,13 @@ there : (c : tie.After-known-told Inv-loop μ-loop) →
     StandReached (a .input .now) (c .before .before .before .before .before .loop .next + length (ascii "name=")) (standLines (drop (c .before .before .before .before .before .loop .next) (a .input .now))) (s .0) (s .1 .0) (s .1 .1 .0) (s .1 .1 .1 .0) (s .1 .1 .1 .1 .0) (s .1 .1 .1 .1 .1 .0)
 there c = rw (c .before .from .given .1) at (c .before .before .before .read-stand .ensures)
 
-east-fits : (c : tie.After-known-told Inv-loop μ-loop) → SFits w32 (c .before .from .given .0 .1 .1 .0)
-east-fits c = search needs
-
-north-fits : (c : tie.After-known-told Inv-loop μ-loop) → SFits w32 (c .before .from .given .0 .1 .1 .1 .0)
-north-fits c = search needs
-
-slice-write-starts : tie.Need-slice-write-starts Inv-loop μ-loop
-slice-write-starts c = search needs
-
 loop-holds : tie.Need-loop-holds Inv-loop μ-loop
 loop-holds c =
     let a = c .before .before .before .before .args in
     lay-none _ _ _ _ (with-first _ _ _ _ _ _ _ _ (c .before .before .before .before .pre)) (first-start (a .starts .now) (omega (arith, c .before .before .before .before .pre .starts)))
 
-read-stand-requires : tie.Need-read-stand-requires Inv-loop μ-loop
-read-stand-requires c κs = c .before .loop .inv .within
-
-enum-known-from : tie.Need-enum-known-from Inv-loop μ-loop
-enum-known-from c = search needs
-
-enum-told : tie.Need-enum-told Inv-loop μ-loop
-enum-told c = search needs
-
-same-length : tie.Need-same-length Inv-loop μ-loop
-same-length c = long (c .before .before .before .before) .text
-
-same-length-2 : tie.Need-same-length-2 Inv-loop μ-loop
-same-length-2 c = long (c .before .before .before .before) .starts ∙ length-set {A = ℕ} (c .before .before .before .before .before .before .before .before .before .args .starts .now) 0 0
-
-same-length-3 : tie.Need-same-length-3 Inv-loop μ-loop
-same-length-3 c = long (c .before .before .before .before) .east
-
-same-length-4 : tie.Need-same-length-4 Inv-loop μ-loop
-same-length-4 c = long (c .before .before .before .before) .north
-
-same-length-5 : tie.Need-same-length-5 Inv-loop μ-loop
-same-length-5 c = long (c .before .before .before .before) .score
-
 returns : tie.Need-returns Inv-loop μ-loop
 returns c = no-stand _ _ _ _ _ _ _ _ (c .before .before .before .loop-test .taken) (rw (c .enum-told .given .1) at (c .before .before .read-stand .ensures) .none) (c .before .before .before .before .loop .inv)
-
-sub-put : tie.Need-sub-put Inv-loop μ-loop
-sub-put c = there (c .before) .forward
-
-part-put-start : tie.Need-part-put-start Inv-loop μ-loop
-part-put-start c = there (c .before) .forward
-
-part-put-end : tie.Need-part-put-end Inv-loop μ-loop
-part-put-end c = there (c .before) .inside
 
 put-requires : tie.Need-put-requires Inv-loop μ-loop
 put-requires c κs =
@@ -109,34 +65,13 @@ lay-numbers-requires c κs =
 add-i : tie.Need-add-i Inv-loop μ-loop
 add-i c = omega (arith, c .before .before .before .before .before .before .before .before .before .before .before .before .before .before .before .before .before .before .before .before .loop-test .taken, c .before .before .before .before .before .before .before .before .before .before .before .before .before .before .before .before .before .before .before .before .before .before .before .before .before .before .fits .stands)
 
-loop-less : tie.Need-loop-less Inv-loop μ-loop
-loop-less c = omega arith
-
 loop-again : tie.Need-loop-again Inv-loop μ-loop
 loop-again c =
     let put = c .before .before .before .before .before .before .lay-numbers .ensures in
     let at = c .before .before .before .before .before .before .before .before .before .before .before .before .before .before .before .before in
     let read = at .before .from .given .0 in
     let now = c .before .before .before .before .before .before .before .before .before .before .before .before .before .before .before .before .before .before .before .before .before in
-    lay-one _ _ _ _ _ _ _ _ _ _ _ _ _ _ _ (there at) (now .loop .inv) (room now) (c .before .before .before .before .before .before .before .before .before .before .before .before .before .before .before .before .before .before .before .before .loop-test .taken) _ _ _ _ _ _ (c .before .before .before .before .before .before .before .before .before .before .before .before .before .put .ensures) (put .end-is) (put .x-is ∙ arrives (set (now .loop .east) (now .loop .i)) (read .1 .1 .0) (east-fits at)) (put .y-is ∙ arrives (set (now .loop .north) (now .loop .i)) (read .1 .1 .1 .0) (north-fits at)) (put .value-is)
-
-same-length-6 : tie.Need-same-length-6 Inv-loop μ-loop
-same-length-6 c = long (c .before) .text
-
-same-length-7 : tie.Need-same-length-7 Inv-loop μ-loop
-same-length-7 c = long (c .before) .starts ∙ length-set {A = ℕ} (c .before .before .before .before .before .before .args .starts .now) 0 0
-
-same-length-8 : tie.Need-same-length-8 Inv-loop μ-loop
-same-length-8 c = long (c .before) .east
-
-same-length-9 : tie.Need-same-length-9 Inv-loop μ-loop
-same-length-9 c = long (c .before) .north
-
-same-length-10 : tie.Need-same-length-10 Inv-loop μ-loop
-same-length-10 c = long (c .before) .score
-
-returns-2 : tie.Need-returns-2 Inv-loop μ-loop
-returns-2 c = from-entry _ _ _ _ _ _ _ _ _ _ (all-laid _ _ _ _ _ _ _ _ (c .loop-test .left) (c .before .loop .inv))
+    lay-one _ _ _ _ _ _ _ _ _ _ _ _ _ _ _ (there at) (now .loop .inv) (room now) (c .before .before .before .before .before .before .before .before .before .before .before .before .before .before .before .before .before .before .before .before .loop-test .taken) _ _ _ _ _ _ (c .before .before .before .before .before .before .before .before .before .before .before .before .before .put .ensures) (put .end-is) (put .x-is ∙ arrives (set (now .loop .east) (now .loop .i)) (read .1 .1 .0) (search needs)) (put .y-is ∙ arrives (set (now .loop .north) (now .loop .i)) (read .1 .1 .1 .0) (search needs)) (put .value-is)
 
 pub read-stands-spec : {M : Type 1} → statement M
 read-stands-spec =
@@ -144,29 +79,29 @@ read-stands-spec =
     (tie.spec
     Inv-loop
     μ-loop
-    slice-write-starts
+    (search needs)
     loop-holds
-    read-stand-requires
-    enum-known-from
-    enum-told
-    same-length
-    same-length-2
-    same-length-3
-    same-length-4
-    same-length-5
+    (λ c κs. c .before .loop .inv .within)
+    (search needs)
+    (search needs)
+    (λ c. long (c .before .before .before .before) .text)
+    (λ c. long (c .before .before .before .before) .starts ∙ length-set {A = ℕ} (c .before .before .before .before .before .before .before .before .before .args .starts .now) 0 0)
+    (λ c. long (c .before .before .before .before) .east)
+    (λ c. long (c .before .before .before .before) .north)
+    (λ c. long (c .before .before .before .before) .score)
     returns
-    sub-put
-    part-put-start
-    part-put-end
+    (λ c. there (c .before) .forward)
+    (λ c. there (c .before) .forward)
+    (λ c. there (c .before) .inside)
     put-requires
     cast-lay-numbers
     lay-numbers-requires
     add-i
-    loop-less
+    (search needs)
     loop-again
-    same-length-6
-    same-length-7
-    same-length-8
-    same-length-9
-    same-length-10
-    returns-2)
+    (λ c. long (c .before) .text)
+    (λ c. long (c .before) .starts ∙ length-set {A = ℕ} (c .before .before .before .before .before .before .args .starts .now) 0 0)
+    (λ c. long (c .before) .east)
+    (λ c. long (c .before) .north)
+    (λ c. long (c .before) .score)
+    (λ c. search (needs, from-entry, all-laid)))

@@ -7,7 +7,7 @@ use mir.Facts.{toZ-ofZ}
 use lib.ListN.{length, drop}
 use borrow.Author.Needs.{needs}
 use Rattle.lines.specs.Writing.{ascii}
-use Rattle.lines.specs.Reads.{onward, bytesLine, signedLine, unsignedLine}
+use Rattle.lines.specs.Reads.{onward, bytesLine, signedLine}
 use Rattle.lines.specs.Says.{Reached, PartReached}
 use Rattle.desk_form.specs.Reads.{standBy, past, firstBad}
 use Rattle.desk_form.proofs.group.read_by.Statement.{statement}
@@ -28,38 +28,12 @@ north : (c : tie.After-known-told3) →
     Reached (a .input .now) (signedLine (ascii "north=") (drop (c .before .before .before .before .before .before .east .given .0 .1 .0) (a .input .now))) (c .before .north .given .0 .0) (c .before .north .given .0 .1 .0)
 north c = rw (c .before .north .given .1) at (c .before .before .before .signed-line2 .ensures)
 
-score : (c : tie.After-known-told4) →
-    let a = c .before .before .before .before .before .before .before .before .before .before .before .before .before .before .before .before .before .before .before .before .before .args in
-    Reached (a .input .now) (unsignedLine 65535 (a .last .now) (drop (c .before .before .before .before .before .north .given .0 .1 .0) (a .input .now))) (c .before .score .given .0 .0) (c .before .score .given .0 .1 .0)
-score c = rw (c .before .score .given .1) at (c .before .before .before .unsigned-line .ensures)
-
-bytes-line-requires : tie.Need-bytes-line-requires
-bytes-line-requires c κs = search needs
-
-enum-known-from : tie.Need-enum-known-from
-enum-known-from c = search needs
-
-enum-told : tie.Need-enum-told
-enum-told c = search needs
-
 returns : tie.Need-returns
 unfolding standBy firstBad past onward
 returns c = let e = rw (c .enum-told .given .1) at (c .before .before .bytes-line .ensures) in record { none = rw (e); bad = rw (e); of-four = omega arith }
 
 add-signed-line : tie.Need-add-signed-line
 add-signed-line c = omega (arith, bytes c .reached .within, c .before .before .before .before .before .before .before .good .0)
-
-slice-aggregate-signed-line : tie.Need-slice-aggregate-signed-line
-slice-aggregate-signed-line c = search needs
-
-signed-line-requires : tie.Need-signed-line-requires
-signed-line-requires c κs = bytes (c .before) .reached .within
-
-enum-known-east : tie.Need-enum-known-east
-enum-known-east c = search needs
-
-enum-told-2 : tie.Need-enum-told-2
-enum-told-2 c = search needs
 
 returns-2 : tie.Need-returns-2
 unfolding standBy firstBad past onward
@@ -68,18 +42,6 @@ returns-2 c =
     let e = rw (c .enum-told2 .given .1) at (c .before .before .signed-line .ensures) in
     record { none = rw (b, e); bad = rw (b, e); of-four = omega arith }
 
-slice-aggregate-signed-line-2 : tie.Need-slice-aggregate-signed-line-2
-slice-aggregate-signed-line-2 c = search needs
-
-signed-line-requires-2 : tie.Need-signed-line-requires-2
-signed-line-requires-2 c κs = east (c .before) .within
-
-enum-known-north : tie.Need-enum-known-north
-enum-known-north c = search needs
-
-enum-told-3 : tie.Need-enum-told-3
-enum-told-3 c = search needs
-
 returns-3 : tie.Need-returns-3
 unfolding standBy firstBad past onward
 returns-3 c =
@@ -87,15 +49,6 @@ returns-3 c =
     let b = bytes (at-east .before .before .before .before .before) .reached .is in
     let e = rw (c .enum-told3 .given .1) at (c .before .before .signed-line2 .ensures) in
     record { none = rw (b, east at-east .is, e); bad = rw (b, east at-east .is, e); of-four = omega arith }
-
-unsigned-line-requires : tie.Need-unsigned-line-requires
-unsigned-line-requires c κs = north c .within
-
-enum-known-score : tie.Need-enum-known-score
-enum-known-score c = search needs
-
-enum-told-4 : tie.Need-enum-told-4
-enum-told-4 c = search needs
 
 returns-4 : tie.Need-returns-4
 unfolding standBy firstBad past onward
@@ -112,30 +65,31 @@ returns-5 c =
     let at-north = c .before .before .before .before in
     let at-east = at-north .before .before .before .before .before in
     let b = bytes (at-east .before .before .before .before .before) in
+    let score = rw (c .before .score .given .1) at (c .before .before .before .unsigned-line .ensures) in
     rw (toZ-ofZ {w = w32} {z = at-east .before .east .given .0 .0} (search needs), toZ-ofZ {w = w32} {z = at-north .before .north .given .0 .0} (search needs))
-    (record { begun = b .begun; forward = b .forward; inside = omega (arith, b .reached .within); reached = record { within = score c .within; is = rw (b .reached .is, east at-east .is, north at-north .is, score c .is) } })
+    (record { begun = b .begun; forward = b .forward; inside = omega (arith, b .reached .within); reached = record { within = score .within; is = rw (b .reached .is, east at-east .is, north at-north .is, score .is) } })
 
 pub read-by-spec : {M : Type 1} → statement M
 read-by-spec =
     tie.close
     (tie.spec
-    bytes-line-requires
-    enum-known-from
-    enum-told
+    (search needs)
+    (search needs)
+    (search needs)
     returns
     add-signed-line
-    slice-aggregate-signed-line
-    signed-line-requires
-    enum-known-east
-    enum-told-2
+    (search needs)
+    (λ c κs. bytes (c .before) .reached .within)
+    (search needs)
+    (search needs)
     returns-2
-    slice-aggregate-signed-line-2
-    signed-line-requires-2
-    enum-known-north
-    enum-told-3
+    (search needs)
+    (λ c κs. east (c .before) .within)
+    (search needs)
+    (search needs)
     returns-3
-    unsigned-line-requires
-    enum-known-score
-    enum-told-4
+    (λ c κs. north c .within)
+    (search needs)
+    (search needs)
     returns-4
     returns-5)

@@ -26,39 +26,10 @@ cell : (c : tie.After-known-told3) →
     Reached (a .input .now) (unsignedLine 65535 (ascii "cell=") (drop (c .before .before .before .before .before .before .south .given .0 .1 .0) (a .input .now))) (c .before .cell .given .0 .0) (c .before .cell .given .0 .1 .0)
 cell c = rw (c .before .cell .given .1) at (c .before .before .before .unsigned-line .ensures)
 
-stands : (c : tie.After-known-told4) →
-    let a = c .before .before .before .before .before .before .before .before .before .before .before .before .before .before .before .before .before .before .before .before .before .args in
-    Reached (a .input .now) (unsignedLine 64 (ascii "stands=") (drop (c .before .before .before .before .before .before .cell .given .0 .1 .0) (a .input .now))) (c .before .stands .given .0 .0) (c .before .stands .given .0 .1 .0)
-stands c = rw (c .before .stands .given .1) at (c .before .before .before .unsigned-line2 .ensures)
-
-slice-aggregate-signed-line : tie.Need-slice-aggregate-signed-line
-slice-aggregate-signed-line c = search needs
-
-signed-line-requires : tie.Need-signed-line-requires
-signed-line-requires c κs = search needs
-
-enum-known-west : tie.Need-enum-known-west
-enum-known-west c = search needs
-
-enum-told : tie.Need-enum-told
-enum-told c = search needs
-
 returns : tie.Need-returns
 unfolding gridLines onward
 returns c =
     rw (rw (c .enum-told .given .1) at (c .before .before .signed-line .ensures))
-
-slice-aggregate-signed-line-2 : tie.Need-slice-aggregate-signed-line-2
-slice-aggregate-signed-line-2 c = search needs
-
-signed-line-requires-2 : tie.Need-signed-line-requires-2
-signed-line-requires-2 c κs = west (c .before) .within
-
-enum-known-south : tie.Need-enum-known-south
-enum-known-south c = search needs
-
-enum-told-2 : tie.Need-enum-told-2
-enum-told-2 c = search needs
 
 returns-2 : tie.Need-returns-2
 unfolding gridLines onward
@@ -66,36 +37,12 @@ returns-2 c =
     let at-west = c .before .before .before .before in
     rw (west at-west .is, rw (c .enum-told2 .given .1) at (c .before .before .signed-line2 .ensures))
 
-slice-aggregate-unsigned-line : tie.Need-slice-aggregate-unsigned-line
-slice-aggregate-unsigned-line c = search needs
-
-unsigned-line-requires : tie.Need-unsigned-line-requires
-unsigned-line-requires c κs = south (c .before) .within
-
-enum-known-cell : tie.Need-enum-known-cell
-enum-known-cell c = search needs
-
-enum-told-3 : tie.Need-enum-told-3
-enum-told-3 c = search needs
-
 returns-3 : tie.Need-returns-3
 unfolding gridLines onward
 returns-3 c =
     let at-south = c .before .before .before .before in
     let at-west = at-south .before .before .before .before .before in
     rw (west at-west .is, south at-south .is, rw (c .enum-told3 .given .1) at (c .before .before .unsigned-line .ensures))
-
-slice-aggregate-unsigned-line-2 : tie.Need-slice-aggregate-unsigned-line-2
-slice-aggregate-unsigned-line-2 c = search needs
-
-unsigned-line-requires-2 : tie.Need-unsigned-line-requires-2
-unsigned-line-requires-2 c κs = cell (c .before) .within
-
-enum-known-stands : tie.Need-enum-known-stands
-enum-known-stands c = search needs
-
-enum-told-4 : tie.Need-enum-told-4
-enum-told-4 c = search needs
 
 returns-4 : tie.Need-returns-4
 unfolding gridLines onward
@@ -111,31 +58,32 @@ returns-5 c =
     let at-cell = c .before .before .before .before .before in
     let at-south = at-cell .before .before .before .before .before in
     let at-west = at-south .before .before .before .before .before in
+    let stands = rw (c .before .stands .given .1) at (c .before .before .before .unsigned-line2 .ensures) in
     rw (toZ-ofZ {w = w32} {z = at-west .before .west .given .0 .0} (search needs), toZ-ofZ {w = w32} {z = at-south .before .south .given .0 .0} (search needs))
-    (record { within = stands c .within; is = rw (west at-west .is, south at-south .is, cell at-cell .is, stands c .is) })
+    (record { within = stands .within; is = rw (west at-west .is, south at-south .is, cell at-cell .is, stands .is) })
 
 pub read-opening-spec : {M : Type 1} → statement M
 read-opening-spec =
     tie.close
     (tie.spec
-    slice-aggregate-signed-line
-    signed-line-requires
-    enum-known-west
-    enum-told
+    (search needs)
+    (search needs)
+    (search needs)
+    (search needs)
     returns
-    slice-aggregate-signed-line-2
-    signed-line-requires-2
-    enum-known-south
-    enum-told-2
+    (search needs)
+    (λ c κs. west (c .before) .within)
+    (search needs)
+    (search needs)
     returns-2
-    slice-aggregate-unsigned-line
-    unsigned-line-requires
-    enum-known-cell
-    enum-told-3
+    (search needs)
+    (λ c κs. south (c .before) .within)
+    (search needs)
+    (search needs)
     returns-3
-    slice-aggregate-unsigned-line-2
-    unsigned-line-requires-2
-    enum-known-stands
-    enum-told-4
+    (search needs)
+    (λ c κs. cell (c .before) .within)
+    (search needs)
+    (search needs)
     returns-4
     returns-5)

@@ -6,8 +6,7 @@ use mir.Facts.{toZ-ofZ}
 use lib.ListN.{length, drop}
 use borrow.Author.Needs.{needs}
 use Rattle.lines.specs.Writing.{ascii}
-use Rattle.lines.specs.Reads.{onward, unsignedLine}
-use Rattle.lines.specs.Says.{Reached}
+use Rattle.lines.specs.Reads.{onward}
 use Rattle.desk_form.specs.Reads.{standBy, questionLines}
 use Rattle.desk_form.specs.Says.{StandReached}
 use Rattle.desk_form.proofs.group.read_question.Statement.{statement}
@@ -19,41 +18,9 @@ four : (c : tie.After-known-told) →
     StandReached (a .input .now) (a .at + length (ascii "text=")) (standBy (ascii "text=") (ascii "weight=") (drop (a .at) (a .input .now))) (h .0) (h .1 .0) (h .1 .1 .0) (h .1 .1 .1 .0) (h .1 .1 .1 .1 .0) (h .1 .1 .1 .1 .1 .0)
 four c = rw (c .before .from .given .1) at (c .before .before .before .read-by .ensures)
 
-k : (c : tie.After-known-told2) →
-    let a = c .before .before .before .before .before .before .before .before .before .before .before .before .args in
-    Reached (a .input .now) (unsignedLine 65535 (ascii "k=") (drop (c .before .before .before .before .before .before .from .given .0 .1 .1 .1 .1 .1 .0) (a .input .now))) (c .before .k .given .0 .0) (c .before .k .given .0 .1 .0)
-k c = rw (c .before .k .given .1) at (c .before .before .before .unsigned-line .ensures)
-
-slice-aggregate-read-by : tie.Need-slice-aggregate-read-by
-slice-aggregate-read-by c = search needs
-
-slice-aggregate-read-by-2 : tie.Need-slice-aggregate-read-by-2
-slice-aggregate-read-by-2 c = search needs
-
-read-by-requires : tie.Need-read-by-requires
-read-by-requires c κs = search needs
-
-enum-known-from : tie.Need-enum-known-from
-enum-known-from c = search needs
-
-enum-told : tie.Need-enum-told
-enum-told c = search needs
-
 returns : tie.Need-returns
 unfolding questionLines onward
 returns c = rw (rw (c .enum-told .given .1) at (c .before .before .read-by .ensures) .none)
-
-slice-aggregate-unsigned-line : tie.Need-slice-aggregate-unsigned-line
-slice-aggregate-unsigned-line c = search needs
-
-unsigned-line-requires : tie.Need-unsigned-line-requires
-unsigned-line-requires c κs = four (c .before) .reached .within
-
-enum-known-k : tie.Need-enum-known-k
-enum-known-k c = search needs
-
-enum-told-2 : tie.Need-enum-told-2
-enum-told-2 c = search needs
 
 returns-2 : tie.Need-returns-2
 unfolding questionLines onward
@@ -66,22 +33,23 @@ returns-3 c =
     let at-four = c .before .before .before .before .before in
     let h = four at-four in
     let z = at-four .before .from .given .0 .1 .1 in
+    let k = rw (c .before .k .given .1) at (c .before .before .before .unsigned-line .ensures) in
     rw (toZ-ofZ {w = w32} {z = z .0} (search needs), toZ-ofZ {w = w32} {z = z .1 .0} (search needs))
-    (record { begun = h .begun; forward = h .forward; inside = h .inside; reached = record { within = k c .within; is = rw (h .reached .is, k c .is) } })
+    (record { begun = h .begun; forward = h .forward; inside = h .inside; reached = record { within = k .within; is = rw (h .reached .is, k .is) } })
 
 pub read-question-spec : {M : Type 1} → statement M
 read-question-spec =
     tie.close
     (tie.spec
-    slice-aggregate-read-by
-    slice-aggregate-read-by-2
-    read-by-requires
-    enum-known-from
-    enum-told
+    (search needs)
+    (search needs)
+    (search needs)
+    (search needs)
+    (search needs)
     returns
-    slice-aggregate-unsigned-line
-    unsigned-line-requires
-    enum-known-k
-    enum-told-2
+    (search needs)
+    (λ c κs. four (c .before) .reached .within)
+    (search needs)
+    (search needs)
     returns-2
     returns-3)

@@ -2,7 +2,6 @@
 -- Assumes nothing.
 use mathlib.Core.Path.{_≡_, _∙_}
 use borrow.Author.Needs.{needs}
-use mir.Val.{SFits}
 use mir.Syntax.{w32}
 use mir.Facts.{toZ-ofZ}
 use Rattle.base.proofs.Words.{word-less}
@@ -17,24 +16,14 @@ use Rattle.grid.proofs.cells.cells_of.Tie as tie
 columns-are : (c : tie.After-strips) → c .strips .result ≡ columnsOf (c .before .before .before .before .args .grid) (c .before .before .before .before .args .rect)
 columns-are c =
     let a = c .before .before .before .before .args in
-    let w : SFits w32 (a .rect .west) = search needs in
-    let e : SFits w32 (a .rect .east) = search needs in
-    let o : SFits w32 (a .grid .west) = search needs in
-    c .strips .ensures ∙ rw (toZ-ofZ w, toZ-ofZ e, toZ-ofZ o)
+    c .strips .ensures
+    ∙ rw (toZ-ofZ {w = w32} {z = a .rect .west} (search needs), toZ-ofZ {w = w32} {z = a .rect .east} (search needs), toZ-ofZ {w = w32} {z = a .grid .west} (search needs))
 
 rows-are : (c : tie.After-strips2) → c .strips2 .result ≡ rowsOf (c .before .before .before .before .before .before .before .before .args .grid) (c .before .before .before .before .before .before .before .before .args .rect)
 rows-are c =
     let a = c .before .before .before .before .before .before .before .before .args in
-    let s : SFits w32 (a .rect .south) = search needs in
-    let n : SFits w32 (a .rect .north) = search needs in
-    let o : SFits w32 (a .grid .south) = search needs in
-    c .strips2 .ensures ∙ rw (toZ-ofZ s, toZ-ofZ n, toZ-ofZ o)
-
-strips-requires : tie.Need-strips-requires
-strips-requires c κs = cell-some _ (c .before .before .before .pre)
-
-strips-requires-2 : tie.Need-strips-requires-2
-strips-requires-2 c κs = cell-some _ (c .before .before .before .before .before .before .before .pre)
+    c .strips2 .ensures
+    ∙ rw (toZ-ofZ {w = w32} {z = a .rect .south} (search needs), toZ-ofZ {w = w32} {z = a .rect .north} (search needs), toZ-ofZ {w = w32} {z = a .grid .south} (search needs))
 
 mask-requires : tie.Need-mask-requires
 unfolding edgesSpan
@@ -58,4 +47,10 @@ returns c =
 pub cells-of-spec : {M : Type 1} → statement M
 cells-of-spec =
     tie.close
-    (tie.spec strips-requires strips-requires-2 mask-requires lay-requires lay-requires-2 returns)
+    (tie.spec
+    (λ c κs. cell-some _ (c .before .before .before .pre))
+    (λ c κs. cell-some _ (c .before .before .before .before .before .before .before .pre))
+    mask-requires
+    lay-requires
+    lay-requires-2
+    returns)

@@ -20,30 +20,12 @@ loop-holds : tie.Need-loop-holds Inv-loop μ-loop
 unfolding laid
 loop-holds c = (search needs, refl)
 
-add-has : tie.Need-add-has Inv-loop μ-loop
-add-has c = search needs
-
-has-requires : tie.Need-has-requires Inv-loop μ-loop
-has-requires c κs = search needs
-
-mul-word : tie.Need-mul-word Inv-loop μ-loop
-mul-word c = search needs
-
-shl-word : tie.Need-shl-word Inv-loop μ-loop
-shl-word c = search needs
-
 add-word : tie.Need-add-word Inv-loop μ-loop
 add-word c =
     let s = c .before .before .before .before in
     let at = c .before .before .before .loop in
     let more = c .before .before .loop-test .taken in
     rw (moved _ (s .args .rows) (s .args .from) (s .pre .0) (at .row) more, at .inv .1) (record { fits = sum-fits _ _ _ (s .pre .0) (at .row) more })
-
-add-row : tie.Need-add-row Inv-loop μ-loop
-add-row c = search needs
-
-loop-less : tie.Need-loop-less Inv-loop μ-loop
-loop-less c = search needs
 
 loop-again : tie.Need-loop-again Inv-loop μ-loop
 loop-again c =
@@ -70,12 +52,12 @@ lay-spec =
     Inv-loop
     μ-loop
     loop-holds
-    add-has
-    has-requires
-    mul-word
-    shl-word
+    (search needs)
+    (search needs)
+    (search needs)
+    (search needs)
     add-word
-    add-row
-    loop-less
+    (search needs)
+    (search needs)
     loop-again
     returns)

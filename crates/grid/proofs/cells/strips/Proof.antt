@@ -7,15 +7,6 @@ use Rattle.grid.specs.Cells.{edgesSpan}
 use Rattle.grid.proofs.cells.strips.Statement.{statement}
 use Rattle.grid.proofs.cells.strips.Tie as tie
 
-edge-strip-requires : tie.Need-edge-strip-requires
-edge-strip-requires c κs = search needs
-
-edge-strip-requires-2 : tie.Need-edge-strip-requires-2
-edge-strip-requires-2 c κs = search needs
-
-span-between-requires : tie.Need-span-between-requires
-span-between-requires c κs = search needs
-
 returns : tie.Need-returns
 unfolding edgesSpan
 returns c =
@@ -26,4 +17,4 @@ returns c =
 
 pub strips-spec : {M : Type 1} → statement M
 strips-spec =
-    tie.close (tie.spec edge-strip-requires edge-strip-requires-2 span-between-requires returns)
+    tie.close (tie.spec (search needs) (search needs) (search needs) returns)

@@ -6,12 +6,6 @@ use mir.Facts.{toZ-ofZ}
 use Rattle.grid.proofs.metres.edge_strip.Statement.{statement}
 use Rattle.grid.proofs.metres.edge_strip.Tie as tie
 
-difference-requires : tie.Need-difference-requires
-difference-requires c κs = search needs
-
-floor-div-requires : tie.Need-floor-div-requires
-floor-div-requires c κs = search needs
-
 returns : tie.Need-returns
 returns c =
     let s = c .before .before in
@@ -19,4 +13,4 @@ returns c =
     rw (toZ-ofZ {w = w64} (sfits-of (c .floor-div .ok)), c .floor-div .ensures, toZ-ofZ {w = w64} (sfits-of (d .ok)), d .ensures, toZ-ofZ (s .fits .edge), toZ-ofZ (s .fits .origin))
 
 pub edge-strip-spec : {M : Type 1} → statement M
-edge-strip-spec = tie.close (tie.spec difference-requires floor-div-requires returns)
+edge-strip-spec = tie.close (tie.spec (search needs) (search needs) returns)

@@ -8,9 +8,6 @@ use Rattle.rules.proofs.Places.{cell-some}
 use Rattle.grid.proofs.worth.bound.Statement.{statement}
 use Rattle.grid.proofs.worth.bound.Tie as tie
 
-region-distance-requires : tie.Need-region-distance-requires
-region-distance-requires c κs = search needs
-
 value-at-requires : tie.Need-value-at-requires
 value-at-requires c κs =
     let s = c .before in
@@ -21,4 +18,4 @@ unfolding boundOf
 returns c = rw (c .value-at .ensures, c .before .region-distance .ensures)
 
 pub bound-spec : {M : Type 1} → statement M
-bound-spec = tie.close (tie.spec region-distance-requires value-at-requires returns)
+bound-spec = tie.close (tie.spec (λ c κs. search needs) value-at-requires returns)

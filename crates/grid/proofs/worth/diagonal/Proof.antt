@@ -8,18 +8,9 @@ use Rattle.rules.proofs.Places.{cell-small}
 use Rattle.grid.proofs.worth.diagonal.Statement.{statement}
 use Rattle.grid.proofs.worth.diagonal.Tie as tie
 
-cast-cell : tie.Need-cast-cell
-cast-cell c = search needs
-
-mul-result : tie.Need-mul-result
-mul-result c = omega (arith, cell-squared _ (cell-small _ (c .before .pre)))
-
-mul-result-2 : tie.Need-mul-result-2
-mul-result-2 c = omega (arith, cell-squared _ (cell-small _ (c .before .pre)))
-
 returns : tie.Need-returns
 unfolding diagonal²
 returns c = search needs
 
 pub diagonal-spec : {M : Type 1} → statement M
-diagonal-spec = tie.close (tie.spec cast-cell mul-result mul-result-2 returns)
+diagonal-spec = tie.close (tie.spec (search needs) (λ c. omega (arith, cell-squared _ (cell-small _ (c .before .pre)))) (λ c. omega (arith, cell-squared _ (cell-small _ (c .before .pre)))) returns)

@@ -22,12 +22,6 @@ along-is c =
     let s = c .before .before .before .before .before .before .args in
     c .metres-between2 .ensures ∙ both-arrive (λ x y. apart (lifted x) (lifted y)) (s .a .north) (s .b .north) (search needs) (search needs)
 
-metres-between-requires : tie.Need-metres-between-requires
-metres-between-requires c κs = search needs
-
-metres-between-requires-2 : tie.Need-metres-between-requires-2
-metres-between-requires-2 c κs = search needs
-
 squares-requires : tie.Need-squares-requires
 squares-requires c κs =
     let s = c .before .before .before .before .before .before in
@@ -42,4 +36,4 @@ returns c = rw (c .squares .ensures, across-is (c .before .before .before .befor
 
 pub distance-spec : {M : Type 1} → statement M
 distance-spec =
-    tie.close (tie.spec metres-between-requires metres-between-requires-2 squares-requires returns)
+    tie.close (tie.spec (search needs) (search needs) squares-requires returns)

@@ -14,23 +14,8 @@ low-less c =
     let s = c .before in
     rw (c .lift .ensures, toZ-ofZ (s .fits .edge)) (omega (arith, lifted-less _ (s .fits .edge), mul-le-mul (le-of-lt (s .pre .below)) (s .pre .most)))
 
-lift-requires : tie.Need-lift-requires
-lift-requires c κs = search needs
-
-mul-low : tie.Need-mul-low
-mul-low c = omega (arith, low-less c)
-
-add-low : tie.Need-add-low
-add-low c = omega (arith, low-less c)
-
-lift-requires-2 : tie.Need-lift-requires-2
-lift-requires-2 c κs = search needs
-
 nearest-requires : tie.Need-nearest-requires
 nearest-requires c κs = (c .before .before .pre .some, low-less (c .before))
-
-apart-requires : tie.Need-apart-requires
-apart-requires c κs = search needs
 
 returns : tie.Need-returns
 returns c =
@@ -41,10 +26,10 @@ pub gap-spec : {M : Type 1} → statement M
 gap-spec =
     tie.close
     (tie.spec
-    lift-requires
-    mul-low
-    add-low
-    lift-requires-2
+    (search needs)
+    (λ c. omega (arith, low-less c))
+    (λ c. omega (arith, low-less c))
+    (search needs)
     nearest-requires
-    apart-requires
+    (search needs)
     returns)

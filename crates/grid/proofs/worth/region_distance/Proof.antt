@@ -23,16 +23,6 @@ along-is c =
     let a = c .before .before .before .before .before .before .args in
     c .gap2 .ensures ∙ both-arrive (λ o x. apart (nearestIn o (a .grid .cell) (a .region / 8) x) (lifted x)) (a .grid .south) (a .place .north) (search needs) (search needs)
 
-gap-requires : tie.Need-gap-requires
-gap-requires c κs =
-    let s = c .before .before in
-    record { some = cell-some _ (s .pre .lawful); most = cell-small _ (s .pre .lawful); below = omega arith }
-
-gap-requires-2 : tie.Need-gap-requires-2
-gap-requires-2 c κs =
-    let s = c .before .before .before .before .before in
-    record { some = cell-some _ (s .pre .lawful); most = cell-small _ (s .pre .lawful); below = omega (arith, s .pre .small) }
-
 squares-requires : tie.Need-squares-requires
 squares-requires c κs =
     let s = c .before .before .before .before .before .before in
@@ -47,4 +37,4 @@ unfolding regionDistance²
 returns c = rw (c .squares .ensures, across-is (c .before .before .before .before), along-is (c .before))
 
 pub region-distance-spec : {M : Type 1} → statement M
-region-distance-spec = tie.close (tie.spec gap-requires gap-requires-2 squares-requires returns)
+region-distance-spec = tie.close (tie.spec (λ c κs. search (needs, cell-some, cell-small)) (λ c κs. search (needs, cell-some, cell-small)) squares-requires returns)

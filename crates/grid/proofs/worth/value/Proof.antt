@@ -7,9 +7,6 @@ use Rattle.grid.proofs.Distances.{distance-below-diagonal}
 use Rattle.grid.proofs.worth.value.Statement.{statement}
 use Rattle.grid.proofs.worth.value.Tie as tie
 
-distance-requires : tie.Need-distance-requires
-distance-requires c κs = search needs
-
 value-at-requires : tie.Need-value-at-requires
 value-at-requires c κs =
     let s = c .before in
@@ -20,4 +17,4 @@ unfolding valueOf
 returns c = rw (c .value-at .ensures, c .before .distance .ensures)
 
 pub value-spec : {M : Type 1} → statement M
-value-spec = tie.close (tie.spec distance-requires value-at-requires returns)
+value-spec = tie.close (tie.spec (λ c κs. search needs) value-at-requires returns)

@@ -7,25 +7,17 @@ use Rattle.lines.proofs.Appending.{then, line-long}
 use Rattle.lines.proofs.putting.put_line.Statement.{statement}
 use Rattle.lines.proofs.putting.put_line.Tie as tie
 
-put-requires : tie.Need-put-requires
-put-requires c κs = let a = c .before .before .before .before .args in omega (arith, line-long (a .key .now) (a .value .now))
-
-put-requires-2 : tie.Need-put-requires-2
-put-requires-2 c κs = let a = c .before .before .before .before .before .before .before .before .args in omega (arith, line-long (a .key .now) (a .value .now))
-
-slice-aggregate-put : tie.Need-slice-aggregate-put
-slice-aggregate-put c = search needs
-
-put-requires-3 : tie.Need-put-requires-3
-put-requires-3 c κs = let a = c .before .before .before .before .before .before .before .before .before .before .before .before .before .args in omega (arith, line-long (a .key .now) (a .value .now))
-
-same-length : tie.Need-same-length
-same-length c = search needs
-
 returns : tie.Need-returns
 unfolding line
 returns c = then (c .before .before .before .before .before .before .before .before .before .before .before .put .ensures) (then (c .before .before .before .before .before .before .before .put2 .ensures) (c .before .before .put3 .ensures))
 
 pub put-line-spec : {M : Type 1} → statement M
 put-line-spec =
-    tie.close (tie.spec put-requires put-requires-2 slice-aggregate-put put-requires-3 same-length returns)
+    tie.close
+    (tie.spec
+    (λ c κs. omega (arith, simp line-long at (c .before .before .before .before .pre)))
+    (λ c κs. omega (arith, simp line-long at (c .before .before .before .before .before .before .before .before .pre)))
+    (search needs)
+    (λ c κs. omega (arith, simp line-long at (c .before .before .before .before .before .before .before .before .before .before .before .before .before .pre)))
+    (search needs)
+    returns)

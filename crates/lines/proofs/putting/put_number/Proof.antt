@@ -6,20 +6,8 @@ use Rattle.lines.proofs.Digits.{decimal-digits}
 use Rattle.lines.proofs.putting.put_number.Statement.{statement}
 use Rattle.lines.proofs.putting.put_number.Tie as tie
 
-decimal-requires : tie.Need-decimal-requires
-decimal-requires c κs = search needs
-
-array-share-prefix-digits : tie.Need-array-share-prefix-digits
-array-share-prefix-digits c = search needs
-
-slice-aggregate-put-line : tie.Need-slice-aggregate-put-line
-slice-aggregate-put-line c = search needs
-
 put-line-requires : tie.Need-put-line-requires
 put-line-requires c κs = let d = c .before .before .decimal .ensures in rw (d .1 .1 ∙ decimal-digits _ _ (d .1 .0)) (c .before .before .before .before .before .before .pre)
-
-same-length : tie.Need-same-length
-same-length c = search needs
 
 returns : tie.Need-returns
 returns c = let d = c .before .before .before .before .before .decimal .ensures in rw (d .1 .1 ∙ decimal-digits _ _ (d .1 .0)) at (c .before .before .put-line .ensures)
@@ -28,9 +16,9 @@ pub put-number-spec : {M : Type 1} → statement M
 put-number-spec =
     tie.close
     (tie.spec
-    decimal-requires
-    array-share-prefix-digits
-    slice-aggregate-put-line
+    (search needs)
+    (search needs)
+    (search needs)
     put-line-requires
-    same-length
+    (search needs)
     returns)

@@ -11,18 +11,6 @@ use Rattle.lines.proofs.Places.{key-missing, key-fits, feed-missing, li
 use Rattle.lines.proofs.reading.bytes_line.Statement.{statement}
 use Rattle.lines.proofs.reading.bytes_line.Tie as tie
 
-sub-begins : tie.Need-sub-begins
-sub-begins c = search needs
-
-part-begins-start : tie.Need-part-begins-start
-part-begins-start c = search needs
-
-part-begins-end : tie.Need-part-begins-end
-part-begins-end c = search needs
-
-begins-requires : tie.Need-begins-requires
-begins-requires c κs = search needs
-
 key-there : (c : tie.Else1) →
     let a = c .before .before .before .before .before .args in
     begins (a .key .now) (take (length (a .input .now) - a .at) (drop (a .at) (a .input .now))) ≡ true
@@ -38,34 +26,22 @@ returns c =
     let a = c .before .before .before .before .before .args in
     key-missing (a .input .now) (a .key .now) (a .at) (sym (c .before .begins .ensures) ∙ not-true _ (c .if1 .taken))
 
-add-from : tie.Need-add-from
-add-from c = search needs
-
-feed-from-requires : tie.Need-feed-from-requires
-feed-from-requires c κs = fits c
-
 returns-2 : tie.Need-returns-2
-returns-2 c =
-    let e = c .before .before in
-    let a = e .before .before .before .before .before .args in
-    feed-missing (a .input .now) (a .key .now) (a .at) (c .before .feed-from .result) (key-there e) (fits e) (c .before .feed-from .ensures) (c .if2 .taken)
+returns-2 c = feed-missing _ _ _ _ (key-there (c .before .before)) (fits (c .before .before)) (c .before .feed-from .ensures) (c .if2 .taken)
 
 returns-3 : tie.Need-returns-3
-returns-3 c =
-    let e = c .before .before in
-    let a = e .before .before .before .before .before .args in
-    line-there (a .input .now) (a .key .now) (a .at) (c .before .feed-from .result) (key-there e) (fits e) (c .before .feed-from .ensures) (c .if2 .left)
+returns-3 c = line-there _ _ _ _ (key-there (c .before .before)) (fits (c .before .before)) (c .before .feed-from .ensures) (c .if2 .left)
 
 pub bytes-line-spec : {M : Type 1} → statement M
 bytes-line-spec =
     tie.close
     (tie.spec
-    sub-begins
-    part-begins-start
-    part-begins-end
-    begins-requires
+    (search needs)
+    (search needs)
+    (search needs)
+    (search needs)
     returns
-    add-from
-    feed-from-requires
+    (search needs)
+    (λ c κs. fits c)
     returns-2
     returns-3)

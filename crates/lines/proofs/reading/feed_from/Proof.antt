@@ -13,37 +13,16 @@ Inv-loop input at i₀ i = Seeking input at i
 abbrev μ-loop : tie.MeasureT-loop
 μ-loop input at i₀ i = length input - i
 
-loop-holds : tie.Need-loop-holds Inv-loop μ-loop
-loop-holds c = seek _ _ (search needs)
-
-shared-slice-read-if1 : tie.Need-shared-slice-read-if1 Inv-loop μ-loop
-shared-slice-read-if1 c = search needs
-
-returns : tie.Need-returns Inv-loop μ-loop
-returns c = sought _ _ _ (search needs) (c .if1 .taken) (search needs)
-
-add-i : tie.Need-add-i Inv-loop μ-loop
-add-i c = search needs
-
-loop-less : tie.Need-loop-less Inv-loop μ-loop
-loop-less c = search needs
-
-loop-again : tie.Need-loop-again Inv-loop μ-loop
-loop-again c = seek-on _ _ _ (search needs) (c .if1 .left) (search needs)
-
-returns-2 : tie.Need-returns-2 Inv-loop μ-loop
-returns-2 c = not-there _ _ _ (c .loop-test .left) (search needs)
-
 pub feed-from-spec : {M : Type 1} → statement M
 feed-from-spec =
     tie.close
     (tie.spec
     Inv-loop
     μ-loop
-    loop-holds
-    shared-slice-read-if1
-    returns
-    add-i
-    loop-less
-    loop-again
-    returns-2)
+    (λ c. search (needs, seek))
+    (search needs)
+    (λ c. search (needs, sought))
+    (search needs)
+    (search needs)
+    (λ c. search (needs, seek-on))
+    (λ c. search (needs, not-there)))

@@ -1,14 +1,14 @@
 -- `grown_by` takes digit after digit: the invariant is Growing.
 -- Assumes nothing.
-use Prim.Native.Nat.{_-_}
 use mathlib.Core.Path.{sym, ap}
 use mathlib.Core.Logic.{⊎-elim}
+use Prim.Native.Nat.{_-_}
 use native.Mathlib.Omega.{arith}
 use lib.ListN.{length}
+use borrow.Author.Needs.{needs}
 use borrow.Author.Tests.{ltb-true, ltb-false}
 use Rattle.lines.specs.Says.{saidNumber}
-use borrow.Author.Needs.{needs}
-use Rattle.lines.proofs.Turns.{Growing, grown-none, too-low, too-high, too-large, grown-one, grown-all}
+use Rattle.lines.proofs.Turns.{Growing, grown-none, broken, grown-one, grown-all}
 use Rattle.lines.proofs.reading.grown_by.Statement.{statement}
 use Rattle.lines.proofs.reading.grown_by.Tie as tie
 
@@ -18,44 +18,12 @@ Inv-loop digits most value₀ i₀ value i = Growing most digits value i
 abbrev μ-loop : tie.MeasureT-loop
 μ-loop digits most value₀ i₀ value i = length digits - i
 
-loop-holds : tie.Need-loop-holds Inv-loop μ-loop
-loop-holds c = grown-none _ _
-
-shared-slice-read-b : tie.Need-shared-slice-read-b Inv-loop μ-loop
-shared-slice-read-b c = search needs
-
 returns : tie.Need-returns Inv-loop μ-loop
 returns c =
-    let now = c .before .before .before .loop in
-    let more = c .before .before .loop-test .taken in
-    ap saidNumber (sym (⊎-elim (λ w. too-low _ _ _ _ more (w .taken) (now .inv)) (λ w. too-high _ _ _ _ more (ltb-true 57 _ (w .1 .taken)) (now .inv)) (c .if1 .came)))
-
-cast-more : tie.Need-cast-more Inv-loop μ-loop
-cast-more c = search needs
-
-mul-more : tie.Need-mul-more Inv-loop μ-loop
-mul-more c = search needs
-
-cast-more-2 : tie.Need-cast-more-2 Inv-loop μ-loop
-cast-more-2 c = omega (arith, ltb-false)
-
-add-more : tie.Need-add-more Inv-loop μ-loop
-add-more c = omega (arith, ltb-false)
+    ap saidNumber (sym (broken _ _ _ _ (c .before .before .loop-test .taken) (λ f. ⊎-elim (λ w. omega arith) (λ w. omega (arith, ltb-true)) (c .if1 .came)) (c .before .before .before .loop .inv)))
 
 returns-2 : tie.Need-returns-2 Inv-loop μ-loop
-returns-2 c = ap saidNumber (sym (too-large _ _ _ _ (search needs) (c .if3 .taken) (c .before .before .before .before .before .loop .inv)))
-
-cast-value : tie.Need-cast-value Inv-loop μ-loop
-cast-value c = search needs
-
-add-i : tie.Need-add-i Inv-loop μ-loop
-add-i c = search needs
-
-loop-less : tie.Need-loop-less Inv-loop μ-loop
-loop-less c = search needs
-
-loop-again : tie.Need-loop-again Inv-loop μ-loop
-loop-again c = grown-one _ _ _ _ (search needs) (c .before .before .if1 .left) (ltb-false 57 _ (c .before .if2 .left)) (c .if3 .left) (c .before .before .before .before .before .loop .inv)
+returns-2 c = ap saidNumber (sym (broken _ _ _ _ (search needs) (λ f. omega arith) (c .before .before .before .before .before .loop .inv)))
 
 returns-3 : tie.Need-returns-3 Inv-loop μ-loop
 returns-3 c = ap saidNumber (sym (grown-all _ _ _ _ (c .loop-test .left) (c .before .loop .inv)))
@@ -66,16 +34,16 @@ grown-by-spec =
     (tie.spec
     Inv-loop
     μ-loop
-    loop-holds
-    shared-slice-read-b
+    (λ c. search (needs, grown-none))
+    (search needs)
     returns
-    cast-more
-    mul-more
-    cast-more-2
-    add-more
+    (search needs)
+    (search needs)
+    (λ c. omega (arith, ltb-false))
+    (λ c. omega (arith, ltb-false))
     returns-2
-    cast-value
-    add-i
-    loop-less
-    loop-again
+    (search needs)
+    (search needs)
+    (search needs)
+    (λ c. search (needs, grown-one, ltb-false))
     returns-3)

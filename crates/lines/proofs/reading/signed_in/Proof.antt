@@ -10,21 +10,6 @@ use Rattle.lines.proofs.Signs.{plain-none, plain-fits, plain-some, sign
 use Rattle.lines.proofs.reading.signed_in.Statement.{statement}
 use Rattle.lines.proofs.reading.signed_in.Tie as tie
 
-slice-aggregate-begins : tie.Need-slice-aggregate-begins
-slice-aggregate-begins c = search needs
-
-begins-requires : tie.Need-begins-requires
-begins-requires c κs = search needs
-
-decimal-in-requires : tie.Need-decimal-in-requires
-decimal-in-requires c κs = search needs
-
-enum-known-n : tie.Need-enum-known-n
-enum-known-n c = search needs
-
-enum-told : tie.Need-enum-told
-enum-told c = search needs
-
 plain : (c : tie.Then1) → begins (ascii "-") (c .before .before .before .before .args .digits .now) ≡ false
 plain c = sym (c .before .begins .ensures) ∙ not-true _ (c .if1 .taken)
 
@@ -40,24 +25,6 @@ cast-t11 c = plain-fits _ (plain (c .before .before .before .before)) _ (sym (c 
 returns-2 : tie.Need-returns-2
 returns-2 c = plain-some _ (plain (c .before .before .before .before)) _ (sym (c .before .before .before .decimal-in .ensures) ∙ c .before .n .given .1)
 
-sub-decimal-in : tie.Need-sub-decimal-in
-sub-decimal-in c = sign-there (c .before .before .before .before .args .digits .now) (minus c)
-
-part-decimal-in-start : tie.Need-part-decimal-in-start
-part-decimal-in-start c = sign-there (c .before .before .before .before .args .digits .now) (minus c)
-
-part-decimal-in-end : tie.Need-part-decimal-in-end
-part-decimal-in-end c = search needs
-
-decimal-in-requires-2 : tie.Need-decimal-in-requires-2
-decimal-in-requires-2 c κs = search needs
-
-enum-known-n-2 : tie.Need-enum-known-n-2
-enum-known-n-2 c = search needs
-
-enum-told-2 : tie.Need-enum-told-2
-enum-told-2 c = search needs
-
 returns-3 : tie.Need-returns-3
 returns-3 c = minus-none _ (minus (c .before .before .before .before)) (sym (c .before .before .decimal-in2 .ensures) ∙ c .enum-told2 .given .1)
 
@@ -65,9 +32,6 @@ returns-4 : tie.Need-returns-4
 returns-4 c =
     let e = c .before .before .before .before .before .before in
     minus-zero (e .before .before .before .before .args .digits .now) (minus e) (c .before .before .n2 .given .0 .0) (sym (c .before .before .before .before .decimal-in2 .ensures) ∙ c .before .before .n2 .given .1) (c .if2 .taken)
-
-sub-before : tie.Need-sub-before
-sub-before c = search needs
 
 cast-before : tie.Need-cast-before
 cast-before c =
@@ -88,23 +52,23 @@ pub signed-in-spec : {M : Type 1} → statement M
 signed-in-spec =
     tie.close
     (tie.spec
-    slice-aggregate-begins
-    begins-requires
-    decimal-in-requires
-    enum-known-n
-    enum-told
+    (search needs)
+    (search needs)
+    (search needs)
+    (search needs)
+    (search needs)
     returns
     cast-t11
     returns-2
-    sub-decimal-in
-    part-decimal-in-start
-    part-decimal-in-end
-    decimal-in-requires-2
-    enum-known-n-2
-    enum-told-2
+    (λ c. sign-there (c .before .before .before .before .args .digits .now) (minus c))
+    (λ c. sign-there (c .before .before .before .before .args .digits .now) (minus c))
+    (search needs)
+    (search needs)
+    (search needs)
+    (search needs)
     returns-3
     returns-4
-    sub-before
+    (search needs)
     cast-before
     sub-t18
     returns-5)

@@ -14,73 +14,40 @@ use Rattle.lines.proofs.Signs.{said-signed, said-no-signed}
 use Rattle.lines.proofs.reading.signed_line.Statement.{statement}
 use Rattle.lines.proofs.reading.signed_line.Tie as tie
 
-bytes-line-requires : tie.Need-bytes-line-requires
-bytes-line-requires c κs = search needs
-
-enum-known-from : tie.Need-enum-known-from
-enum-known-from c = search needs
-
-enum-told : tie.Need-enum-told
-enum-told c = search needs
-
 value-part : (c : tie.After-known-told) →
     let a = c .before .before .before .before .before .before .args in
     PartReached (a .input .now) (a .at + length (a .key .now)) (bytesLine (a .key .now) (drop (a .at) (a .input .now))) (c .before .from .given .0 .0) (c .before .from .given .0 .1 .0)
 value-part c = rw (c .before .from .given .1) at (c .before .before .before .bytes-line .ensures)
 
 returns : tie.Need-returns
-returns c =
-    let a = c .before .before .before .before .before .args in
-    value-missing signedIn (a .key .now) _ (rw (c .enum-told .given .1) at (c .before .before .bytes-line .ensures))
-
-sub-signed-in : tie.Need-sub-signed-in
-sub-signed-in c = value-part c .forward
-
-part-signed-in-start : tie.Need-part-signed-in-start
-part-signed-in-start c = value-part c .forward
-
-part-signed-in-end : tie.Need-part-signed-in-end
-part-signed-in-end c = omega (arith, value-part c .reached .within)
-
-signed-in-requires : tie.Need-signed-in-requires
-signed-in-requires c κs = search needs
-
-enum-known-n : tie.Need-enum-known-n
-enum-known-n c = search needs
-
-enum-told-2 : tie.Need-enum-told-2
-enum-told-2 c = search needs
+returns c = value-missing signedIn _ _ (rw (c .enum-told .given .1) at (c .before .before .bytes-line .ensures))
 
 returns-2 : tie.Need-returns-2
 returns-2 c =
-    let a = c .before .before .before .before .before .before .before .before .before .before .args in
-    let e = c .before .before .before .before in
-    value-broken signedIn (a .key .now) _ (a .input .now) _ _ _ (value-part e) (said-no-signed _ (sym (c .before .before .signed-in .ensures) ∙ c .enum-told2 .given .1))
+    value-broken signedIn _ _ _ _ _ _ (value-part (c .before .before .before .before)) (said-no-signed _ (sym (c .before .before .signed-in .ensures) ∙ c .enum-told2 .given .1))
 
 add-t10 : tie.Need-add-t10
 add-t10 c = let e = c .before .before .before .before .before in omega (arith, value-part e .reached .within, e .before .before .before .before .before .before .good .0)
 
 returns-3 : tie.Need-returns-3
 returns-3 c =
-    let a = c .before .before .before .before .before .before .before .before .before .before .before .args in
-    let e = c .before .before .before .before .before in
     rw (toZ-ofZ {w = w32} {z = c .before .n .given .0 .0} (search needs))
-    (value-there signedIn (a .key .now) _ (a .input .now) _ _ _ (value-part e) _ (said-signed _ _ (sym (c .before .before .before .signed-in .ensures) ∙ c .before .n .given .1)))
+    (value-there signedIn _ _ _ _ _ _ (value-part (c .before .before .before .before .before)) _ (said-signed _ _ (sym (c .before .before .before .signed-in .ensures) ∙ c .before .n .given .1)))
 
 pub signed-line-spec : {M : Type 1} → statement M
 signed-line-spec =
     tie.close
     (tie.spec
-    bytes-line-requires
-    enum-known-from
-    enum-told
+    (search needs)
+    (search needs)
+    (search needs)
     returns
-    sub-signed-in
-    part-signed-in-start
-    part-signed-in-end
-    signed-in-requires
-    enum-known-n
-    enum-told-2
+    (λ c. value-part c .forward)
+    (λ c. value-part c .forward)
+    (λ c. omega (arith, value-part c .reached .within))
+    (search needs)
+    (search needs)
+    (search needs)
     returns-2
     add-t10
     returns-3)

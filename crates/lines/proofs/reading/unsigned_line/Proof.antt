@@ -12,72 +12,39 @@ use Rattle.lines.proofs.Signs.{said-number, said-no-number}
 use Rattle.lines.proofs.reading.unsigned_line.Statement.{statement}
 use Rattle.lines.proofs.reading.unsigned_line.Tie as tie
 
-bytes-line-requires : tie.Need-bytes-line-requires
-bytes-line-requires c κs = search needs
-
-enum-known-from : tie.Need-enum-known-from
-enum-known-from c = search needs
-
-enum-told : tie.Need-enum-told
-enum-told c = search needs
-
 value-part : (c : tie.After-known-told) →
     let a = c .before .before .before .before .before .before .args in
     PartReached (a .input .now) (a .at + length (a .key .now)) (bytesLine (a .key .now) (drop (a .at) (a .input .now))) (c .before .from .given .0 .0) (c .before .from .given .0 .1 .0)
 value-part c = rw (c .before .from .given .1) at (c .before .before .before .bytes-line .ensures)
 
 returns : tie.Need-returns
-returns c =
-    let a = c .before .before .before .before .before .args in
-    value-missing (decimalIn (a .most)) (a .key .now) _ (rw (c .enum-told .given .1) at (c .before .before .bytes-line .ensures))
-
-sub-decimal-in : tie.Need-sub-decimal-in
-sub-decimal-in c = value-part c .forward
-
-part-decimal-in-start : tie.Need-part-decimal-in-start
-part-decimal-in-start c = value-part c .forward
-
-part-decimal-in-end : tie.Need-part-decimal-in-end
-part-decimal-in-end c = omega (arith, value-part c .reached .within)
-
-decimal-in-requires : tie.Need-decimal-in-requires
-decimal-in-requires c κs = search needs
-
-enum-known-n : tie.Need-enum-known-n
-enum-known-n c = search needs
-
-enum-told-2 : tie.Need-enum-told-2
-enum-told-2 c = search needs
+returns c = value-missing (decimalIn _) _ _ (rw (c .enum-told .given .1) at (c .before .before .bytes-line .ensures))
 
 returns-2 : tie.Need-returns-2
 returns-2 c =
-    let a = c .before .before .before .before .before .before .before .before .before .before .args in
-    let e = c .before .before .before .before in
-    value-broken (decimalIn (a .most)) (a .key .now) _ (a .input .now) _ _ _ (value-part e) (said-no-number _ (sym (c .before .before .decimal-in .ensures) ∙ c .enum-told2 .given .1))
+    value-broken (decimalIn _) _ _ _ _ _ _ (value-part (c .before .before .before .before)) (said-no-number _ (sym (c .before .before .decimal-in .ensures) ∙ c .enum-told2 .given .1))
 
 add-t11 : tie.Need-add-t11
 add-t11 c = let e = c .before .before .before .before .before in omega (arith, value-part e .reached .within, e .before .before .before .before .before .before .good .0)
 
 returns-3 : tie.Need-returns-3
 returns-3 c =
-    let a = c .before .before .before .before .before .before .before .before .before .before .before .args in
-    let e = c .before .before .before .before .before in
-    value-there (decimalIn (a .most)) (a .key .now) _ (a .input .now) _ _ _ (value-part e) _ (said-number _ _ (sym (c .before .before .before .decimal-in .ensures) ∙ c .before .n .given .1))
+    value-there (decimalIn _) _ _ _ _ _ _ (value-part (c .before .before .before .before .before)) _ (said-number _ _ (sym (c .before .before .before .decimal-in .ensures) ∙ c .before .n .given .1))
 
 pub unsigned-line-spec : {M : Type 1} → statement M
 unsigned-line-spec =
     tie.close
     (tie.spec
-    bytes-line-requires
-    enum-known-from
-    enum-told
+    (search needs)
+    (search needs)
+    (search needs)
     returns
-    sub-decimal-in
-    part-decimal-in-start
-    part-decimal-in-end
-    decimal-in-requires
-    enum-known-n
-    enum-told-2
+    (λ c. value-part c .forward)
+    (λ c. value-part c .forward)
+    (λ c. omega (arith, value-part c .reached .within))
+    (search needs)
+    (search needs)
+    (search needs)
     returns-2
     add-t11
     returns-3)

@@ -7,19 +7,8 @@ use Rattle.grid.proofs.Listed.{from-low, from-high, some-high}
 use Rattle.grid.proofs.cells.Cells.but_least.Statement.{statement}
 use Rattle.grid.proofs.cells.Cells.but_least.Tie as tie
 
-sub-t5 : tie.Need-sub-t5
-sub-t5 c = search needs
-
 returns : tie.Need-returns
 returns c = sym (ap (drop 1) (from-low (c .before .args .self) (search needs) (search needs)))
 
-sub-t7 : tie.Need-sub-t7
-sub-t7 c = some-high (c .before .args .self) (c .if1 .left) (search needs) (c .before .pre)
-
-returns-2 : tie.Need-returns-2
-returns-2 c =
-    let s = c .before .args .self in
-    sym (ap (drop 1) (from-high s (c .if1 .left) (some-high s (c .if1 .left) (search needs) (c .before .pre)) (search needs)))
-
 pub but-least-spec : {M : Type 1} → statement M
-but-least-spec = tie.close (tie.spec sub-t5 returns sub-t7 returns-2)
+but-least-spec = tie.close (tie.spec (search needs) returns (λ c. search (needs, some-high)) (λ c. search (needs, from-high, some-high)))

@@ -12,8 +12,5 @@ add-result c =
     let s = c .before .before .args .self in
     omega (arith, ones-le 32 (s .low) (search needs), ones-le 32 (s .high) (search needs))
 
-returns : tie.Need-returns
-returns c = counted (c .before .before .args .self) (search needs) (search needs)
-
 pub count-spec : {M : Type 1} → statement M
-count-spec = tie.close (tie.spec add-result returns)
+count-spec = tie.close (tie.spec add-result (λ c. search (needs, counted)))

@@ -10,8 +10,5 @@ use Rattle.grid.proofs.cells.Cells.is_empty.Tie as tie
 returns : tie.Need-returns
 returns c = sym (ap isEmpty (from-low (c .before .before .args .self) (search needs) (search needs)))
 
-returns-2 : tie.Need-returns-2
-returns-2 c = empty-by (c .before .before .before .args .self) (c .before .if1 .left) (search needs)
-
 pub is-empty-spec : {M : Type 1} → statement M
-is-empty-spec = tie.close (tie.spec returns returns-2)
+is-empty-spec = tie.close (tie.spec returns (λ c. search (needs, empty-by)))

@@ -15,10 +15,5 @@ returns c = sym (ap firstOf (from-low (c .before .args .self) (search needs) (se
 add-result : tie.Need-add-result
 add-result c = omega (arith, trailing-le 32 (c .before .before .args .self .high))
 
-returns-2 : tie.Need-returns-2
-returns-2 c =
-    let s = c .before .before .args .self in
-    sym (ap firstOf (from-high s (c .before .if1 .left) (some-high s (c .before .if1 .left) (search needs) (c .before .before .pre)) (search needs)))
-
 pub least-spec : {M : Type 1} → statement M
-least-spec = tie.close (tie.spec returns add-result returns-2)
+least-spec = tie.close (tie.spec returns add-result (λ c. search (needs, from-high, some-high)))

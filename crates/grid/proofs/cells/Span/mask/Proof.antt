@@ -15,12 +15,6 @@ returns c =
     let span = c .before .args .self in
     sym (word-between (span .first) (span .past) 8 (c .before .pre) ∙ omega (arith, pow-mono {i = span .past} {j = span .first} (c .if1 .taken)))
 
-shl-result : tie.Need-shl-result
-shl-result c = search needs
-
-shl-result-2 : tie.Need-shl-result-2
-shl-result-2 c = search needs
-
 sub-result : tie.Need-sub-result
 sub-result c =
     let span = c .before .args .self in
@@ -33,4 +27,4 @@ returns-2 c =
     rw (one-shifted 32 (span .past) (omega arith), one-shifted 32 (span .first) (omega arith)) (sym (word-between (span .first) (span .past) 8 (c .before .pre)))
 
 pub mask-spec : {M : Type 1} → statement M
-mask-spec = tie.close (tie.spec returns shl-result shl-result-2 sub-result returns-2)
+mask-spec = tie.close (tie.spec returns (search needs) (search needs) sub-result returns-2)
