@@ -2,7 +2,7 @@
 -- Assumes nothing.
 use mathlib.Core.Path.{_≡_, refl, sym, ap, _∙_}
 use mathlib.Core.Logic.{⊎-elim}
-use mathlib.Core.List.{List, [], _∷_, _++_}
+use mathlib.Core.List.{List, [], _∷_}
 use Prim.Native.Nat.{ℕ, suc, _+_, _-_, _*_, _≤_, _<_}
 use native.Mathlib.Omega.{arith}
 use lib.ListN.{length, length-append, drop-of-length-le, List·getD-eq-default}
@@ -12,6 +12,7 @@ use Rattle.rules.specs.Places.{regions}
 use Rattle.base.proofs.Tests.{le-or-lt}
 use Rattle.base.proofs.Members.{length-each, length-keep, each-same}
 use Rattle.base.proofs.Runs.{length-from}
+use Rattle.base.proofs.Rows.{length-parts}
 use Rattle.base.proofs.Words.{ones-word}
 use Rattle.node.specs.declared.cursor.Cursor.{Cursor}
 use Rattle.node.specs.Columns.{IndexColumns, LawfulColumns, Grows, at, endOf, span, growth, grownOf, heldAmong, regionsAmong, bitsAmong}
@@ -22,16 +23,12 @@ use Rattle.node.proofs.Placing.{regions-are}
 use Rattle.node.proofs.Gathering.{entries-held}
 use Rattle.node.proofs.Steps.{visits-first, visits-done}
 use Rattle.words.specs.Words.{entryRows, rowsFrom, entryWordsFrom, countFrom, nodeCountOf, visitOf, Work, Scratch, Standing, Moved}
-use Rattle.words.proofs.Overs.{length-rows}
+use Rattle.words.proofs.Overs.{Next, length-rows}
 
 abbrev pub restOf : List ℕ → List ℕ → Cursor → List Visit
 restOf lengths shared c = visitsFrom lengths shared (c .stand .0) (c .length)
 
 -- ---- how many nodes
-
-length-eachList : {A B : Type 0} (f : A → List B) (l : List A) → length (eachList f l) ≡ total (each (λ x. length (f x)) l)
-length-eachList f [] = refl
-length-eachList f (x ∷ l) = length-append (f x) (eachList f l) ∙ ap (λ (k : ℕ). length (f x) + k) (length-eachList f l)
 
 module _ (lengths shared : List ℕ) (g : Grows lengths shared) where
   new-count : (k : ℕ) → length (newVisits lengths shared k) ≡ growth lengths shared k
@@ -49,7 +46,7 @@ module _ (lengths shared : List ℕ) (g : Grows lengths shared) where
 
       rest : length (eachList (newVisits lengths shared) (fromOn 1 (length lengths - 1))) ≡ total (each (growth lengths shared) (fromOn 1 (length lengths - 1)))
       rest =
-          length-eachList (newVisits lengths shared) (fromOn 1 (length lengths - 1))
+          length-parts (newVisits lengths shared) (fromOn 1 (length lengths - 1))
           ∙ ap total (each-same (λ k. length (newVisits lengths shared k)) (growth lengths shared) (fromOn 1 (length lengths - 1)) (λ x k. new-count x))
 
       some : 0 < length lengths
@@ -159,6 +156,10 @@ module _ {lengths shared region : List ℕ} {all : ℕ} where
     pub counting-end : all ≤ c .number .0 → c .entries ≡ countFrom shared region (visitsFrom lengths shared 0 0)
     counting-end h = omega (arith, s .so-far, ap (countFrom shared region) (going-end (s .way) h))
 
+pub length-row : (t : IndexColumns) (j n : ℕ) (v : Visit) → length (rowOf t j n v) ≡ 8
+unfolding rowAt
+length-row t j n v = refl
+
 -- ---- with what is lent beside the cursor
 
 pub record Carrying (t : IndexColumns) (all : ℕ) (c : Cursor) (w : Work) : Type 0 where
@@ -176,6 +177,15 @@ module _ {t : IndexColumns} {all : ℕ} {c : Cursor} {w : Work} where
     pub standing : Standing t c w
     standing = record { on = s .way .on lt; low = omega (arith, s .way .few); few = s .way .low; next-is = s .next-is; ways = s .ways lt; scratch = s .scratch }
 
+    -- the node's words are the first of those that are left
+    pub rows-first : Next (rowsFrom t (c .number .0) (c .entries) (restOf (t .lengths) (t .shared) c)) (rowOf t (c .number .0) (c .entries) (visitOf c))
+        (rowsFrom t (suc (c .number .0)) (c .entries + length (entriesAt t (visitOf c))) (visitsFrom (t .lengths) (t .shared) (c .stand .0) (suc (c .length))))
+    rows-first = record { is = ap (rowsFrom t (c .number .0) (c .entries)) (going-first (s .way) lt) }
+
+    pub entries-first : Next (entryWordsFrom t (restOf (t .lengths) (t .shared) c)) (entryRows (entriesAt t (visitOf c)))
+        (entryWordsFrom t (visitsFrom (t .lengths) (t .shared) (c .stand .0) (suc (c .length))))
+    entries-first = record { is = ap (entryWordsFrom t) (going-first (s .way) lt) }
+
     entries-few : length (entriesAt t (visitOf c)) ≤ 64
     entries-few = omega (arith, entries-held-at t (visitOf c), held-few (t .region) (standsAt (t .shared) (visitOf c)))
 
@@ -183,18 +193,19 @@ module _ {t : IndexColumns} {all : ℕ} {c : Cursor} {w : Work} where
       pub carrying-more : Carrying t all r w′
       carrying-more = record { way = going-more (s .way) lt (m .stepped) entries-few; next-is = m .next-is; ways = λ h. m .ways (inside (s .way) lt (m .stepped) h); scratch = m .scratch }
 
-      -- the node's words, and those of the nodes after it
-      pub rows-next : rowsFrom t (c .number .0) (c .entries) (restOf (t .lengths) (t .shared) c) ≡ rowOf t (c .number .0) (c .entries) (visitOf c) ++ rowsFrom t (r .number .0) (r .entries) (restOf (t .lengths) (t .shared) r)
-      rows-next =
-          ap (rowsFrom t (c .number .0) (c .entries)) (going-rest (s .way) lt (m .stepped))
-          ∙ rw (← m .stepped .number, ← m .stepped .entries)
+      -- and behind them those of the nodes from r on
+      pub rows-next : Next (rowsFrom t (c .number .0) (c .entries) (restOf (t .lengths) (t .shared) c)) (rowOf t (c .number .0) (c .entries) (visitOf c))
+          (rowsFrom t (r .number .0) (r .entries) (restOf (t .lengths) (t .shared) r))
+      rows-next = record { is = rw (m .stepped .visits, m .stepped .number, m .stepped .entries) (rows-first .is) }
 
-      pub entries-next : entryWordsFrom t (restOf (t .lengths) (t .shared) c) ≡ entryRows (entriesAt t (visitOf c)) ++ entryWordsFrom t (restOf (t .lengths) (t .shared) r)
-      entries-next = ap (entryWordsFrom t) (going-rest (s .way) lt (m .stepped))
+      pub entries-next : Next (entryWordsFrom t (restOf (t .lengths) (t .shared) c)) (entryRows (entriesAt t (visitOf c))) (entryWordsFrom t (restOf (t .lengths) (t .shared) r))
+      entries-next = record { is = rw (m .stepped .visits) (entries-first .is) }
 
-pub length-row : (t : IndexColumns) (j n : ℕ) (v : Visit) → length (rowOf t j n v) ≡ 8
-unfolding rowAt
-length-row t j n v = refl
+      pub rows-place : r .number .0 * 8 ≡ c .number .0 * 8 + length (rowOf t (c .number .0) (c .entries) (visitOf c))
+      rows-place = omega (arith, m .stepped .number, length-row t (c .number .0) (c .entries) (visitOf c))
+
+      pub entries-place : r .entries * 4 ≡ c .entries * 4 + length (entryRows (entriesAt t (visitOf c)))
+      entries-place = omega (arith, m .stepped .entries, length-rows (entriesAt t (visitOf c)))
 
 pub entries-length : (t : IndexColumns) (vs : List Visit) → length (entryWordsFrom t vs) ≡ countFrom (t .shared) (t .region) vs * 4
 entries-length t [] = refl

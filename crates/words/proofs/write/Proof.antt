@@ -6,7 +6,7 @@ use Prim.Native.Nat.{_-_}
 use Rattle.node.specs.Columns.{indexColumns}
 use Rattle.words.specs.Words.{workOf}
 use Rattle.words.proofs.Walks.{carrying, standing}
-use Rattle.words.proofs.Writes.{Writing, writing, writing-nodes, writing-entries, writing-room, writing-more, writing-end}
+use Rattle.words.proofs.Writes.{Writing, writing, writing-room, writing-more, writing-end}
 use Rattle.words.proofs.write.Statement.{statement}
 use Rattle.words.proofs.write.Tie as tie
 
@@ -26,14 +26,14 @@ root-requires c κs = search needs
 loop-holds : tie.Need-loop-holds Inv-loop μ-loop
 loop-holds c =
     let p = c .before .before .before .before .before .before .before .before .before .before .pre in
-    writing (c .root .ensures) (carrying (p .lawful) (c .root .ensures) (p .count) (c .before .places-of .ensures) (record { path-size = refl; places-size = refl; best-size = refl; ranked-size = refl }))
+    writing (c .root .ensures) p (carrying (p .lawful) (c .root .ensures) (p .count) (c .before .places-of .ensures) (record { path-size = refl; places-size = refl; best-size = refl; ranked-size = refl }))
 
 write-node-requires : tie.Need-write-node-requires Inv-loop μ-loop
 write-node-requires c κs =
     let p = c .before .before .before .before .before .before .before .before .before .before .before .before .before .before .before .before .before .before .before .before .pre in
     let s = c .before .before .before .before .before .before .before .before .before .loop .inv in
     let lt = c .before .before .before .before .before .before .before .if1 .taken in
-    record { turn = record { lawful = p .lawful; standing = standing (s .carried) lt }; room = writing-room s lt p }
+    record { turn = record { lawful = p .lawful; standing = standing (s .carried) lt }; room = writing-room s lt }
 
 loop-less : tie.Need-loop-less Inv-loop μ-loop
 loop-less c = omega (arith, c .before .before .before .before .write-node .ensures .moved .stepped .number, c .before .before .before .before .before .before .before .before .before .before .before .before .if1 .taken)
@@ -42,10 +42,10 @@ loop-again : tie.Need-loop-again Inv-loop μ-loop
 loop-again c = writing-more (c .before .before .before .before .before .before .before .before .before .before .before .before .before .before .loop .inv) (c .before .before .before .before .before .before .before .before .before .before .before .before .if1 .taken) (c .before .before .before .before .write-node .ensures)
 
 same-length : tie.Need-same-length Inv-loop μ-loop
-same-length c = let p = c .before .before .before .before .before .before .before .before .before .before .before .before .before .pre in writing-nodes (c .before .before .loop .inv) (p .row-room)
+same-length c = c .before .before .loop .inv .rows .size
 
 same-length-2 : tie.Need-same-length-2 Inv-loop μ-loop
-same-length-2 c = let p = c .before .before .before .before .before .before .before .before .before .before .before .before .before .pre in writing-entries (c .before .before .loop .inv) (p .entry-room)
+same-length-2 c = c .before .before .loop .inv .own .size
 
 returns : tie.Need-returns Inv-loop μ-loop
 returns c = writing-end (c .before .before .loop .inv) (c .if1 .left)
