@@ -2,12 +2,12 @@
 -- Assumes nothing.
 use mathlib.Core.Path.{_≡_, refl, sym, ap, _∙_}
 use mathlib.Core.Logic.{⊎-elim}
-use mathlib.Core.List.{List, [], _∷_}
+use mathlib.Core.List.{List, [], _∷_, _++_}
 use Prim.Native.Nat.{ℕ, suc, _+_, _-_, _*_, _≤_, _<_}
 use native.Mathlib.Omega.{arith}
-use lib.ListN.{length, length-append, drop-of-length-le, List·getD-eq-default}
+use lib.ListN.{length, length-append, drop-of-length-le}
 use lib.Count.{ones}
-use Rattle.base.specs.Lists.{fromOn, upTo, each, eachList, total}
+use Rattle.base.specs.Lists.{fromOn, upTo, eachList}
 use Rattle.rules.specs.Places.{regions}
 use Rattle.base.proofs.Tests.{le-or-lt}
 use Rattle.base.proofs.Members.{length-each, length-keep, each-same}
@@ -28,43 +28,33 @@ use Rattle.words.proofs.Overs.{Next, length-rows}
 abbrev pub restOf : List ℕ → List ℕ → Cursor → List Visit
 restOf lengths shared c = visitsFrom lengths shared (c .stand .0) (c .length)
 
--- ---- how many nodes
+-- ---- which nodes, and how many
 
 module _ (lengths shared : List ℕ) (g : Grows lengths shared) where
+  -- the root, and of each stand those that the one before has not
+  pub visits-all : visitsFrom lengths shared 0 0 ≡ record { stand = 0; length = 0 } ∷ eachList (newVisits lengths shared) (upTo (length lengths))
+  unfolding visitsFrom
+  visits-all = visits-first lengths shared 0 0 (omega arith) ∙ ap (λ (l : List Visit). record { stand = 0; length = 0 } ∷ l) (⊎-elim none some (le-or-lt (length lengths) 0))
+    where
+      none : length lengths ≤ 0 → visitsFrom lengths shared 0 1 ≡ eachList (newVisits lengths shared) (upTo (length lengths))
+      none h = let n : length lengths ≡ 0 = omega arith in visits-done lengths shared 0 1 h (omega arith) ∙ rw n
+
+      some : 0 < length lengths → visitsFrom lengths shared 0 1 ≡ eachList (newVisits lengths shared) (upTo (length lengths))
+      some h =
+          let f = newVisits lengths shared in
+          let n : suc (length lengths - 1) ≡ length lengths = omega arith in
+          ap (λ (k : ℕ). visitsAt lengths 0 (suc k) ++ eachList f (fromOn 1 (length lengths - 1))) (sym (g .first)) ∙ ap (λ (m : ℕ). eachList f (upTo m)) n
+
   new-count : (k : ℕ) → length (newVisits lengths shared k) ≡ growth lengths shared k
   new-count k =
       length-each _ (fromOn (suc (at shared k)) (suc (at lengths k) - suc (at shared k))) ∙ length-from (suc (at shared k)) (suc (at lengths k) - suc (at shared k)) ∙ omega arith
 
   pub node-count : length (visitsFrom lengths shared 0 0) ≡ grownOf lengths shared 0 (length lengths) + 1
-  unfolding visitsFrom grownOf
+  unfolding grownOf
   node-count =
-      length-append (visitsAt lengths 0 0) (eachList (newVisits lengths shared) (fromOn 1 (length lengths - 1)))
-      ∙ ⊎-elim none some (le-or-lt (length lengths) 0)
-    where
-      first : length (visitsAt lengths 0 0) ≡ suc (at lengths 0)
-      first = length-each _ (fromOn 0 (suc (at lengths 0) - 0)) ∙ length-from 0 (suc (at lengths 0) - 0) ∙ omega arith
-
-      rest : length (eachList (newVisits lengths shared) (fromOn 1 (length lengths - 1))) ≡ total (each (growth lengths shared) (fromOn 1 (length lengths - 1)))
-      rest =
-          length-parts (newVisits lengths shared) (fromOn 1 (length lengths - 1))
-          ∙ ap total (each-same (λ k. length (newVisits lengths shared k)) (growth lengths shared) (fromOn 1 (length lengths - 1)) (λ x k. new-count x))
-
-      some : 0 < length lengths
-          → length (visitsAt lengths 0 0) + length (eachList (newVisits lengths shared) (fromOn 1 (length lengths - 1))) ≡ total (each (growth lengths shared) (span 0 (length lengths))) + 1
-      some h =
-          let n : length lengths - 0 ≡ suc (length lengths - 1) = omega arith in
-          let s : total (each (growth lengths shared) (span 0 (length lengths))) ≡ growth lengths shared 0 + total (each (growth lengths shared) (fromOn 1 (length lengths - 1))) = rw n in
-          omega (arith, first, rest, s, g .first)
-
-      none : length lengths ≤ 0
-          → length (visitsAt lengths 0 0) + length (eachList (newVisits lengths shared) (fromOn 1 (length lengths - 1))) ≡ total (each (growth lengths shared) (span 0 (length lengths))) + 1
-      none h =
-          let n : length lengths - 0 ≡ 0 = omega arith in
-          let m : length lengths - 1 ≡ 0 = omega arith in
-          let s : total (each (growth lengths shared) (span 0 (length lengths))) ≡ 0 = rw n in
-          let u : total (each (growth lengths shared) (fromOn 1 (length lengths - 1))) ≡ 0 = rw m in
-          let y : at lengths 0 ≡ 0 = List·getD-eq-default lengths 0 h in
-          omega (arith, first, rest, s, u, y)
+      let z : length lengths - 0 ≡ length lengths = omega arith in
+      let new = newVisits lengths shared in
+      rw (visits-all, z, length-parts new (upTo (length lengths)), each-same (λ k. length (new k)) (growth lengths shared) (upTo (length lengths)) (λ k u. new-count k)) (omega arith)
 
   -- 24 for each stand, and the root
   pub nodes-few : length (visitsFrom lengths shared 0 0) ≤ 24577
