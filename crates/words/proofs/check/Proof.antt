@@ -18,7 +18,7 @@ abbrev μ-loop : tie.MeasureT-loop
 μ-loop text starts lengths shared region score all nodes entries next₀ path₀ places₀ best₀ ranked₀ here₀ next path places best ranked here = all - here .number .0
 
 places-of-requires : tie.Need-places-of-requires Inv-loop μ-loop
-places-of-requires c κs = c .before .before .before .before .before .before .before .before .pre .lawful .placed
+places-of-requires c κs = search needs
 
 root-requires : tie.Need-root-requires Inv-loop μ-loop
 root-requires c κs = search needs

@@ -24,9 +24,7 @@ end-of-requires : tie.Need-end-of-requires Inv-loop μ-loop
 end-of-requires c κs = omega (arith, c .before .before .loop .inv .way .on (c .if1 .taken) .within, c .before .before .before .before .before .before .before .pre .grows .same)
 
 regions-of-requires : tie.Need-regions-of-requires Inv-loop μ-loop
-regions-of-requires c κs =
-    let p = c .before .before .before .before .before .before .before .before .pre in
-    (p .placed, (c .end-of .ensures .after, omega (arith, c .end-of .ensures .within, p .grows .same, p .same)))
+regions-of-requires c κs = search needs
 
 step-requires : tie.Need-step-requires Inv-loop μ-loop
 step-requires c κs =
@@ -40,7 +38,7 @@ step-requires c κs =
     }
 
 loop-less : tie.Need-loop-less Inv-loop μ-loop
-loop-less c = omega (arith, c .step .ensures .number, c .before .before .before .if1 .taken)
+loop-less c = search needs
 
 loop-again : tie.Need-loop-again Inv-loop μ-loop
 loop-again c = counting-more (c .before .before .before .before .before .loop .inv) (c .before .before .before .if1 .taken) (c .before .before .end-of .ensures .end) (ap ones (c .before .regions-of .ensures)) (c .step .ensures)

@@ -1,6 +1,5 @@
 -- `words::write` meets its contract: the loop's invariant is `Writing`, whose laws are of proofs/Writes.antt. Assumes nothing.
 use borrow.Author.Needs.{needs}
-use native.Mathlib.Omega.{arith}
 use mathlib.Core.Path.{refl}
 use Prim.Native.Nat.{_-_}
 use Rattle.node.specs.Columns.{indexColumns}
@@ -18,7 +17,7 @@ abbrev μ-loop : tie.MeasureT-loop
 μ-loop text starts lengths shared region score all nodes₀ entries₀ next₀ path₀ places₀ best₀ ranked₀ cursor₀ nodes entries next path places best ranked cursor = all - cursor .number .0
 
 places-of-requires : tie.Need-places-of-requires Inv-loop μ-loop
-places-of-requires c κs = c .before .before .before .before .before .before .before .before .pre .lawful .placed
+places-of-requires c κs = search needs
 
 root-requires : tie.Need-root-requires Inv-loop μ-loop
 root-requires c κs = search needs
@@ -36,16 +35,16 @@ write-node-requires c κs =
     record { turn = record { lawful = p .lawful; standing = standing (s .carried) lt }; room = writing-room s lt }
 
 loop-less : tie.Need-loop-less Inv-loop μ-loop
-loop-less c = omega (arith, c .before .before .before .before .write-node .ensures .moved .stepped .number, c .before .before .before .before .before .before .before .before .before .before .before .before .if1 .taken)
+loop-less c = search needs
 
 loop-again : tie.Need-loop-again Inv-loop μ-loop
 loop-again c = writing-more (c .before .before .before .before .before .before .before .before .before .before .before .before .before .before .loop .inv) (c .before .before .before .before .before .before .before .before .before .before .before .before .if1 .taken) (c .before .before .before .before .write-node .ensures)
 
 same-length : tie.Need-same-length Inv-loop μ-loop
-same-length c = c .before .before .loop .inv .rows .size
+same-length c = search needs
 
 same-length-2 : tie.Need-same-length-2 Inv-loop μ-loop
-same-length-2 c = c .before .before .loop .inv .own .size
+same-length-2 c = search needs
 
 returns : tie.Need-returns Inv-loop μ-loop
 returns c = writing-end (c .before .before .loop .inv) (c .if1 .left)

@@ -41,7 +41,7 @@ slice-aggregate-has-words : tie.Need-slice-aggregate-has-words Inv-loop μ-loop
 slice-aggregate-has-words c = search needs
 
 has-words-requires : tie.Need-has-words-requires Inv-loop μ-loop
-has-words-requires c κs = (omega arith, omega (arith, ap length (c .before .entry-row .ensures)))
+has-words-requires c κs = search needs
 
 returns : tie.Need-returns Inv-loop μ-loop
 returns c =

@@ -39,7 +39,7 @@ slice-aggregate-put-words : tie.Need-slice-aggregate-put-words Inv-loop μ-loop
 slice-aggregate-put-words c = search needs
 
 put-words-requires : tie.Need-put-words-requires Inv-loop μ-loop
-put-words-requires c κs = omega (arith, ap length (c .before .before .entry-row .ensures), c .before .before .before .before .before .loop .inv .size)
+put-words-requires c κs = search needs
 
 add-rank : tie.Need-add-rank Inv-loop μ-loop
 add-rank c = search needs
@@ -55,7 +55,7 @@ loop-again c =
     (c .before .before .put-words .ensures) (omega (arith, ap length row))
 
 same-length : tie.Need-same-length Inv-loop μ-loop
-same-length c = c .before .loop .inv .size
+same-length c = search needs
 
 returns : tie.Need-returns Inv-loop μ-loop
 returns c = let p = c .before .before .before .pre .0 in filled-end (c .before .loop .inv) (slots-past _ _ _ _ _ (p .size) (p .few) _ (c .loop-test .left))

@@ -20,7 +20,7 @@ cast-has-words : tie.Need-cast-has-words
 cast-has-words c = search needs
 
 mul-has-words : tie.Need-mul-has-words
-mul-has-words c = omega (arith, start (c .before .before .before) .pre .standing .low)
+mul-has-words c = search needs
 
 slice-aggregate-has-words : tie.Need-slice-aggregate-has-words
 slice-aggregate-has-words c = search needs
@@ -43,7 +43,7 @@ cast-has-entries : tie.Need-cast-has-entries
 cast-has-entries c = search needs
 
 mul-has-entries : tie.Need-mul-has-entries
-mul-has-entries c = let p = start (c .before .before .before .before .before .before .before) .pre in omega (arith, p .standing .low, p .standing .few)
+mul-has-entries c = search needs
 
 has-entries-requires : tie.Need-has-entries-requires
 has-entries-requires c κs =
