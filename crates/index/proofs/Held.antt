@@ -1,15 +1,16 @@
 -- What the regions under a node hold, its words of bits and its entries: by the columns they are the definitions'.
 -- Assumes nothing.
-use mathlib.Core.Path.{_≡_, refl, sym, ap, _∙_}
-use mathlib.Core.Bool.{true, not, false≢true}
-use mathlib.Core.List.{List, [], _∷_}
+use mathlib.Core.Path.{_≡_, sym, ap, _∙_}
+use mathlib.Core.Bool.{true, not}
+use mathlib.Core.List.{List, _∷_}
 use Prim.Native.Nat.{ℕ, _+_, _-_, _≤_, _<_}
 use native.Mathlib.Omega.{arith}
 use lib.Dec.{eqb}
+use borrow.Author.Tests.{not-true}
 use lib.ListN.{length, length-append}
 use Rattle.base.specs.Lists.{upTo, keep, each, eachList, firstOf, isEmpty, sortBy, positionIn, In}
 use Rattle.base.specs.Bits.{wordOf}
-use Rattle.base.proofs.Members.{keep-in, keep-same, each-same, eachList-same}
+use Rattle.base.proofs.Members.{first-rest, keep-in, keep-same, each-same, eachList-same}
 use Rattle.base.proofs.Runs.{in-from}
 use Rattle.base.proofs.Words.{word-same}
 use Rattle.rules.specs.declared.Grid.{Grid}
@@ -83,14 +84,9 @@ module _ (g : Grid) (t : Table) where
 
     entry-here : (r : ℕ) → r < regions → occupied t g p r ≡ true → entryAmong region (t .score) (placesAt region i) (span i e) r ≡ entryOf t g p r
     unfolding entryAmong
-    entry-here r lt o = go (keep (inRegion g t r) (under t p)) refl
-      where
-        go : (l : List ℕ) → keep (inRegion g t r) (under t p) ≡ l → entryAmong region (t .score) (placesAt region i) (span i e) r ≡ entryOf t g p r
-        go [] q = absurd (false≢true (sym (ap (λ (l : List ℕ). not (isEmpty l)) q) ∙ o))
-        go (x ∷ s) q =
-            let first : at (placesAt region i) r ≡ positionIn (firstOf (keep (inRegion g t r) (under t p))) (orderWords t g) =
-            place-at region i r (omega (arith, regions-are)) ∙ first-here r x s lt q ∙ ap (λ (l : List ℕ). positionIn (firstOf l) (orderWords t g)) (sym q) in
-            rw (stands-here r, first)
+    entry-here r lt o =
+        let some = first-rest (keep (inRegion g t r) (under t p)) (not-true _ o) in
+        rw (stands-here r, place-at region i r (omega (arith, regions-are)), first-here r (firstOf (keep (inRegion g t r) (under t p))) _ lt (some .0))
 
     pub entries-here : entriesAmong region (t .score) (placesAt region i) (span i e) ≡ entriesOf t g p
     unfolding entriesAmong

@@ -93,11 +93,10 @@ module _ (t : Table) (g : Grid) (l : LawfulTable t g) where
   -- ---- the stands under the node of stand i's first k bytes
 
   module _ (i k : ℕ) (h : i < stands t) (u : k ≤ length (nameOf t i)) where
-    e : ℕ
+    abbrev e : ℕ
     e = endOf (sharedOf t) i k
 
     b : Block (sharedOf t) i k e
-    unfolding e
     b = block (sharedOf t) i k (omega (arith, shared-length t))
 
     -- all in the block begin alike
@@ -111,47 +110,17 @@ module _ (t : Table) (g : Grid) (l : LawfulTable t g) where
         rw s
         (sym (sharedLength-take (nameOf t (i + d)) (nameOf t (suc (i + d))) k c) ∙ r .0, omega (arith, shared-le-other (nameOf t (i + d)) (nameOf t (suc (i + d)))))
 
-    -- the last of them
-    record Last : Type 0 where
-      pub number : ℕ
-      pub full : suc number ≡ e
-      pub stand : number < stands t
-      pub same : take k (nameOf t number) ≡ take k (nameOf t i)
-      pub long : k ≤ length (nameOf t number)
-      pub next : suc number < stands t → sharedAt t (suc number) < k
-
-    last : Last
-    last =
+    -- where they end, and where the node's subtree does: past the last of them
+    ends : (firstOf (under t (take k (nameOf t i))) + length (under t (take k (nameOf t i))) ≡ e)
+        × (pastOf (beginnings t) (numberIn (take k (nameOf t i)) (beginnings t)) ≡ added.nodesBefore t e)
+    ends =
         let n = e - 1 in
         let full : suc n ≡ e = omega (arith, b .after) in
         let q : i + (n - i) ≡ n = omega (arith, b .after) in
         let s = rw q at (alike (n - i) (omega (arith, b .after))) in
-        record {
-          number = n;
-          full = full;
-          stand = omega (arith, b .within, shared-length t);
-          same = s .0;
-          long = s .1;
-          next = λ v. omega (arith, b .stops (omega (arith, shared-length t)), shared-at t e (omega arith), ap (sharedAt t) full);
-        }
-
-    past-is : firstOf (under t (take k (nameOf t i))) + length (under t (take k (nameOf t i))) ≡ endOf (sharedOf t) i k
-    unfolding e
-    past-is =
-        ap (λ (p : List ℕ). firstOf (under t p) + length (under t p)) (sym (last .same))
-        ∙ past-stand t (l .ordered) (last .number) k (last .stand) (last .long) (last .next)
-        ∙ last .full
-
-    past-number-is : pastOf (beginnings t) (numberIn (take k (nameOf t i)) (beginnings t)) ≡ added.nodesBefore t (endOf (sharedOf t) i k)
-    unfolding e
-    past-number-is =
-        ap (λ (p : List ℕ). pastOf (beginnings t) (numberIn p (beginnings t))) (sym (last .same))
-        ∙ past-node t (l .ordered) (l .some) (last .number) k (last .stand) (last .long) (last .next)
-        ∙ ap (added.nodesBefore t) (last .full)
-
-    end-in : (i < endOf (sharedOf t) i k) × (endOf (sharedOf t) i k ≤ stands t)
-    unfolding e
-    end-in = (b .after, omega (arith, b .within, shared-length t))
+        let stand : n < stands t = omega (arith, b .within, shared-length t) in
+        let next : suc n < stands t → sharedAt t (suc n) < k = λ v. omega (arith, b .stops (omega (arith, shared-length t)), shared-at t e (omega arith), ap (sharedAt t) full) in
+        rw (← full, ← s .0) (past-stand t (l .ordered) n k stand (s .1) next, past-node t (l .ordered) (l .some) n k stand (s .1) next)
 
 -- ---- one node: what is reckoned at stand i's first k bytes is what the definitions say of its text p
 
@@ -201,9 +170,10 @@ module _ (t : Table) (g : Grid) (l : LawfulTable t g) where
   meant-new i (suc k) h c u =
       let p : List ℕ = take (suc k) (nameOf t i) in
       let f : firstOf (under t p) ≡ i = first-stand t (l .ordered) i (suc k) h c u in
-      let e : firstOf (under t p) + length (under t p) ≡ endOf (sharedOf t) i (suc k) = past-is t g l i (suc k) h u in
-      let a = end-in t g l i (suc k) h u in
-      let n : length (under t p) ≡ endOf (sharedOf t) i (suc k) - i = omega (arith, e, f) in
+      let e = ends t g l i (suc k) h u in
+      let b = block (sharedOf t) i (suc k) (omega (arith, shared-length t)) in
+      let n : length (under t p) ≡ endOf (sharedOf t) i (suc k) - i = omega (arith, e .0, f) in
+      let inside : endOf (sharedOf t) i (suc k) ≤ stands t = omega (arith, b .within, shared-length t) in
       let x : suc k - 1 ≡ k = omega arith in
       let some : eqb (suc k) 0 ≡ false = ne-eqb (suc k) 0 (λ r. omega arith) in
       record {
@@ -212,16 +182,16 @@ module _ (t : Table) (g : Grid) (l : LawfulTable t g) where
             (number-same t g l i k h (omega arith) ∙ ap (λ (r : List ℕ). numberIn r (beginnings t)) (sym (but-last-take (nameOf t i) k u)));
         last = rw (some, x) (sym (last-take (nameOf t i) k u ∙ name-byte t g l i k h u));
         first = sym f;
-        past = sym e;
+        past = sym (e .0);
         end =
             omega (
               arith,
               node-number t (l .ordered) i (suc k) h c u,
               shared-at t i h,
-              nodes-add t g l i (endOf (sharedOf t) i (suc k)) (omega arith) (a .1),
-              past-number-is t g l i (suc k) h u,
+              nodes-add t g l i (endOf (sharedOf t) i (suc k)) (omega (arith, b .after)) inside,
+              e .1,
             );
         run = under-run t (l .ordered) p ∙ ap (λ (m : ℕ). fromOn m (length (under t p))) f ∙ ap (fromOn i) n;
-        after = omega arith;
-        within = a .1;
+        after = omega (arith, b .after);
+        within = inside;
       }

@@ -4,7 +4,7 @@ use mathlib.Core.Path.{_≡_, sym, ap, _∙_}
 use mathlib.Core.Logic.{_⊎_, inl, inr}
 use mathlib.Core.Bool.{true, false, cond}
 use mathlib.Core.List.{List, _++_}
-use Prim.Native.Nat.{ℕ, _*_, _≤_}
+use Prim.Native.Nat.{ℕ, _*_}
 use native.Mathlib.Omega.{arith}
 use lib.Dec.{eqb}
 use lib.ListN.{length, drop, take-append-drop}
@@ -99,15 +99,12 @@ module _ (t : Table) (g : Grid) (x : Index) where
       let nodes : begins (nodeWords t g) (x .nodes) ≡ true = every-at _ 2 h in
       let entries : begins (entryWords t g) (x .entries) ≡ true = every-at _ 3 h in
       let l = lawful t g table in
-      let a : stands t ≤ length (x .order) = omega (arith, begins-length (orderWords t g) (x .order) order, order-means t g l .whole) in
-      let b : 8 * nodeCount t ≤ length (x .nodes) = omega (arith, begins-length (nodeWords t g) (x .nodes) nodes, nodes-length t g) in
-      let c : 4 * entryCount t g ≤ length (x .entries) = omega (arith, begins-length (entryWords t g) (x .entries) entries, entry-words-length t g) in
       let none : buildRefusal t g x ≡ 0 =
       rw (
         table,
-        le-ltb (length (x .order)) (stands t) a,
-        le-ltb (length (x .nodes)) (8 * nodeCount t) b,
-        le-ltb (length (x .entries)) (4 * entryCount t g) c,
+        le-ltb (length (x .order)) (stands t) (omega (arith, begins-length (orderWords t g) (x .order) order, order-means t g l .whole)),
+        le-ltb (length (x .nodes)) (8 * nodeCount t) (omega (arith, begins-length (nodeWords t g) (x .nodes) nodes, nodes-length t g)),
+        le-ltb (length (x .entries)) (4 * entryCount t g) (omega (arith, begins-length (entryWords t g) (x .entries) entries, entry-words-length t g)),
       ) in
       (none, rw (eq-eqb (buildRefusal t g x) 0 none) (rw (written-again (orderWords t g) (x .order) order, written-again (nodeWords t g) (x .nodes) nodes, written-again (entryWords t g) (x .entries) entries)))
 

@@ -1,13 +1,12 @@
 -- The walk through the nodes meets the beginnings in their order, so the words that it makes are those of the rules.
 -- Assumes nothing.
 use mathlib.Core.Path.{_≡_, refl, sym, ap, _∙_, subst, ap₂}
-use mathlib.Core.Logic.{_⊎_, inl, inr, ⊎-elim}
+use mathlib.Core.Logic.{_⊎_, inl, inr}
 use mathlib.Core.List.{List, [], _∷_, _++_}
 use Prim.Native.Nat.{ℕ, suc, _+_, _-_, _≤_, _<_}
 use native.Mathlib.Omega.{arith}
 use lib.ListN.{length, take, drop, getD}
 use Rattle.base.specs.Lists.{fromOn, upTo, each, eachList, total, In}
-use Rattle.base.proofs.Tests.{le-or-lt}
 use Rattle.base.proofs.Members.{length-each, in-each, in-eachList, getD-each, getD-in, each-same, each-each, each-eachList, eachList-each, eachList-same, drop-head}
 use Rattle.base.proofs.Runs.{in-from}
 use Rattle.base.proofs.Sums.{total-suc}
@@ -20,10 +19,10 @@ use Rattle.meaning.proofs.Tables.{beginnings-tree}
 use Rattle.meaning.proofs.Adding.{new-takes}
 use Rattle.meaning.proofs.Words.{entries-length}
 use Rattle.node.specs.Columns.{IndexColumns, at, endOf, regionsAmong}
-use Rattle.node.specs.Visits.{Visit, visitsAt, newVisits, visitsFrom}
+use Rattle.node.specs.Visits.{Visit, newVisits}
 use Rattle.node.specs.Rows.{standsAt, entriesAt, rowAt, rowOf}
 use Rattle.words.specs.Words.{rowsFrom, visitsOf, nodeCountOf, entryCountOf, nodeWordsOf, entryWordsOf}
-use Rattle.node.proofs.Steps.{visits-first, visits-done}
+use Rattle.words.proofs.Walks.{visits-all}
 use Rattle.index.specs.Columns.{lengthsOf, sharedOf, regionsOf, tableColumns}
 use Rattle.index.proofs.ByStand.{lengths-length, lengths-at, shared-at, columns-lawful}
 use Rattle.index.proofs.Numbers.{Meant, meant-root, meant-new}
@@ -33,7 +32,7 @@ same8 : (a b c d e f g h a' b' c' d' e' f' g' h' : ℕ) → a ≡ a' → b ≡ b
     → a ∷ b ∷ c ∷ d ∷ e ∷ f ∷ g ∷ h ∷ [] ≡ a' ∷ b' ∷ c' ∷ d' ∷ e' ∷ f' ∷ g' ∷ h' ∷ []
 same8 a b c d e f g h a' b' c' d' e' f' g' h' p q r s t u v w = cc
 
-root : Visit
+abbrev root : Visit
 root = record { stand = 0; length = 0 }
 
 module _ (t : Table) (g : Grid) (l : LawfulTable t g) where
@@ -48,25 +47,8 @@ module _ (t : Table) (g : Grid) (l : LawfulTable t g) where
 
   -- ---- the visits are the beginnings
 
-  others : List Visit
-  others = eachList (newVisits (lengthsOf t) (sharedOf t)) (upTo (stands t))
-
-  visits-are : visitsOf C ≡ root ∷ others
-  unfolding root others visitsFrom
-  visits-are = visits-first (lengthsOf t) (sharedOf t) 0 0 (omega arith) ∙ ap (λ (v : List Visit). root ∷ v) (⊎-elim none some (le-or-lt (stands t) 0))
-    where
-      none : stands t ≤ 0 → visitsFrom (lengthsOf t) (sharedOf t) 0 1 ≡ others
-      none h =
-          let n : stands t ≡ 0 = omega arith in
-          visits-done (lengthsOf t) (sharedOf t) 0 1 (omega (arith, lengths-length t)) (omega arith)
-          ∙ ap (λ (m : ℕ). eachList (newVisits (lengthsOf t) (sharedOf t)) (upTo m)) (sym n)
-
-      some : 0 < stands t → visitsFrom (lengthsOf t) (sharedOf t) 0 1 ≡ others
-      some h =
-          let n : stands t ≡ suc (length (lengthsOf t) - 1) = omega (arith, lengths-length t) in
-          let f = newVisits (lengthsOf t) (sharedOf t) in
-          ap (λ (k : ℕ). visitsAt (lengthsOf t) 0 (suc k) ++ eachList f (fromOn 1 (length (lengthsOf t) - 1))) (sym (columns-lawful t g l .grows .first))
-          ∙ ap (λ (m : ℕ). eachList f (upTo m)) (sym n)
+  visits-are : visitsOf C ≡ root ∷ eachList (newVisits (lengthsOf t) (sharedOf t)) (upTo (stands t))
+  visits-are = rw (visits-all (lengthsOf t) (sharedOf t) (columns-lawful t g l .grows), lengths-length t)
 
   new-texts : (i : ℕ) → i < stands t → each textAt (newVisits (lengthsOf t) (sharedOf t) i) ≡ newAt t i
   new-texts i h =
@@ -78,7 +60,7 @@ module _ (t : Table) (g : Grid) (l : LawfulTable t g) where
       ∙ sym (new-takes t i)
 
   texts : each textAt (visitsOf C) ≡ B
-  unfolding beginnings root others
+  unfolding beginnings
   texts =
       ap (each textAt) visits-are
       ∙ ap (λ (r : List (List ℕ)). [] ∷ r)
@@ -91,13 +73,12 @@ module _ (t : Table) (g : Grid) (l : LawfulTable t g) where
   -- ---- each visit means its text
 
   meant : (v : Visit) → In v (visitsOf C) → Meant t (v .stand) (v .length) (textAt v)
-  unfolding root others
   meant v u = step (subst (In v) visits-are u)
     where
       new : (i k : ℕ) → i < stands t → v ≡ record { stand = i; length = k } → sharedAt t i < k → k ≤ length (nameOf t i) → Meant t (v .stand) (v .length) (textAt v)
       new i k h e a b = rw e (meant-new t g l i k h a b)
 
-      step : (v ≡ root) ⊎ In v others → Meant t (v .stand) (v .length) (textAt v)
+      step : (v ≡ root) ⊎ In v (eachList (newVisits (lengthsOf t) (sharedOf t)) (upTo (stands t))) → Meant t (v .stand) (v .length) (textAt v)
       step (inl e) = rw e (meant-root t g l)
       step (inr w) =
           let s = in-eachList (newVisits (lengthsOf t) (sharedOf t)) (upTo (stands t)) v w in
