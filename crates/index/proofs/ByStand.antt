@@ -26,9 +26,6 @@ use Rattle.index.specs.Columns.{lengthIn, sharedIn, regionIn, lengthsIn,
 -- ---- what two names share
 
 module _ (text starts : List ℕ) where
-  pub shared-first : (i : ℕ) → i ≡ 0 → 0 ≡ sharedIn text starts i
-  shared-first i e = rw e
-
   pub shared-later : (i : ℕ) → (i ≡ 0 → ⊥) → sharedLength (name text starts (i - 1)) (name text starts i) ≡ sharedIn text starts i
   shared-later zero h = absurd (h refl)
   shared-later (suc i) h = let e : suc i - 1 ≡ i = omega arith in rw e
@@ -101,12 +98,10 @@ module _ (t : Table) (g : Grid) (l : LawfulTable t g) where
   pub front-size : (array : List ℕ) → length array ≡ 1024 → stands t ≡ length (take (stands t) array)
   front-size array size = sym (length-take-le (stands t) array (front-fits array size))
 
-  pub columns-are : (long alike region : List ℕ) → take (stands t) long ≡ lengthsIn (t .text) (t .starts) (stands t)
-      → take (stands t) alike ≡ sharesIn (t .text) (t .starts) (stands t)
-      → take (length (t .east)) region ≡ regionsOver (t .east) (t .north) g
-      → indexColumns (t .text) (t .starts) (take (stands t) long) (take (stands t) alike) (take (stands t) region) (t .score) ≡ tableColumns t g
+  pub columns-are : {long alike : List ℕ} (region : List ℕ) → long ≡ lengthsIn (t .text) (t .starts) (stands t) → alike ≡ sharesIn (t .text) (t .starts) (stands t)
+      → take (length (t .east)) region ≡ regionsOver (t .east) (t .north) g → indexColumns (t .text) (t .starts) long alike (take (stands t) region) (t .score) ≡ tableColumns t g
   unfolding lengthsOf sharedOf regionsOf
-  columns-are long alike region a b c = rw (a, b, rw (l .shaped .easts) at c)
+  columns-are region a b c = rw (a, b, rw (l .shaped .easts) at c)
 
   grows : Grows (lengthsOf t) (sharedOf t)
   grows =

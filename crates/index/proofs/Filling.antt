@@ -1,6 +1,6 @@
 -- The loop that fills a column from the front, one stand after the other. Filled is its invariant, for any f of a stand.
 -- Assumes nothing.
-use mathlib.Core.Path.{_≡_, refl, sym, ap, _∙_}
+use mathlib.Core.Path.{_≡_, sym, ap, _∙_}
 use mathlib.Core.List.{List, [], _∷_}
 use Prim.Native.Nat.{ℕ, _+_, _≤_, _<_}
 use native.Mathlib.Omega.{arith}
@@ -17,9 +17,6 @@ pub record Filled (f : ℕ → ℕ) (n : ℕ) (column : List ℕ) (i : ℕ) : Ty
   pub now : take i column ≡ each f (upTo i)
 
 module _ (f : ℕ → ℕ) (n : ℕ) where
-  pub filled : (column : List ℕ) → n ≤ length column → Filled f n column 0
-  filled column h = record { within = omega arith; room = h; now = refl }
-
   pub filled-more : (column : List ℕ) (i v : ℕ) → Filled f n column i → i < n → v ≡ f i → Filled f n (set column i v) (i + 1)
   filled-more column i v s h e =
       record {

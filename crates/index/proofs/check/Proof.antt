@@ -1,13 +1,10 @@
 -- `check` says no for a table that is refused; else it compares the buffers with what the table's columns give.
 -- Assumes nothing.
-use mathlib.Core.Path.{_≡_, sym, ap, _∙_}
-use lib.ListN.{take}
+use mathlib.Core.Path.{sym, ap, _∙_}
 use borrow.Author.Needs.{needs}
 use Rattle.rules.specs.Numbers.{verdictNumber}
-use Rattle.rules.specs.Tables.{Table, tableOf, stands, LawfulTable}
+use Rattle.rules.specs.Tables.{Table, tableOf, LawfulTable}
 use Rattle.rules.proofs.Lawful.{granted}
-use Rattle.node.specs.Columns.{indexColumns}
-use Rattle.index.specs.Columns.{tableColumns}
 use Rattle.index.proofs.ByStand.{spelled, located, front-fits, front-size, columns-are, columns-lawful}
 use Rattle.index.proofs.Answers.{refused-checked, compared-checked}
 use Rattle.index.proofs.check.Statement.{statement}
@@ -60,18 +57,18 @@ array-share-prefix-region c = front-fits _ _ (lawful-here (c .before .before .be
 slice-aggregate-has-index-3 : tie.Need-slice-aggregate-has-index-3
 slice-aggregate-has-index-3 c = front-size _ _ (lawful-here (c .before .before .before .before .before .before)) (c .before .before .before .regions .result) (search needs)
 
--- the columns that are lent
-columns-here : (c : tie.After-regions) →
-    let t = table-of (c .before .before .before .before .before .before .before .before .before .before .before .before) in
-    indexColumns (t .text) (t .starts) (take (stands t) (c .before .before .lengths .result)) (take (stands t) (c .before .shares .result)) (take (stands t) (c .regions .result)) (t .score)
-    ≡ tableColumns t (c .before .before .before .before .before .before .before .before .before .before .before .before .args .grid)
-columns-here c = columns-are _ _ (lawful-here (c .before .before .before)) _ _ _ (c .before .before .lengths .ensures) (c .before .shares .ensures) (c .regions .ensures)
-
 has-index-requires : tie.Need-has-index-requires
-has-index-requires c κs = rw (columns-here (c .before .before .before)) (columns-lawful _ _ (lawful-here (c .before .before .before .before .before .before)))
+has-index-requires c κs =
+    let lent = c .before .before .before in
+    let l = lawful-here (lent .before .before .before) in
+    rw (columns-are _ _ l _ (lent .before .before .lengths .ensures) (lent .before .shares .ensures) (lent .regions .ensures)) (columns-lawful _ _ l)
 
 returns-2 : tie.Need-returns-2
-returns-2 c = compared-checked _ _ (lawful-here (c .before .before .before .before .before .before .before)) _ _ (rw (columns-here (c .before .before .before .before)) at (c .has-index .ensures))
+returns-2 c =
+    let lent = c .before .before .before .before in
+    let l = lawful-here (lent .before .before .before) in
+    let columns = columns-are _ _ l _ (lent .before .before .lengths .ensures) (lent .before .shares .ensures) (lent .regions .ensures) in
+    compared-checked _ _ l _ _ (rw columns at (c .has-index .ensures))
 
 pub check-spec : {M : Type 1} → statement M
 check-spec =

@@ -4,7 +4,7 @@ use Prim.Native.Nat.{_-_}
 use mathlib.Core.Path.{ap}
 use lib.ListN.{length}
 use Rattle.index.specs.Columns.{lengthIn}
-use Rattle.index.proofs.Filling.{Filled, filled, filled-more, filled-end}
+use Rattle.index.proofs.Filling.{Filled, filled-more, filled-end}
 use native.Mathlib.Omega.{arith}
 use borrow.Author.Needs.{needs}
 use Rattle.index.proofs.columns.lengths.Statement.{statement}
@@ -17,7 +17,7 @@ abbrev μ-loop : tie.MeasureT-loop
 μ-loop text starts stands column₀ i₀ column i = stands - i
 
 loop-holds : tie.Need-loop-holds Inv-loop μ-loop
-loop-holds c = filled _ _ _ (search needs)
+loop-holds c = search needs
 
 cast-t8 : tie.Need-cast-t8 Inv-loop μ-loop
 cast-t8 c = search needs

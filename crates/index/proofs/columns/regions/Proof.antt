@@ -11,7 +11,7 @@ use Rattle.rules.specs.Places.{inGrid, regionOf}
 use Rattle.rules.specs.Tables.{placeIn}
 use Rattle.rules.proofs.Places.{region-less}
 use Rattle.index.specs.Columns.{regionIn}
-use Rattle.index.proofs.Filling.{Filled, filled, filled-more, filled-end}
+use Rattle.index.proofs.Filling.{Filled, filled-more, filled-end}
 use borrow.Author.Needs.{needs}
 use Rattle.index.proofs.columns.regions.Statement.{statement}
 use Rattle.index.proofs.columns.regions.Tie as tie
@@ -23,7 +23,7 @@ abbrev μ-loop : tie.MeasureT-loop
 μ-loop east north grid column₀ i₀ column i = length east - i
 
 loop-holds : tie.Need-loop-holds Inv-loop μ-loop
-loop-holds c = filled _ _ _ (search needs)
+loop-holds c = search needs
 
 mul-t7 : tie.Need-mul-t7 Inv-loop μ-loop
 mul-t7 c = search needs

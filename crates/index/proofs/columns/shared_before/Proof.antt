@@ -4,13 +4,13 @@ use native.Mathlib.Omega.{arith}
 use mathlib.Core.Path.{_≡_, _∙_, ap₂}
 use Rattle.base.specs.Lists.{sharedLength}
 use Rattle.index.specs.Columns.{sharedIn}
-use Rattle.index.proofs.ByStand.{shared-first, shared-later, shared-short}
+use Rattle.index.proofs.ByStand.{shared-later, shared-short}
 use borrow.Author.Needs.{needs}
 use Rattle.index.proofs.columns.shared_before.Statement.{statement}
 use Rattle.index.proofs.columns.shared_before.Tie as tie
 
 returns : tie.Need-returns
-returns c = shared-first _ _ _ (c .if1 .taken)
+returns c = search needs
 
 sub-t8 : tie.Need-sub-t8
 sub-t8 c = search needs

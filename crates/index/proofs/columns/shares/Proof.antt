@@ -2,7 +2,7 @@
 -- Assumes nothing.
 use Prim.Native.Nat.{_-_}
 use Rattle.index.specs.Columns.{sharedIn}
-use Rattle.index.proofs.Filling.{Filled, filled, filled-more, filled-end}
+use Rattle.index.proofs.Filling.{Filled, filled-more, filled-end}
 use borrow.Author.Needs.{needs}
 use Rattle.index.proofs.columns.shares.Statement.{statement}
 use Rattle.index.proofs.columns.shares.Tie as tie
@@ -14,7 +14,7 @@ abbrev μ-loop : tie.MeasureT-loop
 μ-loop text starts stands column₀ i₀ column i = stands - i
 
 loop-holds : tie.Need-loop-holds Inv-loop μ-loop
-loop-holds c = filled _ _ _ (search needs)
+loop-holds c = search needs
 
 shared-before-requires : tie.Need-shared-before-requires Inv-loop μ-loop
 shared-before-requires c κs = search needs
