@@ -7,14 +7,13 @@ use mathlib.Core.List.{List, []}
 use Prim.Native.Nat.{ℕ, zero, suc, _+_, _-_, _≤_, _<_}
 use native.Mathlib.Omega.{arith}
 use native.Mathlib.Numerals.{add-one}
+use native.Mathlib.Nat.{add-zero}
 use lib.Dec.{eqb}
 use lib.ListN.{length, take}
 use borrow.Author.Tests.{lt-ltb, le-ltb, ne-eqb}
-use Rattle.base.specs.Lists.{fromOn, upTo, each, total, firstOf}
+use Rattle.base.specs.Lists.{fromOn, upTo, firstOf}
 use Rattle.base.proofs.Tests.{le-or-lt}
-use Rattle.base.proofs.Members.{each-append}
 use Rattle.base.proofs.Runs.{length-from}
-use Rattle.base.proofs.Sums.{total-append}
 use Rattle.base.proofs.Begins.{shared-le, shared-le-other, sharedLength-take}
 use Rattle.rules.specs.declared.Grid.{Grid}
 use Rattle.rules.specs.Tables.{Table, stands, nameOf, LawfulTable}
@@ -24,52 +23,36 @@ use Rattle.meaning.specs.Adding as added
 use Rattle.meaning.specs.Adding.{sharedAt}
 use Rattle.meaning.proofs.Tables.{under-all, under-run, past-root}
 use Rattle.meaning.proofs.Adding.{nodes-step, nodes-all, node-number, first-stand, past-stand, past-node, last-take, but-last-take}
-use Rattle.node.specs.Columns.{at, endOf, span, growth, grownOf}
+use Rattle.node.specs.Columns.{at, endOf, span, grownOf}
 use Rattle.node.specs.Visits.{grownBefore, numberAt}
 use Rattle.node.specs.Rows.{lastOf, parentOf, pastNumber}
-use Rattle.node.proofs.Ends.{upTo-part, grown-last}
+use Rattle.node.proofs.Ends.{span-none, grown-last}
 use Rattle.index.specs.Columns.{lengthsOf, sharedOf}
 use Rattle.index.proofs.ByStand.{shared-length, lengths-at, shared-at, name-byte, columns-lawful}
 use Rattle.index.proofs.Blocks.{Block, block, end-all}
-
--- ---- how many nodes stands make
-
-grown-none : (lengths shared : List ℕ) → grownOf lengths shared 0 0 ≡ 0
-unfolding grownOf
-grown-none lengths shared = refl
-
-span-all : (e : ℕ) → span 0 e ≡ upTo e
-span-all e = let z : e - 0 ≡ e = omega arith in ap (fromOn 0) z
-
-grown-add : (lengths shared : List ℕ) (i e : ℕ) → i ≤ e → grownOf lengths shared 0 e ≡ grownOf lengths shared 0 i + grownOf lengths shared i e
-unfolding grownOf
-grown-add lengths shared i e h =
-    let f = growth lengths shared in
-    rw (span-all e, span-all i)
-    (ap (λ (l : List ℕ). total (each f l)) (upTo-part i e h) ∙ ap total (each-append f (upTo i) (span i e)) ∙ total-append (each f (upTo i)) (each f (span i e)))
 
 number-root : (t : Table) → numberIn [] (beginnings t) ≡ 0
 unfolding beginnings
 number-root t = refl
 
 module _ (t : Table) (g : Grid) (l : LawfulTable t g) where
-  -- before stand e
-  nodes-same : (e : ℕ) → e ≤ stands t → added.nodesBefore t e ≡ grownBefore (lengthsOf t) (sharedOf t) e
-  nodes-same zero h = omega (arith, grown-none (lengthsOf t) (sharedOf t))
-  nodes-same (suc e) h =
-      omega (
-        arith,
-        nodes-step t e,
-        nodes-same e (omega arith),
-        grown-last (lengthsOf t) (sharedOf t) 0 e (omega arith),
-        ap (grownOf (lengthsOf t) (sharedOf t) 0) (add-one e),
-        lengths-at t e h,
-        shared-at t e h,
-      )
+  -- ---- how many nodes stands make
 
-  -- before e are those before i and those of i to e - 1
+  -- before i + d are those before i and those of the d stands from i on
+  nodes-from : (i d : ℕ) → i + d ≤ stands t → added.nodesBefore t (i + d) ≡ added.nodesBefore t i + grownOf (lengthsOf t) (sharedOf t) i (i + d)
+  unfolding grownOf
+  nodes-from i zero h = rw (add-zero i, span-none i) (omega arith)
+  nodes-from i (suc d) h =
+      let n = i + d in
+      let e : i + suc d ≡ suc n = omega arith in
+      rw (e, ← add-one n)
+      (omega (arith, nodes-step t n, ap (added.nodesBefore t) (add-one n), nodes-from i d (omega arith), grown-last (lengthsOf t) (sharedOf t) i n (omega arith), lengths-at t n (omega arith), shared-at t n (omega arith)))
+
   nodes-add : (i e : ℕ) → i ≤ e → e ≤ stands t → added.nodesBefore t e ≡ added.nodesBefore t i + grownOf (lengthsOf t) (sharedOf t) i e
-  nodes-add i e h k = omega (arith, nodes-same i (omega arith), nodes-same e k, grown-add (lengthsOf t) (sharedOf t) i e h)
+  nodes-add i e h k = let q : i + (e - i) ≡ e = omega arith in rw q at (nodes-from i (e - i) (omega arith))
+
+  nodes-same : (e : ℕ) → e ≤ stands t → added.nodesBefore t e ≡ grownBefore (lengthsOf t) (sharedOf t) e
+  nodes-same e h = omega (arith, nodes-add 0 e (omega arith) h)
 
   -- ---- numbers
 
@@ -138,6 +121,7 @@ module _ (t : Table) (g : Grid) (l : LawfulTable t g) where
   pub meant-root : Meant t 0 0 []
   meant-root =
       let e : endOf (sharedOf t) 0 0 ≡ stands t = end-all (sharedOf t) ∙ shared-length t in
+      let z : stands t - 0 ≡ stands t = omega arith in
       let n : length (under t []) ≡ stands t = ap length (under-all t) ∙ length-from 0 (stands t) in
       let f : firstOf (under t []) ≡ 0 = ap firstOf (under-all t) ∙ first-of (stands t) in
       record {
@@ -156,7 +140,7 @@ module _ (t : Table) (g : Grid) (l : LawfulTable t g) where
               number-root t,
               ap (pastOf (beginnings t)) (number-root t),
             );
-        run = under-all t ∙ sym (ap (span 0) e ∙ span-all (stands t));
+        run = rw (under-all t, e, z);
         after = omega arith;
         within = omega (arith, e);
       }
