@@ -5,6 +5,7 @@ use mathlib.Core.Logic.{⊎-elim}
 use mathlib.Core.List.{List, [], _∷_, _++_}
 use Prim.Native.Nat.{ℕ, suc, _+_, _-_, _*_, _≤_, _<_}
 use native.Mathlib.Omega.{arith}
+use native.Mathlib.Nat.{lt-of-not-le}
 use lib.ListN.{length, length-append, drop-of-length-le}
 use lib.Count.{ones}
 use Rattle.base.specs.Lists.{fromOn, upTo, eachList}
@@ -106,11 +107,7 @@ module _ {lengths shared : List ℕ} {all : ℕ} where
 
       -- a cursor with nodes before it stands at one
       inside : r .number .0 < all → r .stand .0 < length lengths
-      inside h =
-          ⊎-elim
-          (λ (q : length lengths ≤ r .stand .0). absurd (omega (arith, left-more, ap length (visits-done lengths shared (r .stand .0) (r .length) q (p .some)))))
-          (λ (q : r .stand .0 < length lengths). q)
-          (le-or-lt (length lengths) (r .stand .0))
+      inside h = lt-of-not-le (λ q. omega (arith, left-more, ap length (visits-done lengths shared (r .stand .0) (r .length) q (p .some))))
 
       going-more : held ≤ 64 → Going lengths shared all r
       going-more h = record { left = left-more; few = s .few; low = omega (arith, p .number, p .entries, s .low); on = λ l. p .on (inside l) }

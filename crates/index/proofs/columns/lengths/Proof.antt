@@ -1,17 +1,17 @@
--- `columns::lengths` fills the column of the names' lengths: the invariant is Filled.
+-- `columns::lengths` fills the column of the names' lengths: the invariant is Front.
 -- Assumes nothing.
 use Prim.Native.Nat.{_-_}
 use mathlib.Core.Path.{ap}
 use lib.ListN.{length}
 use Rattle.index.specs.Columns.{lengthIn}
-use Rattle.index.proofs.Filling.{Filled, filled-more, filled-end}
+use Rattle.words.proofs.Filling.{Front, front-more, front-end}
 use native.Mathlib.Omega.{arith}
 use borrow.Author.Needs.{needs}
 use Rattle.index.proofs.columns.lengths.Statement.{statement}
 use Rattle.index.proofs.columns.lengths.Tie as tie
 
 abbrev Inv-loop : tie.InvT-loop
-Inv-loop text starts stands column₀ i₀ column i = Filled (lengthIn text starts) stands column i
+Inv-loop text starts stands column₀ i₀ column i = Front (lengthIn text starts) stands column i
 
 abbrev μ-loop : tie.MeasureT-loop
 μ-loop text starts stands column₀ i₀ column i = stands - i
@@ -38,10 +38,10 @@ loop-less : tie.Need-loop-less Inv-loop μ-loop
 loop-less c = search needs
 
 loop-again : tie.Need-loop-again Inv-loop μ-loop
-loop-again c = filled-more _ _ _ _ _ (c .before .before .loop .inv) (c .before .loop-test .taken) (ap length (c .name-of .ensures))
+loop-again c = front-more _ _ _ _ _ (c .before .before .loop .inv) (c .before .loop-test .taken) (ap length (c .name-of .ensures))
 
 returns : tie.Need-returns Inv-loop μ-loop
-returns c = filled-end _ _ _ _ (c .before .loop .inv) (c .loop-test .left)
+returns c = front-end _ _ _ _ (c .before .loop .inv) (c .loop-test .left)
 
 pub lengths-spec : {M : Type 1} → statement M
 lengths-spec =

@@ -1,4 +1,4 @@
--- `columns::regions` fills the column of the regions: the invariant is Filled.
+-- `columns::regions` fills the column of the regions: the invariant is Front.
 -- Assumes nothing.
 use Prim.Native.Nat.{ℕ, _-_}
 use native.Mathlib.Omega.{arith}
@@ -11,13 +11,13 @@ use Rattle.rules.specs.Places.{inGrid, regionOf}
 use Rattle.rules.specs.Tables.{placeIn}
 use Rattle.rules.proofs.Places.{region-less}
 use Rattle.index.specs.Columns.{regionIn}
-use Rattle.index.proofs.Filling.{Filled, filled-more, filled-end}
+use Rattle.words.proofs.Filling.{Front, front-more, front-end}
 use borrow.Author.Needs.{needs}
 use Rattle.index.proofs.columns.regions.Statement.{statement}
 use Rattle.index.proofs.columns.regions.Tie as tie
 
 abbrev Inv-loop : tie.InvT-loop
-Inv-loop east north grid column₀ i₀ column i = Filled (regionIn east north grid) (length east) column i
+Inv-loop east north grid column₀ i₀ column i = Front (regionIn east north grid) (length east) column i
 
 abbrev μ-loop : tie.MeasureT-loop
 μ-loop east north grid column₀ i₀ column i = length east - i
@@ -71,10 +71,10 @@ loop-less : tie.Need-loop-less Inv-loop μ-loop
 loop-less c = search needs
 
 loop-again : tie.Need-loop-again Inv-loop μ-loop
-loop-again c = filled-more _ _ _ _ _ (c .before .before .before .before .loop .inv) (c .before .before .before .loop-test .taken) (told c)
+loop-again c = front-more _ _ _ _ _ (c .before .before .before .before .loop .inv) (c .before .before .before .loop-test .taken) (told c)
 
 returns : tie.Need-returns Inv-loop μ-loop
-returns c = filled-end _ _ _ _ (c .before .loop .inv) (c .loop-test .left)
+returns c = front-end _ _ _ _ (c .before .loop .inv) (c .loop-test .left)
 
 pub regions-spec : {M : Type 1} → statement M
 regions-spec =

@@ -1,4 +1,4 @@
--- The loop that fills a column from the front, one stand after the other. Filled is its invariant, for any f of a stand.
+-- The loop that fills a list from the front, one place after the other. Front is its invariant, for any f of a place.
 -- Assumes nothing.
 use mathlib.Core.Path.{_≡_, sym, ap, _∙_}
 use mathlib.Core.List.{List, [], _∷_}
@@ -11,14 +11,14 @@ use Rattle.base.specs.Lists.{upTo, each}
 use Rattle.base.proofs.Members.{each-append}
 use Rattle.base.proofs.Runs.{upTo-suc}
 
-pub record Filled (f : ℕ → ℕ) (n : ℕ) (column : List ℕ) (i : ℕ) : Type 0 where
+pub record Front (f : ℕ → ℕ) (n : ℕ) (column : List ℕ) (i : ℕ) : Type 0 where
   pub within : i ≤ n
   pub room : n ≤ length column
   pub now : take i column ≡ each f (upTo i)
 
 module _ (f : ℕ → ℕ) (n : ℕ) where
-  pub filled-more : (column : List ℕ) (i v : ℕ) → Filled f n column i → i < n → v ≡ f i → Filled f n (set column i v) (i + 1)
-  filled-more column i v s h e =
+  pub front-more : (column : List ℕ) (i v : ℕ) → Front f n column i → i < n → v ≡ f i → Front f n (set column i v) (i + 1)
+  front-more column i v s h e =
       record {
         within = omega arith;
         room = rw (length-set column i v) (s .room);
@@ -29,5 +29,5 @@ module _ (f : ℕ → ℕ) (n : ℕ) where
             (sym (ap (each f) (upTo-suc i) ∙ each-append f (upTo i) (i ∷ []))));
       }
 
-  pub filled-end : (column : List ℕ) (i : ℕ) → Filled f n column i → n ≤ i → take n column ≡ each f (upTo n)
-  filled-end column i s h = let e : i ≡ n = omega (arith, s .within) in rw e at (s .now)
+  pub front-end : (column : List ℕ) (i : ℕ) → Front f n column i → n ≤ i → take n column ≡ each f (upTo n)
+  front-end column i s h = let e : i ≡ n = omega (arith, s .within) in rw e at (s .now)
