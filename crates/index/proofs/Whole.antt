@@ -28,10 +28,6 @@ use Rattle.index.proofs.ByStand.{lengths-length, lengths-at, shared-at,
 use Rattle.index.proofs.Numbers.{Meant, meant-root, meant-new}
 use Rattle.index.proofs.Held.{bits-here, regions-here, entries-here}
 
-same8 : (a b c d e f g h a' b' c' d' e' f' g' h' : ℕ) → a ≡ a' → b ≡ b' → c ≡ c' → d ≡ d' → e ≡ e' → f ≡ f' → g ≡ g' → h ≡ h'
-    → a ∷ b ∷ c ∷ d ∷ e ∷ f ∷ g ∷ h ∷ [] ≡ a' ∷ b' ∷ c' ∷ d' ∷ e' ∷ f' ∷ g' ∷ h' ∷ []
-same8 a b c d e f g h a' b' c' d' e' f' g' h' p q r s t u v w = cc
-
 abbrev root : Visit
 root = record { stand = 0; length = 0 }
 
@@ -124,14 +120,10 @@ module _ (t : Table) (g : Grid) (l : LawfulTable t g) where
   unfolding rowAt counted
   row-at v j u h e =
       let m = meant v u in
-      let p = textAt v in
-      let i = v .stand in
-      let past = endOf (sharedOf t) (v .stand) (v .length) in
-      let number : numberIn p B ≡ j = ap (λ (q : List ℕ). numberIn q B) (sym e) ∙ number-at B (beginnings-tree t (l .ordered) .sorted) j h in
-      rw e
-      (same8 _ _ _ _ _ _ _ _ _ _ _ _ _ _ _ _
-      (m .parent) (m .last) (m .first) (m .past) (rw (number, e) at (m .end))
-      (bits-here g t p i past (m .after) (m .within) (m .run) 0) (bits-here g t p i past (m .after) (m .within) (m .run) 32) refl)
+      let number : numberIn (textAt v) B ≡ j = ap (λ (q : List ℕ). numberIn q B) (sym e) ∙ number-at B (beginnings-tree t (l .ordered) .sorted) j h in
+      let bits = bits-here g t (textAt v) (v .stand) (endOf (sharedOf t) (v .stand) (v .length)) (m .after) (m .within) (m .run) in
+      let end = rw (number, e) at (m .end) in
+      rw e (cc (bits 0, bits 32))
 
   rows-from : (j n : ℕ) (vs : List Visit) → drop j (visitsOf C) ≡ vs → n ≡ counted j → rowsFrom C j n vs ≡ eachList (nodeRow t g) (fromOn j (length vs))
   unfolding counted

@@ -16,18 +16,14 @@ pub record Front (f : ℕ → ℕ) (n : ℕ) (column : List ℕ) (i : ℕ) : Typ
   pub room : n ≤ length column
   pub now : take i column ≡ each f (upTo i)
 
-module _ (f : ℕ → ℕ) (n : ℕ) where
-  pub front-more : (column : List ℕ) (i v : ℕ) → Front f n column i → i < n → v ≡ f i → Front f n (set column i v) (i + 1)
-  front-more column i v s h e =
+module _ {f : ℕ → ℕ} {n : ℕ} {column : List ℕ} {i : ℕ} (s : Front f n column i) where
+  pub front-more : {v : ℕ} → i < n → v ≡ f i → Front f n (set column i v) (i + 1)
+  front-more {v} h e =
       record {
         within = omega arith;
         room = rw (length-set column i v) (s .room);
-        now =
-            rw (add-one i)
-            (take-suc-set column i v (omega (arith, s .room))
-            ∙ rw (s .now, e)
-            (sym (ap (each f) (upTo-suc i) ∙ each-append f (upTo i) (i ∷ []))));
+        now = rw (add-one i, take-suc-set column i v (omega (arith, s .room)), s .now, e) (sym (ap (each f) (upTo-suc i) ∙ each-append f (upTo i) (i ∷ [])));
       }
 
-  pub front-end : (column : List ℕ) (i : ℕ) → Front f n column i → n ≤ i → take n column ≡ each f (upTo n)
-  front-end column i s h = let e : i ≡ n = omega (arith, s .within) in rw e at (s .now)
+  pub front-end : n ≤ i → take n column ≡ each f (upTo n)
+  front-end h = let e : i ≡ n = omega (arith, s .within) in rw e at (s .now)

@@ -71,10 +71,10 @@ loop-less : tie.Need-loop-less Inv-loop μ-loop
 loop-less c = search needs
 
 loop-again : tie.Need-loop-again Inv-loop μ-loop
-loop-again c = front-more _ _ _ _ _ (c .before .before .before .before .loop .inv) (c .before .before .before .loop-test .taken) (told c)
+loop-again c = front-more (c .before .before .before .before .loop .inv) (c .before .before .before .loop-test .taken) (told c)
 
 returns : tie.Need-returns Inv-loop μ-loop
-returns c = front-end _ _ _ _ (c .before .loop .inv) (c .loop-test .left)
+returns c = front-end (c .before .loop .inv) (c .loop-test .left)
 
 pub regions-spec : {M : Type 1} → statement M
 regions-spec =
