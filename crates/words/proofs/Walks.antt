@@ -70,7 +70,7 @@ pub ones-held : (region s : List ℕ) → ones (bitsAmong region s) ≡ length (
 unfolding regions
 ones-held region s = ones-word (heldAmong region s) 0 64
 
-entries-held-at : (t : IndexColumns) (v : Visit) → length (entriesAt t v) ≡ length (regionsAmong (t .region) (standsAt (t .shared) v))
+pub entries-held-at : (t : IndexColumns) (v : Visit) → length (entriesAt t v) ≡ length (regionsAmong (t .region) (standsAt (t .shared) v))
 unfolding entriesAt
 entries-held-at t v = entries-held (t .region) (t .score) (placesAt (t .region) (v .stand)) (standsAt (t .shared) v)
 
