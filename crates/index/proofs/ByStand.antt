@@ -1,10 +1,11 @@
 -- A table's columns by place, and that a lawful table's columns are what the code of `words` asks for.
 -- Assumes nothing.
-use mathlib.Core.Path.{_≡_, refl, sym, ap, _∙_}
+use mathlib.Core.Path.{_≡_, refl, sym, _∙_}
 use mathlib.Core.List.{List}
 use mathlib.Core.Logic.{⊎-elim}
 use Prim.Native.Nat.{ℕ, zero, suc, _+_, _-_, _≤_, _<_}
 use native.Mathlib.Omega.{arith}
+use native.Mathlib.Nat.{zero-add}
 use lib.ListN.{length, take, drop, getD, List·getD-eq-default}
 use lib.Seq.{length-take-le, getD-take, getD-drop}
 use Rattle.base.specs.Lists.{upTo, each, sharedLength}
@@ -41,7 +42,7 @@ column-length : (f : ℕ → ℕ) (n : ℕ) → length (each f (upTo n)) ≡ n
 column-length f n = length-each f (upTo n) ∙ length-from 0 n
 
 column-at : (f : ℕ → ℕ) (n i : ℕ) → i < n → at (each f (upTo n)) i ≡ f i
-column-at f n i h = let z : 0 + i ≡ i = omega arith in getD-each-from f 0 n i 0 h ∙ ap f z
+column-at f n i h = rw (getD-each-from f 0 n i 0 h, zero-add i)
 
 module _ (t : Table) where
   pub lengths-length : length (lengthsOf t) ≡ stands t
@@ -58,11 +59,8 @@ module _ (t : Table) where
 
   pub shared-at : (i : ℕ) → i < stands t → at (sharedOf t) i ≡ sharedAt t i
   unfolding sharedOf
-  shared-at i h = column-at (sharedIn (t .text) (t .starts)) (stands t) i h ∙ is i
-    where
-      is : (i : ℕ) → sharedIn (t .text) (t .starts) i ≡ sharedAt t i
-      is zero = refl
-      is (suc i) = refl
+  shared-at zero = column-at (sharedIn (t .text) (t .starts)) (stands t) zero
+  shared-at (suc i) = column-at (sharedIn (t .text) (t .starts)) (stands t) (suc i)
 
 module _ (g : Grid) (t : Table) where
   pub regions-length : length (regionsOf g t) ≡ stands t
@@ -77,9 +75,7 @@ module _ (t : Table) (g : Grid) (l : LawfulTable t g) where
   -- where a name lies in the text
   pub name-byte : (i k : ℕ) → i < stands t → k < length (nameOf t i) → getD (nameOf t i) k 0 ≡ at (t .text) (startOf t i + k)
   name-byte i k h u =
-      ap (λ (n : List ℕ). getD n k 0) (name-part t g l i h)
-      ∙ getD-take (startOf t (i + 1) - startOf t i) (drop (startOf t i) (t .text)) k 0 (omega (arith, name-length t g l i h))
-      ∙ getD-drop (startOf t i) (t .text) k 0
+      rw (name-part t g l i h, getD-take (startOf t (i + 1) - startOf t i) (drop (startOf t i) (t .text)) k 0 (omega (arith, name-length t g l i h)), getD-drop)
 
   -- ---- what the code asks
 
@@ -111,9 +107,7 @@ module _ (t : Table) (g : Grid) (l : LawfulTable t g) where
         same = shared-length t ∙ sym n;
         part = λ k h. let i : k < stands t = omega arith in omega (arith, lengths-at t k i, shared-at t k i, shared-le-other (nameBefore t k) (nameOf t k));
         short = λ k h. let i : k < stands t = omega arith in omega (arith, lengths-at t k i, l .short k i);
-        before = λ k h.
-            let i : suc k < stands t = omega arith in
-            omega (arith, lengths-at t k (omega arith), shared-at t (suc k) i, shared-le (nameOf t k) (nameOf t (suc k)));
+        before = λ k h. omega (arith, lengths-at t k (omega arith), shared-at t (suc k) (omega arith), shared-le (nameOf t k) (nameOf t (suc k)));
         first =
             ⊎-elim
             (λ (h : stands t ≤ 0). List·getD-eq-default (sharedOf t) 0 (omega (arith, shared-length t)))

@@ -37,9 +37,6 @@ module _ (g : Grid) (t : Table) where
   unfolding standsIn
   stands-same r s h = keep-same (λ i. eqb (at region i) r) (inRegion g t r) s (λ i u. ap (λ (x : ℕ). eqb x r) (regions-at g t i (h i u)))
 
-  of-run : (i e : ℕ) → e ≤ stands t → (k : ℕ) → In k (span i e) → k < stands t
-  of-run i e h k u = omega (arith, in-from i (e - i) k u)
-
   before-stand : (r i : ℕ) → i ≤ stands t → standsIn region r (upTo i) ≡ keep (inRegion g t r) (upTo i)
   before-stand r i h = stands-same r (upTo i) (λ k u. omega (arith, in-from 0 i k u))
 
@@ -55,7 +52,7 @@ module _ (g : Grid) (t : Table) where
 
   module _ (p : List ℕ) (i e : ℕ) (fits : i ≤ e) (inside : e ≤ stands t) (run : under t p ≡ span i e) where
     stands-here : (r : ℕ) → standsIn region r (span i e) ≡ keep (inRegion g t r) (under t p)
-    stands-here r = stands-same r (span i e) (of-run i e inside) ∙ ap (keep (inRegion g t r)) (sym run)
+    stands-here r = stands-same r (span i e) (λ k u. omega (arith, in-from i (e - i) k u)) ∙ ap (keep (inRegion g t r)) (sym run)
 
     held-here : (r : ℕ) → heldAmong region (span i e) r ≡ occupied t g p r
     unfolding heldAmong
@@ -71,14 +68,13 @@ module _ (g : Grid) (t : Table) where
     first-here : (r x : ℕ) (s : List ℕ) → r < regions → keep (inRegion g t r) (under t p) ≡ x ∷ s → placeAt region i r ≡ positionIn x (orderWords t g)
     unfolding placeAt before firsts
     first-here r x s lt q =
-        let size : i + (e - i) ≤ stands t = omega arith in
         let those : List ℕ = eachList (λ r. keep (inRegion g t r) (upTo (stands t))) (upTo r) in
         omega (
           arith,
           firsts-below region r,
           ap length (eachList-same (regionOrder region) (λ r. keep (inRegion g t r) (upTo (stands t))) (upTo r) (λ r h. order-region r)),
           ap length (before-stand r i (omega arith)),
-          region-place (regionOfStand g t) (stands t) regions i (e - i) r size lt x s (ap (keep (inRegion g t r)) (sym run) ∙ q),
+          region-place (regionOfStand g t) (stands t) regions i (e - i) r (omega arith) lt x s (ap (keep (inRegion g t r)) (sym run) ∙ q),
           length-append those (keep (inRegion g t r) (upTo i)),
         )
 

@@ -39,10 +39,7 @@ module _ (t : Table) (g : Grid) (x : Index) where
 
 -- ---- an index that was built
 
--- words stand at the start of a room that they are written to; and what stands there already is not changed by writing it
-written-begins : (words room : List ℕ) → begins words (written words room) ≡ true
-written-begins words room = begins-append words (drop (length words) room)
-
+-- what stands at the start of a room already is not changed by writing it there
 written-again : (words room : List ℕ) → begins words room ≡ true → written words room ≡ room
 written-again words room h =
     ap (λ (w : List ℕ). w ++ drop (length words) room) (begins-is-take words room h) ∙ take-append-drop (length words) room
@@ -84,7 +81,7 @@ module _ (t : Table) (g : Grid) (x : Index) where
       let has : setLawful t g writtenAll ≡ true =
       every-of _ (
         eq-eqb (tableRefusal t g) 0 (s .table),
-        (written-begins (orderWords t g) (x .order), (written-begins (nodeWords t g) (x .nodes), (written-begins (entryWords t g) (x .entries), tt))),
+        (begins-append (orderWords t g) _, (begins-append (nodeWords t g) _, (begins-append (entryWords t g) _, tt))),
       ) in
       one-checked r (checked.Lawful n e) (c ∙ rw (s .buffers, has, s .nodes, s .entries))
 
