@@ -4,12 +4,14 @@ use mathlib.Core.Path.{_≡_, refl, sym, _∙_, ap₂}
 use mathlib.Core.Bool.{Bool, true, false, _&&_, true≢false, and-false}
 use mathlib.Core.List.{List}
 use Prim.Native.Nat.{ℕ, _*_, _≤_, _<_}
+use native.Mathlib.Omega.{arith}
 use Rattle.node.specs.declared.cursor.Cursor.{Cursor}
 use Rattle.node.specs.Columns.{IndexColumns}
 use Rattle.node.specs.Visits.{rootCursor}
-use Rattle.words.specs.Words.{rowsFrom, entryWordsFrom, nodeWordsOf, entryWordsOf, hasWords, Work, Moved, hasRow, hasEntries}
-use Rattle.words.proofs.Overs.{From, part, from-more, from-end}
-use Rattle.words.proofs.Walks.{restOf, Carrying, carrying-more, rows-first, entries-first, rows-next, entries-next, rows-place, entries-place, going-end}
+use Rattle.node.specs.Rows.{entriesAt}
+use Rattle.words.specs.Words.{rowsFrom, entryWordsFrom, nodeWordsOf, entryWordsOf, hasWords, visitOf, Work, Moved, hasRow, hasEntries}
+use Rattle.words.proofs.Overs.{From, part, from-more, from-end, length-rows}
+use Rattle.words.proofs.Walks.{restOf, Carrying, carrying-more, rows-first, entries-first, going-end, length-row}
 
 one-fails : (a b x y : Bool) → a && b ≡ false → (a && x) && (b && y) ≡ false
 one-fails true true x y e = absurd (true≢false e)
@@ -37,8 +39,8 @@ module _ {t : IndexColumns} {all : ℕ} {nodes entries : List ℕ} {w : Work} {c
       checking-more p q m =
           record {
             carried = carrying-more (s .carried) lt m;
-            rows = from-more (s .rows) (rows-next (s .carried) lt m) (rows-place (s .carried) lt m) p;
-            own = from-more (s .own) (entries-next (s .carried) lt m) (entries-place (s .carried) lt m) q;
+            rows = rw (m .stepped .visits, m .stepped .number, m .stepped .entries) (from-more (s .rows) (rows-first (s .carried) lt) (omega (arith, length-row t (c .number .0) (c .entries) (visitOf c))) p);
+            own = rw (m .stepped .visits, m .stepped .entries) (from-more (s .own) (entries-first (s .carried) lt) (omega (arith, length-rows (entriesAt t (visitOf c)))) q);
           }
 
     pub checking-end : all ≤ c .number .0 → true ≡ hasWords t nodes entries

@@ -1,8 +1,7 @@
 -- The loops over the nodes: the cursor on its way, and what counting, writing and checking have done so far.
 -- Assumes nothing.
 use mathlib.Core.Path.{_≡_, refl, sym, ap, _∙_}
-use mathlib.Core.Logic.{⊎-elim}
-use mathlib.Core.List.{List, [], _∷_, _++_}
+use mathlib.Core.List.{List, [], _∷_}
 use Prim.Native.Nat.{ℕ, suc, _+_, _-_, _*_, _≤_, _<_}
 use native.Mathlib.Omega.{arith}
 use native.Mathlib.Nat.{lt-of-not-le}
@@ -10,14 +9,13 @@ use lib.ListN.{length, length-append, drop-of-length-le}
 use lib.Count.{ones}
 use Rattle.base.specs.Lists.{fromOn, upTo, eachList}
 use Rattle.rules.specs.Places.{regions}
-use Rattle.base.proofs.Tests.{le-or-lt}
 use Rattle.base.proofs.Members.{length-each, length-keep, each-same}
 use Rattle.base.proofs.Runs.{length-from}
 use Rattle.base.proofs.Rows.{length-parts}
 use Rattle.base.proofs.Words.{ones-word}
 use Rattle.node.specs.declared.cursor.Cursor.{Cursor}
 use Rattle.node.specs.Columns.{IndexColumns, LawfulColumns, Grows, at, endOf, span, growth, grownOf, heldAmong, regionsAmong, bitsAmong}
-use Rattle.node.specs.Visits.{Visit, visitsAt, newVisits, visitsFrom, rootCursor, placesAt, On, Ways, Stepped}
+use Rattle.node.specs.Visits.{Visit, newVisits, visitsFrom, rootCursor, placesAt, On, Ways, Stepped}
 use Rattle.node.specs.Rows.{standsAt, entriesAt, rowAt, rowOf}
 use Rattle.node.proofs.Ends.{grown-small}
 use Rattle.node.proofs.Placing.{regions-are}
@@ -31,21 +29,14 @@ restOf lengths shared c = visitsFrom lengths shared (c .stand .0) (c .length)
 
 -- ---- which nodes, and how many
 
+-- the root, and of each stand those that the one before has not
+pub visits-all : (lengths shared : List ℕ) → Grows lengths shared
+    → visitsFrom lengths shared 0 0 ≡ record { stand = 0; length = 0 } ∷ eachList (newVisits lengths shared) (upTo (length lengths))
+unfolding visitsFrom
+visits-all [] shared g = refl
+visits-all (n ∷ ns) shared g = let e : suc (length ns) - 1 ≡ length ns = omega arith in visits-first (n ∷ ns) shared 0 0 (omega arith) ∙ rw (e, g .first)
+
 module _ (lengths shared : List ℕ) (g : Grows lengths shared) where
-  -- the root, and of each stand those that the one before has not
-  pub visits-all : visitsFrom lengths shared 0 0 ≡ record { stand = 0; length = 0 } ∷ eachList (newVisits lengths shared) (upTo (length lengths))
-  unfolding visitsFrom
-  visits-all = visits-first lengths shared 0 0 (omega arith) ∙ ap (λ (l : List Visit). record { stand = 0; length = 0 } ∷ l) (⊎-elim none some (le-or-lt (length lengths) 0))
-    where
-      none : length lengths ≤ 0 → visitsFrom lengths shared 0 1 ≡ eachList (newVisits lengths shared) (upTo (length lengths))
-      none h = let n : length lengths ≡ 0 = omega arith in visits-done lengths shared 0 1 h (omega arith) ∙ rw n
-
-      some : 0 < length lengths → visitsFrom lengths shared 0 1 ≡ eachList (newVisits lengths shared) (upTo (length lengths))
-      some h =
-          let f = newVisits lengths shared in
-          let n : suc (length lengths - 1) ≡ length lengths = omega arith in
-          ap (λ (k : ℕ). visitsAt lengths 0 (suc k) ++ eachList f (fromOn 1 (length lengths - 1))) (sym (g .first)) ∙ ap (λ (m : ℕ). eachList f (upTo m)) n
-
   new-count : (k : ℕ) → length (newVisits lengths shared k) ≡ growth lengths shared k
   new-count k =
       length-each _ (fromOn (suc (at shared k)) (suc (at lengths k) - suc (at shared k))) ∙ length-from (suc (at shared k)) (suc (at lengths k) - suc (at shared k)) ∙ omega arith
@@ -55,7 +46,7 @@ module _ (lengths shared : List ℕ) (g : Grows lengths shared) where
   node-count =
       let z : length lengths - 0 ≡ length lengths = omega arith in
       let new = newVisits lengths shared in
-      rw (visits-all, z, length-parts new (upTo (length lengths)), each-same (λ k. length (new k)) (growth lengths shared) (upTo (length lengths)) (λ k u. new-count k)) (omega arith)
+      rw (visits-all lengths shared g, z, length-parts new (upTo (length lengths)), each-same (λ k. length (new k)) (growth lengths shared) (upTo (length lengths)) (λ k u. new-count k)) (omega arith)
 
   -- 24 for each stand, and the root
   pub nodes-few : length (visitsFrom lengths shared 0 0) ≤ 24577
@@ -176,23 +167,8 @@ module _ {t : IndexColumns} {all : ℕ} {c : Cursor} {w : Work} where
     entries-few : length (entriesAt t (visitOf c)) ≤ 64
     entries-few = omega (arith, entries-held-at t (visitOf c), held-few (t .region) (standsAt (t .shared) (visitOf c)))
 
-    module _ {r : Cursor} {w′ : Work} (m : Moved t c r w′) where
-      pub carrying-more : Carrying t all r w′
-      carrying-more = record { way = going-more (s .way) lt (m .stepped) entries-few; next-is = m .next-is; ways = λ h. m .ways (inside (s .way) lt (m .stepped) h); scratch = m .scratch }
-
-      -- and behind them those of the nodes from r on
-      pub rows-next : Next (rowsFrom t (c .number .0) (c .entries) (restOf (t .lengths) (t .shared) c)) (rowOf t (c .number .0) (c .entries) (visitOf c))
-          (rowsFrom t (r .number .0) (r .entries) (restOf (t .lengths) (t .shared) r))
-      rows-next = record { is = rw (m .stepped .visits, m .stepped .number, m .stepped .entries) (rows-first .is) }
-
-      pub entries-next : Next (entryWordsFrom t (restOf (t .lengths) (t .shared) c)) (entryRows (entriesAt t (visitOf c))) (entryWordsFrom t (restOf (t .lengths) (t .shared) r))
-      entries-next = record { is = rw (m .stepped .visits) (entries-first .is) }
-
-      pub rows-place : r .number .0 * 8 ≡ c .number .0 * 8 + length (rowOf t (c .number .0) (c .entries) (visitOf c))
-      rows-place = omega (arith, m .stepped .number, length-row t (c .number .0) (c .entries) (visitOf c))
-
-      pub entries-place : r .entries * 4 ≡ c .entries * 4 + length (entryRows (entriesAt t (visitOf c)))
-      entries-place = omega (arith, m .stepped .entries, length-rows (entriesAt t (visitOf c)))
+    pub carrying-more : {r : Cursor} {w′ : Work} → Moved t c r w′ → Carrying t all r w′
+    carrying-more m = record { way = going-more (s .way) lt (m .stepped) entries-few; next-is = m .next-is; ways = λ h. m .ways (inside (s .way) lt (m .stepped) h); scratch = m .scratch }
 
 pub entries-length : (t : IndexColumns) (vs : List Visit) → length (entryWordsFrom t vs) ≡ countFrom (t .shared) (t .region) vs * 4
 entries-length t [] = refl

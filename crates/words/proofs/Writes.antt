@@ -11,7 +11,7 @@ use Rattle.node.specs.Visits.{Visit, rootCursor}
 use Rattle.node.specs.Rows.{entriesAt, rowOf}
 use Rattle.words.specs.Words.{rowsFrom, entryWordsFrom, nodeWordsOf, entryWordsOf, visitsOf, visitOf, Work, Room, PutTurn, WriteAsks, WroteAll}
 use Rattle.words.proofs.Overs.{Filled, filled, filled-room, filled-more, filled-end, length-rows}
-use Rattle.words.proofs.Walks.{restOf, Carrying, carrying-more, rows-first, entries-first, rows-next, entries-next, rows-place, entries-place, going-end, length-row, entries-length}
+use Rattle.words.proofs.Walks.{restOf, Carrying, carrying-more, rows-first, entries-first, going-end, length-row, entries-length}
 
 pub record Writing (t : IndexColumns) (all : ℕ) (n₀ e₀ : List ℕ) (w : Work) (nodes entries : List ℕ) (c : Cursor) : Type 0 where
   pub carried : Carrying t all c w
@@ -43,10 +43,11 @@ module _ {t : IndexColumns} {all : ℕ} {n₀ e₀ : List ℕ} {w : Work} {c : C
 
       pub writing-more : {r : Cursor} {w′ : Work} {nodes′ entries′ : List ℕ} → PutTurn t c r w′ nodes entries nodes′ entries′ → Writing t all n₀ e₀ w′ nodes′ entries′ r
       writing-more m =
+          let p = m .moved .stepped in
           record {
             carried = carrying-more (s .carried) lt (m .moved);
-            rows = filled-more (s .rows) (rows-next (s .carried) lt (m .moved)) (m .wrote .row-now) (rows-place (s .carried) lt (m .moved));
-            own = filled-more (s .own) (entries-next (s .carried) lt (m .moved)) (m .wrote .entries-now) (entries-place (s .carried) lt (m .moved));
+            rows = rw (p .visits, p .number, p .entries) (filled-more (s .rows) (rows-first (s .carried) lt) (m .wrote .row-now) (omega (arith, length-row t (c .number .0) (c .entries) (visitOf c))));
+            own = rw (p .visits, p .entries) (filled-more (s .own) (entries-first (s .carried) lt) (m .wrote .entries-now) (omega (arith, length-rows (entriesAt t (visitOf c)))));
           }
 
     pub writing-end : all ≤ c .number .0 → WroteAll t n₀ e₀ nodes entries
