@@ -11,10 +11,10 @@ abbrev start : tie.After-gather → tie.Start
 start c = c .before .before .before .before .before .before .before .before .before .before .before .before .before
 
 gather-requires : tie.Need-gather-requires
-gather-requires c κs = let p = c .before .before .before .before .before .before .before .before .before .before .before .before .pre in gather-asks p
+gather-requires c κs = gather-asks (c .before .before .before .before .before .before .before .before .before .before .before .before .pre)
 
 row-requires : tie.Need-row-requires
-row-requires c κs = let p = start (c .before) .pre in row-asks p (c .before .gather .ensures)
+row-requires c κs = row-asks (start (c .before) .pre) (c .before .gather .ensures)
 
 cast-has-words : tie.Need-cast-has-words
 cast-has-words c = search needs
@@ -36,8 +36,7 @@ returns : tie.Need-returns
 returns c =
     let at-row = c .before .before .before .before in
     let gathered = at-row .before .before in
-    let p = start gathered .pre in
-    row-differs p (gathered .gather .ensures) (at-row .row .ensures) (breaks _ _ (c .before .has-words .ensures) (c .if1 .taken))
+    row-differs (start gathered .pre) (gathered .gather .ensures) (at-row .row .ensures) (breaks _ _ (c .before .has-words .ensures) (c .if1 .taken))
 
 cast-has-entries : tie.Need-cast-has-entries
 cast-has-entries c = search needs
@@ -49,14 +48,12 @@ has-entries-requires : tie.Need-has-entries-requires
 has-entries-requires c κs =
     let gathered = c .before .before .before .before .before .before .before .before .before .before .before in
     let p = start gathered .pre in
-    let g = gathered .gather .ensures in
-    (held-asks p g, omega (arith, p .standing .low, p .standing .few))
+    (held-asks p (gathered .gather .ensures), omega (arith, p .standing .low, p .standing .few))
 
 returns-2 : tie.Need-returns-2
 returns-2 c =
     let gathered = c .before .before .before .before .before .before .before .before .before .before .before .before .before in
-    let p = start gathered .pre in
-    entries-differ p (gathered .gather .ensures) (breaks _ _ (c .before .has-entries .ensures) (c .if2 .taken))
+    entries-differ (start gathered .pre) (gathered .gather .ensures) (breaks _ _ (c .before .has-entries .ensures) (c .if2 .taken))
 
 cast-advance : tie.Need-cast-advance
 cast-advance c = search needs
@@ -64,8 +61,7 @@ cast-advance c = search needs
 advance-requires : tie.Need-advance-requires
 advance-requires c κs =
     let gathered = c .before .before .before .before .before .before .before .before .before .before .before .before .before .before .before .before in
-    let p = start gathered .pre in
-    advance-asks p (gathered .gather .ensures)
+    advance-asks (start gathered .pre) (gathered .gather .ensures)
 
 returns-3 : tie.Need-returns-3
 returns-3 c =
@@ -73,8 +69,7 @@ returns-3 c =
     let at-words = at-entries .before .before .before .before .before .before .before in
     let at-row = at-words .before .before .before .before in
     let gathered = at-row .before .before in
-    let p = start gathered .pre in
-    agrees p (gathered .gather .ensures) (at-row .row .ensures)
+    agrees (start gathered .pre) (gathered .gather .ensures) (at-row .row .ensures)
     (holds _ _ (at-words .before .has-words .ensures) (at-words .if1 .left)) (holds _ _ (at-entries .before .has-entries .ensures) (at-entries .if2 .left)) (c .advance .ensures)
 
 pub check-node-spec : {M : Type 1} → statement M

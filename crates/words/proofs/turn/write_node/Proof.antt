@@ -10,10 +10,10 @@ abbrev start : tie.After-gather → tie.Start
 start c = c .before .before .before .before .before .before .before .before .before .before .before .before .before
 
 gather-requires : tie.Need-gather-requires
-gather-requires c κs = let p = c .before .before .before .before .before .before .before .before .before .before .before .before .pre in gather-asks (p .turn)
+gather-requires c κs = gather-asks (c .before .before .before .before .before .before .before .before .before .before .before .before .pre .turn)
 
 row-requires : tie.Need-row-requires
-row-requires c κs = let p = start (c .before) .pre in row-asks (p .turn) (c .before .gather .ensures)
+row-requires c κs = row-asks (start (c .before) .pre .turn) (c .before .gather .ensures)
 
 cast-put-words : tie.Need-cast-put-words
 cast-put-words c = search needs
@@ -50,8 +50,7 @@ cast-advance c = search needs
 advance-requires : tie.Need-advance-requires
 advance-requires c κs =
     let gathered = c .before .before .before .before .before .before .before .before .before .before .before .before .before .before .before .before .before .before .before .before in
-    let p = start gathered .pre in
-    advance-asks (p .turn) (gathered .gather .ensures)
+    advance-asks (start gathered .pre .turn) (gathered .gather .ensures)
 
 same-length : tie.Need-same-length
 same-length c = search needs
