@@ -79,20 +79,14 @@ module _ (t : Table) (g : Grid) (l : LawfulTable t g) where
 
   -- ---- what the code asks
 
-  pub spelled : Spelled (t .text) (t .starts) (stands t)
-  spelled = record { few = l .shaped .few; short = l .short }
-
   pub located : Located (t .east) (t .north) g
   located =
       let e = l .shaped .easts in
       record { few = omega (arith, l .shaped .few); same = l .shaped .norths ∙ sym e; lawful = l .gridded; inside = λ i h. l .placed i (omega arith) }
 
-  -- columns in the front of longer arrays
-  pub front-fits : (array : List ℕ) → length array ≡ 1024 → stands t ≤ length array
-  front-fits array size = omega (arith, l .shaped .few)
-
+  -- a column in the front of a longer array
   pub front-size : (array : List ℕ) → length array ≡ 1024 → stands t ≡ length (take (stands t) array)
-  front-size array size = sym (length-take-le (stands t) array (front-fits array size))
+  front-size array size = sym (length-take-le (stands t) array (omega (arith, l .shaped .few)))
 
   pub columns-are : {long alike : List ℕ} (region : List ℕ) → long ≡ lengthsIn (t .text) (t .starts) (stands t) → alike ≡ sharesIn (t .text) (t .starts) (stands t)
       → take (length (t .east)) region ≡ regionsOver (t .east) (t .north) g → indexColumns (t .text) (t .starts) long alike (take (stands t) region) (t .score) ≡ tableColumns t g

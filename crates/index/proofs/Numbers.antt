@@ -1,7 +1,7 @@
 -- A node's number, its stands, its parent, its last byte and the end of its subtree: by the columns they are the definitions'.
 -- Assumes nothing.
 use mathlib.Core.Path.{_≡_, refl, sym, ap, _∙_}
-use mathlib.Core.Logic.{_⊎_, inl, inr}
+use mathlib.Core.Logic.{⊎-elim}
 use mathlib.Core.Bool.{false}
 use mathlib.Core.List.{List, []}
 use Prim.Native.Nat.{ℕ, zero, suc, _+_, _-_, _≤_, _<_}
@@ -59,19 +59,15 @@ module _ (t : Table) (g : Grid) (l : LawfulTable t g) where
   number-same : (i k : ℕ) → i < stands t → k ≤ length (nameOf t i) → numberAt (lengthsOf t) (sharedOf t) i k ≡ numberIn (take k (nameOf t i)) (beginnings t)
   number-same zero zero h u = sym (number-root t)
   number-same zero (suc k) h u = sym (node-number t (l .ordered) 0 (suc k) h (omega arith) u ∙ omega arith)
-  number-same (suc i) k h u = step (number-same i k (omega arith)) (le-or-lt k (at (sharedOf t) (suc i)))
-    where
-      step : (k ≤ length (nameOf t i) → numberAt (lengthsOf t) (sharedOf t) i k ≡ numberIn (take k (nameOf t i)) (beginnings t))
-          → (k ≤ at (sharedOf t) (suc i)) ⊎ (at (sharedOf t) (suc i) < k)
-          → numberAt (lengthsOf t) (sharedOf t) (suc i) k ≡ numberIn (take k (nameOf t (suc i))) (beginnings t)
-      step r (inl q) =
-          let c : k ≤ sharedAt t (suc i) = omega (arith, shared-at t (suc i) h) in
-          rw (le-ltb (at (sharedOf t) (suc i)) k q)
-          (r (omega (arith, shared-le (nameOf t i) (nameOf t (suc i))))
-          ∙ ap (λ (p : List ℕ). numberIn p (beginnings t)) (sharedLength-take (nameOf t i) (nameOf t (suc i)) k c))
-      step r (inr q) =
-          let n = node-number t (l .ordered) (suc i) k h (omega (arith, shared-at t (suc i) h)) u in
-          rw (lt-ltb (at (sharedOf t) (suc i)) k q) (omega (arith, n, nodes-same (suc i) (omega arith), shared-at t (suc i) h))
+  number-same (suc i) k h u =
+      let c = shared-at t (suc i) h in
+      ⊎-elim
+      (λ (q : k ≤ at (sharedOf t) (suc i)).
+      rw (le-ltb (at (sharedOf t) (suc i)) k q, ← sharedLength-take (nameOf t i) (nameOf t (suc i)) k (omega arith))
+      (number-same i k (omega arith) (omega (arith, shared-le (nameOf t i) (nameOf t (suc i))))))
+      (λ (q : at (sharedOf t) (suc i) < k).
+      rw (lt-ltb (at (sharedOf t) (suc i)) k q) (omega (arith, node-number t (l .ordered) (suc i) k h (omega arith) u, nodes-same (suc i) (omega arith))))
+      (le-or-lt k (at (sharedOf t) (suc i)))
 
   -- ---- the stands under the node of stand i's first k bytes
 

@@ -5,6 +5,7 @@ use mathlib.Core.Bool.{true, false, _&&_, and-false}
 use mathlib.Core.List.{List}
 use Prim.Native.Nat.{ℕ, _*_}
 use native.Mathlib.Omega.{arith}
+use borrow.Author.Needs.{needs}
 use lib.ListN.{length, drop}
 use Rattle.base.specs.Lists.{begins}
 use Rattle.node.specs.declared.cursor.Cursor.{Cursor}
@@ -12,38 +13,22 @@ use Rattle.node.specs.declared.Gathered.{Gathered}
 use Rattle.node.specs.Columns.{IndexColumns, heldAmong, entriesFrom}
 use Rattle.node.specs.Visits.{Advanced}
 use Rattle.node.specs.Rows.{entriesAt, rowAt, rowOf, standsAt, Gathers, Rowed}
-use Rattle.node.specs.Asks.{GatherAsks, RowAsks, AdvanceAsks}
+use Rattle.node.specs.Asks.{Low, GatherAsks, RowAsks, AdvanceAsks}
 use Rattle.node.proofs.Placing.{next-small}
 use Rattle.words.specs.declared.turn.Compared.the-variants.{Same, Different}
 use Rattle.words.specs.Over.{over}
-use Rattle.words.specs.Words.{entryRows, visitOf, Work, workOf, HeldAsks, TurnAsks, Moved, Wrote, hasRow, hasEntries, Compares}
+use Rattle.words.specs.Words.{entryRows, visitOf, Work, workOf, TurnAsks, Moved, Wrote, hasRow, hasEntries, Compares}
 
 module _ {t : IndexColumns} {c : Cursor} {u : Work} (asks : TurnAsks t c u) where
   pub gather-asks : GatherAsks (t .shared) (t .region) (t .score) (c .stand .0) (u .next) (u .places) (u .best) (u .ranked)
   gather-asks =
-      record {
-        placed = asks .lawful .placed;
-        scored = omega (arith, asks .lawful .scored, asks .lawful .same);
-        same = omega (arith, asks .lawful .grows .same, asks .lawful .same);
-        within = omega (arith, asks .standing .on .within, asks .lawful .grows .same);
-        low = λ r h. next-small (t .region) (u .next) (c .stand .0) r (asks .lawful .placed) (asks .standing .next-is) (omega (arith, asks .standing .on .within, asks .lawful .same)) h;
-        places-size = asks .standing .scratch .places-size;
-        best-size = asks .standing .scratch .best-size;
-        ranked-size = asks .standing .scratch .ranked-size;
-      }
+      let low : Low (u .next) =
+      λ r h. next-small (t .region) (u .next) (c .stand .0) r (asks .lawful .placed) (asks .standing .next-is) (omega (arith, asks .standing .on .within, asks .lawful .same)) h in
+      search needs
 
   module _ {places best ranked : List ℕ} {g : Gathered} (k : Gathers (t .shared) (t .region) (t .score) (u .next) (c .stand .0) (c .length) places best ranked g) where
     pub row-asks : RowAsks (t .text) (t .starts) (t .lengths) (t .shared) (u .path) c g
-    row-asks =
-        record {
-          grows = asks .lawful .grows;
-          spelt = asks .lawful .spelt;
-          on = asks .standing .on;
-          low = omega (arith, asks .standing .low);
-          ways = asks .standing .ways;
-          past = k .past;
-          within = omega (arith, k .within, asks .lawful .grows .same);
-        }
+    row-asks = search needs
 
     -- what `row` gives
     abbrev pub RowHere : List ℕ → Type 0
@@ -64,28 +49,11 @@ module _ {t : IndexColumns} {c : Cursor} {u : Work} (asks : TurnAsks t c u) wher
     unfolding entriesAt
     count-now = rw (← asks .standing .next-is) (k .count)
 
-    pub held-asks : HeldAsks ranked (g .held)
-    held-asks = record { size = k .ranked-size; few = k .few; small = k .small }
-
     pub advance-asks : AdvanceAsks (t .lengths) (t .shared) (t .region) c (g .held) (u .next) (u .path)
-    advance-asks =
-        record {
-          step = record { grows = asks .lawful .grows; on = asks .standing .on; low = omega (arith, asks .standing .low); fits = omega (arith, asks .standing .low, asks .standing .few, k .few) };
-          placed = asks .lawful .placed;
-          same = asks .lawful .same;
-          places = asks .standing .next-is;
-          ways = asks .standing .ways;
-          size = asks .standing .scratch .path-size;
-        }
+    advance-asks = search needs
 
     pub moved : {next′ path′ : List ℕ} {r : Cursor} → Advanced (t .lengths) (t .shared) (t .region) c (g .held) next′ path′ r → Moved t c r (workOf next′ path′ places best ranked)
-    moved a =
-        record {
-          stepped = rw count-now at (a .stepped);
-          next-is = a .places;
-          ways = a .ways;
-          scratch = record { path-size = a .size; places-size = k .places-size; best-size = k .best-size; ranked-size = k .ranked-size };
-        }
+    moved a = let stepped = rw count-now at (a .stepped) in search needs
 
     -- ---- the words put
 

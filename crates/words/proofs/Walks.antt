@@ -4,6 +4,7 @@ use mathlib.Core.Path.{_≡_, refl, sym, ap, _∙_}
 use mathlib.Core.List.{List, [], _∷_}
 use Prim.Native.Nat.{ℕ, suc, _+_, _-_, _*_, _≤_, _<_}
 use native.Mathlib.Omega.{arith}
+use borrow.Author.Needs.{needs}
 use native.Mathlib.Nat.{lt-of-not-le}
 use lib.ListN.{length, length-append, drop-of-length-le}
 use lib.Count.{ones}
@@ -76,14 +77,7 @@ pub record Going (lengths shared : List ℕ) (all : ℕ) (c : Cursor) : Type 0 w
 module _ {lengths shared : List ℕ} {all : ℕ} where
   going : {c : Cursor} → c ≡ rootCursor → Grows lengths shared → all ≡ length (visitsFrom lengths shared 0 0) → Going lengths shared all c
   unfolding grownOf
-  going r g e =
-      rw r
-      record {
-        left = omega arith;
-        few = omega (arith, nodes-few lengths shared g);
-        low = omega arith;
-        on = λ h. record { within = omega arith; long = omega arith; new = λ u. absurd (omega arith); count = omega (arith, g .first) };
-      }
+  going r g e = let few = nodes-few lengths shared g in rw r (search needs)
 
   module _ {c : Cursor} (s : Going lengths shared all c) (lt : c .number .0 < all) where
     pub going-first : restOf lengths shared c ≡ visitOf c ∷ visitsFrom lengths shared (c .stand .0) (suc (c .length))

@@ -5,7 +5,7 @@ use borrow.Author.Needs.{needs}
 use Rattle.rules.specs.Numbers.{verdictNumber}
 use Rattle.rules.specs.Tables.{Table, tableOf, LawfulTable}
 use Rattle.rules.proofs.Lawful.{granted}
-use Rattle.index.proofs.ByStand.{spelled, located, front-fits, front-size, columns-are, columns-lawful}
+use Rattle.index.proofs.ByStand.{located, front-size, columns-are, columns-lawful}
 use Rattle.index.proofs.Answers.{refused-built, wrote-built}
 use Rattle.index.proofs.build.Statement.{statement}
 use Rattle.index.proofs.build.Tie as tie
@@ -31,28 +31,28 @@ lawful-here : (c : tie.After-enum-told)
 lawful-here c = granted _ _ _ (c .before .before .table-refusal .ensures) (c .enum-told .given .1)
 
 lengths-requires : tie.Need-lengths-requires
-lengths-requires c κs = spelled _ _ (lawful-here c)
+lengths-requires c κs = let l = lawful-here c in search needs
 
 shares-requires : tie.Need-shares-requires
-shares-requires c κs = spelled _ _ (lawful-here (c .before))
+shares-requires c κs = let l = lawful-here (c .before) in search needs
 
 regions-requires : tie.Need-regions-requires
 regions-requires c κs = located _ _ (lawful-here (c .before .before))
 
 array-share-prefix-long : tie.Need-array-share-prefix-long
-array-share-prefix-long c = front-fits _ _ (lawful-here (c .before .before .before)) (c .before .before .lengths .result) (search needs)
+array-share-prefix-long c = let l = lawful-here (c .before .before .before) in search needs
 
 slice-aggregate-put-index : tie.Need-slice-aggregate-put-index
 slice-aggregate-put-index c = front-size _ _ (lawful-here (c .before .before .before .before)) (c .before .before .before .lengths .result) (search needs)
 
 array-share-prefix-alike : tie.Need-array-share-prefix-alike
-array-share-prefix-alike c = front-fits _ _ (lawful-here (c .before .before .before .before)) (c .before .before .shares .result) (search needs)
+array-share-prefix-alike c = let l = lawful-here (c .before .before .before .before) in search needs
 
 slice-aggregate-put-index-2 : tie.Need-slice-aggregate-put-index-2
 slice-aggregate-put-index-2 c = front-size _ _ (lawful-here (c .before .before .before .before .before)) (c .before .before .before .shares .result) (search needs)
 
 array-share-prefix-region : tie.Need-array-share-prefix-region
-array-share-prefix-region c = front-fits _ _ (lawful-here (c .before .before .before .before .before)) (c .before .before .regions .result) (search needs)
+array-share-prefix-region c = let l = lawful-here (c .before .before .before .before .before) in search needs
 
 slice-aggregate-put-index-3 : tie.Need-slice-aggregate-put-index-3
 slice-aggregate-put-index-3 c = front-size _ _ (lawful-here (c .before .before .before .before .before .before)) (c .before .before .before .regions .result) (search needs)

@@ -30,12 +30,9 @@ step-requires : tie.Need-step-requires Inv-loop μ-loop
 step-requires c κs =
     let s = c .before .before .before .before .loop .inv in
     let lt = c .before .before .if1 .taken in
-    record {
-      grows = c .before .before .before .before .before .before .before .before .before .pre .grows;
-      on = s .way .on lt;
-      low = omega (arith, s .way .few);
-      fits = counting-fits s lt (c .before .end-of .ensures .end) (ap ones (c .regions-of .ensures));
-    }
+    let on = s .way .on lt in
+    let fits = counting-fits s lt (c .before .end-of .ensures .end) (ap ones (c .regions-of .ensures)) in
+    search needs
 
 loop-less : tie.Need-loop-less Inv-loop μ-loop
 loop-less c = search needs

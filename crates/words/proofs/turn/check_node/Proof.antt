@@ -2,7 +2,7 @@
 use borrow.Author.Needs.{needs}
 use native.Mathlib.Omega.{arith}
 use Rattle.base.proofs.Tests.{breaks, holds}
-use Rattle.words.proofs.Turns.{gather-asks, held-asks, row-asks, row-size, advance-asks, row-differs, entries-differ, agrees}
+use Rattle.words.proofs.Turns.{gather-asks, row-asks, row-size, advance-asks, row-differs, entries-differ, agrees}
 use Rattle.words.proofs.turn.check_node.Statement.{statement}
 use Rattle.words.proofs.turn.check_node.Tie as tie
 
@@ -48,7 +48,8 @@ has-entries-requires : tie.Need-has-entries-requires
 has-entries-requires c κs =
     let gathered = c .before .before .before .before .before .before .before .before .before .before .before in
     let p = start gathered .pre in
-    (held-asks p (gathered .gather .ensures), omega (arith, p .standing .low, p .standing .few))
+    let g = gathered .gather .ensures in
+    (search needs, omega (arith, p .standing .low, p .standing .few))
 
 returns-2 : tie.Need-returns-2
 returns-2 c =

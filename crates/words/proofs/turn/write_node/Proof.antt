@@ -1,7 +1,7 @@
 -- `words::turn::write_node` meets its contract, by those of the calls that it makes and the laws of proofs/Turns.antt. Assumes nothing.
 use borrow.Author.Needs.{needs}
 use native.Mathlib.Omega.{arith}
-use Rattle.words.proofs.Turns.{gather-asks, held-asks, row-asks, row-size, count-now, advance-asks, moved, wrote}
+use Rattle.words.proofs.Turns.{gather-asks, row-asks, row-size, count-now, advance-asks, moved, wrote}
 use Rattle.words.proofs.turn.write_node.Statement.{statement}
 use Rattle.words.proofs.turn.write_node.Tie as tie
 
@@ -42,7 +42,7 @@ put-entries-requires c κs =
     let gathered = c .before .before .before .before .before .before .before .before .before .before .before .before .before .before in
     let p = start gathered .pre in
     let g = gathered .gather .ensures in
-    (held-asks (p .turn) g, omega (arith, p .room .entry-room, count-now (p .turn) g))
+    (search needs, omega (arith, p .room .entry-room, count-now (p .turn) g))
 
 cast-advance : tie.Need-cast-advance
 cast-advance c = search needs
