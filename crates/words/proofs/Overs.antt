@@ -1,14 +1,14 @@
--- Words in a room: laws of `over`, and how words are put into a room or compared with it part after part, by what is left of them.
+-- How words are put into a room or compared with it, part after part, by what is left of them.
 -- Assumes nothing.
 use mathlib.Core.Path.{_≡_, refl, sym, ap, _∙_}
 use mathlib.Core.Bool.{true, false, _&&_}
 use mathlib.Core.List.{List, [], _∷_, _++_, append-assoc}
-use Prim.Native.Nat.{ℕ, _+_, _*_, _≤_, _<_}
+use Prim.Native.Nat.{ℕ, suc, _+_, _*_, _≤_, _<_}
 use native.Mathlib.Omega.{arith}
 use native.Mathlib.Numerals.{add-one}
-use native.Mathlib.Nat.{add-zero, add-assoc}
-use lib.ListN.{length, take, drop, set, length-append, length-drop, take-append-drop, drop-of-length-le}
-use lib.Seq.{set-split, take-at, drop-at, drop-drop, length-take-le, drop-cons, getD-take}
+use native.Mathlib.Nat.{add-zero}
+use lib.ListN.{length, take, drop, set, length-append, drop-of-length-le}
+use lib.Seq.{sets, length-sets, sets-eq, drop-drop, length-take-le, drop-cons, getD-take}
 use borrow.Author.Tests.{eq-eqb, ne-eqb}
 use Rattle.base.specs.Lists.{each, begins}
 use Rattle.rules.specs.Indexes.{Entry, entryRow}
@@ -19,36 +19,18 @@ use Rattle.node.specs.Columns.{at, Sized, entryFrom, entriesFrom}
 use Rattle.words.specs.Over.{over}
 use Rattle.words.specs.Words.{entryRows}
 
--- ---- over
+-- ---- words in a room that has place for them are stored one after the other
 
-over-none : (d : List ℕ) (p : ℕ) → over d p [] ≡ d
+over-sets : (d : List ℕ) (p : ℕ) (w : List ℕ) → p + length w ≤ length d → over d p w ≡ sets d p w
 unfolding over
-over-none d p = rw add-zero (take-append-drop p d)
+over-sets d p w h = sym (sets-eq w d p h ∙ append-assoc (take p d) w (drop (p + length w) d))
 
 pub over-set : (d : List ℕ) (p x : ℕ) → p < length d → set d p x ≡ over d p (x ∷ [])
-unfolding over
-over-set d p x h = rw (set-split d p x h, add-one p)
+over-set d p x h = sym (over-sets d p (x ∷ []) (omega arith))
 
-over-over : (d : List ℕ) (p : ℕ) (w v : List ℕ) → p ≤ length d → over (over d p w) (p + length w) v ≡ over d p (w ++ v)
-unfolding over
-over-over d p w v h =
-    let f = take p d ++ w in
-    let r = drop (p + length w) d in
-    let n : length f ≡ p + length w = omega (arith, length-append (take p d) w, length-take-le p d h) in
-    rw (
-      ← append-assoc (take p d) w r,
-      take-at f r (p + length w) n,
-      ← drop-drop (length v) (p + length w) (f ++ r),
-      drop-at f r (p + length w) n,
-      drop-drop (length v) (p + length w) d,
-      length-append w v,
-      add-assoc p (length w) (length v),
-    )
-    (simp append-assoc)
-
-length-over : (d : List ℕ) (p : ℕ) (w : List ℕ) → p + length w ≤ length d → length (over d p w) ≡ length d
-unfolding over
-length-over d p w h = simp (length-append, length-drop) (omega (arith, length-take-le p d (omega arith)))
+sets-sets : (d : List ℕ) (p : ℕ) (w v : List ℕ) → sets (sets d p w) (p + length w) v ≡ sets d p (w ++ v)
+sets-sets d p [] v = rw add-zero
+sets-sets d p (x ∷ w) v = let e : p + suc (length w) ≡ suc p + length w = omega arith in rw e (sets-sets (set d p x) (suc p) w v)
 
 -- what is left of some words: first w, then rest′
 pub record Next (rest w rest′ : List ℕ) : Type 0 where
@@ -59,11 +41,11 @@ pub record Next (rest w rest′ : List ℕ) : Type 0 where
 pub record Filled (d : List ℕ) (p : ℕ) (words room rest : List ℕ) (q : ℕ) : Type 0 where
   pub size : length room ≡ length d
   pub fits : q + length rest ≤ length room
-  pub left : over room q rest ≡ over d p words
+  pub left : sets room q rest ≡ over d p words
 
 module _ {d : List ℕ} {p : ℕ} {words : List ℕ} where
   pub filled : {q : ℕ} → q ≡ p → p + length words ≤ length d → Filled d p words d words q
-  filled e h = record { size = refl; fits = omega arith; left = rw e }
+  filled e h = record { size = refl; fits = omega arith; left = rw e (sym (over-sets d p words h)) }
 
   module _ {room rest : List ℕ} {q : ℕ} (f : Filled d p words room rest q) where
     module _ {w rest′ : List ℕ} (e : Next rest w rest′) where
@@ -75,11 +57,11 @@ module _ {d : List ℕ} {p : ℕ} {words : List ℕ} where
 
       pub filled-more : {room′ : List ℕ} {q′ : ℕ} → room′ ≡ over room q w → q′ ≡ q + length w → Filled d p words room′ rest′ q′
       filled-more r n =
-          let size = length-over room q w filled-room in
-          rw (r, n) record { size = size ∙ f .size; fits = omega (arith, f .fits, lengths); left = over-over room q w rest′ (omega (arith, filled-room)) ∙ rw (← e .is) (f .left) }
+          let size = length-sets room q w in
+          rw (r, n, over-sets room q w filled-room) record { size = size ∙ f .size; fits = omega (arith, f .fits, lengths); left = sets-sets room q w rest′ ∙ rw (← e .is) (f .left) }
 
     pub filled-end : rest ≡ [] → room ≡ over d p words
-    filled-end e = sym (over-none room q) ∙ rw e at (f .left)
+    filled-end e = rw e at (f .left)
 
 -- ---- words compared with a room from place p on: the rest, from place q on, decides
 
