@@ -8,7 +8,7 @@ use native.Mathlib.Omega.{arith}
 use lib.Dec.{eqb}
 use borrow.Author.Tests.{not-true}
 use lib.ListN.{length, length-append}
-use Rattle.base.specs.Lists.{upTo, keep, each, eachList, firstOf, isEmpty, sortBy, positionIn, In}
+use Rattle.base.specs.Lists.{upTo, keep, eachList, firstOf, isEmpty, sortBy, positionIn, In}
 use Rattle.base.specs.Bits.{wordOf}
 use Rattle.base.proofs.Members.{first-rest, keep-in, keep-same, each-same, eachList-same}
 use Rattle.base.proofs.Runs.{in-from}
@@ -87,8 +87,5 @@ module _ (g : Grid) (t : Table) where
     pub entries-here : entriesAmong region (t .score) (placesAt region i) (span i e) ≡ entriesOf t g p
     unfolding entriesAmong
     entries-here =
-        let entry = entryAmong region (t .score) (placesAt region i) (span i e) in
-        ap (sortBy ahead)
-        (ap (each entry) regions-here
-        ∙ each-same entry (entryOf t g p) (regionsUnder t g p)
-        (λ r u. let k = keep-in (occupied t g p) (upTo regions) r u in entry-here r (omega (arith, in-from 0 regions r (k .0))) (k .1)))
+        rw regions-here
+        (ap (sortBy ahead) (each-same _ (entryOf t g p) (regionsUnder t g p) (λ r u. let k = keep-in (occupied t g p) (upTo regions) r u in entry-here r (omega (arith, in-from 0 regions r (k .0))) (k .1))))

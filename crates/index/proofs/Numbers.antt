@@ -11,7 +11,7 @@ use native.Mathlib.Nat.{add-zero}
 use lib.Dec.{eqb}
 use lib.ListN.{length, take}
 use borrow.Author.Tests.{lt-ltb, le-ltb, ne-eqb}
-use Rattle.base.specs.Lists.{fromOn, upTo, firstOf}
+use Rattle.base.specs.Lists.{upTo, firstOf}
 use Rattle.base.proofs.Tests.{le-or-lt}
 use Rattle.base.proofs.Runs.{length-from}
 use Rattle.base.proofs.Begins.{shared-le, shared-le-other, sharedLength-take}
@@ -157,9 +157,7 @@ module _ (t : Table) (g : Grid) (l : LawfulTable t g) where
       let x : suc k - 1 ≡ k = omega arith in
       let some : eqb (suc k) 0 ≡ false = ne-eqb (suc k) 0 (λ r. omega arith) in
       record {
-        parent =
-            rw (some, x)
-            (number-same t g l i k h (omega arith) ∙ ap (λ (r : List ℕ). numberIn r (beginnings t)) (sym (but-last-take (nameOf t i) k u)));
+        parent = rw (some, x, but-last-take (nameOf t i) k u) (number-same t g l i k h (omega arith));
         last = rw (some, x) (sym (last-take (nameOf t i) k u ∙ name-byte t g l i k h u));
         first = sym f;
         past = sym (e .0);
@@ -171,7 +169,7 @@ module _ (t : Table) (g : Grid) (l : LawfulTable t g) where
               nodes-add t g l i (endOf (sharedOf t) i (suc k)) (omega (arith, b .after)) inside,
               e .1,
             );
-        run = under-run t (l .ordered) p ∙ ap (λ (m : ℕ). fromOn m (length (under t p))) f ∙ ap (fromOn i) n;
+        run = under-run t (l .ordered) p ∙ rw (f, n);
         after = omega (arith, b .after);
         within = inside;
       }
