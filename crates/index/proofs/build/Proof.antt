@@ -3,7 +3,7 @@
 use mathlib.Core.Path.{sym, ap, _∙_}
 use borrow.Author.Needs.{needs}
 use Rattle.rules.specs.Numbers.{verdictNumber}
-use Rattle.rules.specs.Tables.{Table, tableOf, LawfulTable}
+use Rattle.rules.specs.Tables.{tableOf, LawfulTable}
 use Rattle.rules.proofs.Lawful.{granted}
 use Rattle.index.proofs.ByStand.{located, front-size, columns-are, columns-lawful}
 use Rattle.index.proofs.Answers.{refused-built, wrote-built}
@@ -22,12 +22,10 @@ returns c = refused-built _ _ _ _ (sym (ap verdictNumber (c .before .verdict .gi
 enum-told : tie.Need-enum-told
 enum-told c = search needs
 
-abbrev table-of : tie.Start → Table
-table-of s = let a = s .args in tableOf (a .text .now) (a .starts .now) (a .east .now) (a .north .now) (a .score .now)
-
 -- past the refusals
-lawful-here : (c : tie.After-enum-told)
-    → LawfulTable (table-of (c .before .before .before .before .before .before .before .before .before)) (c .before .before .before .before .before .before .before .before .before .args .grid)
+lawful-here : (c : tie.After-enum-told) →
+    let a = c .before .before .before .before .before .before .before .before .before .args in
+    LawfulTable (tableOf (a .text .now) (a .starts .now) (a .east .now) (a .north .now) (a .score .now)) (a .grid)
 lawful-here c = granted _ _ _ (c .before .before .table-refusal .ensures) (c .enum-told .given .1)
 
 lengths-requires : tie.Need-lengths-requires

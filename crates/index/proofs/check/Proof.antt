@@ -3,7 +3,7 @@
 use mathlib.Core.Path.{sym, ap, _∙_}
 use borrow.Author.Needs.{needs}
 use Rattle.rules.specs.Numbers.{verdictNumber}
-use Rattle.rules.specs.Tables.{Table, tableOf, LawfulTable}
+use Rattle.rules.specs.Tables.{tableOf, LawfulTable}
 use Rattle.rules.proofs.Lawful.{granted}
 use Rattle.index.proofs.ByStand.{located, front-size, columns-are, columns-lawful}
 use Rattle.index.proofs.Answers.{refused-checked, compared-checked}
@@ -22,12 +22,10 @@ enum-told-2 c = search needs
 returns : tie.Need-returns
 returns c = refused-checked _ _ _ (c .enum-told2 .given .0 .0) (sym (ap verdictNumber (c .enum-told2 .given .1)) ∙ c .before .before .table-refusal .ensures)
 
-abbrev table-of : tie.Start → Table
-table-of s = let a = s .args in tableOf (a .text .now) (a .starts .now) (a .east .now) (a .north .now) (a .score .now)
-
 -- past the refusals
-lawful-here : (c : tie.After-enum-told)
-    → LawfulTable (table-of (c .before .before .before .before .before .before .before .before .before)) (c .before .before .before .before .before .before .before .before .before .args .grid)
+lawful-here : (c : tie.After-enum-told) →
+    let a = c .before .before .before .before .before .before .before .before .before .args in
+    LawfulTable (tableOf (a .text .now) (a .starts .now) (a .east .now) (a .north .now) (a .score .now)) (a .grid)
 lawful-here c = granted _ _ _ (c .before .before .table-refusal .ensures) (c .enum-told .given .1)
 
 lengths-requires : tie.Need-lengths-requires
