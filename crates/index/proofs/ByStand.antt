@@ -102,11 +102,7 @@ module _ (t : Table) (g : Grid) (l : LawfulTable t g) where
         part = λ k h. let i : k < stands t = omega arith in omega (arith, lengths-at t k i, shared-at t k i, shared-le-other (nameBefore t k) (nameOf t k));
         short = λ k h. let i : k < stands t = omega arith in omega (arith, lengths-at t k i, l .short k i);
         before = λ k h. omega (arith, lengths-at t k (omega arith), shared-at t (suc k) (omega arith), shared-le (nameOf t k) (nameOf t (suc k)));
-        first =
-            ⊎-elim
-            (λ (h : stands t ≤ 0). List·getD-eq-default (sharedOf t) 0 (omega (arith, shared-length t)))
-            (λ (h : 0 < stands t). shared-at t 0 h)
-            (le-or-lt (stands t) 0);
+        first = ⊎-elim (λ (h : stands t ≤ 0). List·getD-eq-default (sharedOf t) 0 (omega (arith, shared-length t))) (shared-at t 0) (le-or-lt (stands t) 0);
       }
 
   placed : Placed (regionsOf g t)

@@ -55,18 +55,14 @@ module _ (t : Table) (g : Grid) (x : Index) where
     pub entries : e ≡ entryCount t g
     pub buffers : y ≡ writtenAll
 
-  unrefused : buildRefusal t g x ≡ 0 → tableRefusal t g ≡ 0
-  unfolding buildRefusal
-  unrefused e = first-none (tableRefusal t g) (cond (tooSmall t g x) 6 0) e .0
-
   succeeded : (n e : ℕ) (y : Index) → BuildPromise t g x (built.Index n e) y → Succeeded n e y
-  unfolding buildTold indexAfter
+  unfolding buildTold indexAfter buildRefusal
   succeeded n e y p = step (which (eqb (buildRefusal t g x) 0))
     where
       step : (eqb (buildRefusal t g x) 0 ≡ true) ⊎ (eqb (buildRefusal t g x) 0 ≡ false) → Succeeded n e y
       step (inl q) =
           record {
-            table = unrefused (eqb-true (buildRefusal t g x) 0 q);
+            table = first-none (tableRefusal t g) (cond (tooSmall t g x) 6 0) (eqb-true (buildRefusal t g x) 0 q) .0;
             nodes = ap (λ (b : BuildTold). b .nodes) (rw q at (p .told));
             entries = ap (λ (b : BuildTold). b .entries) (rw q at (p .told));
             buffers = rw q at (p .buffers);

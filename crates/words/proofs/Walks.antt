@@ -58,10 +58,6 @@ module _ (lengths shared : List ℕ) (g : Grows lengths shared) where
 held-few : (region s : List ℕ) → length (regionsAmong region s) ≤ 64
 held-few region s = omega (arith, length-keep (heldAmong region s) (upTo regions), length-from 0 regions, regions-are)
 
-pub ones-held : (region s : List ℕ) → ones (bitsAmong region s) ≡ length (regionsAmong region s)
-unfolding regions
-ones-held region s = ones-word (heldAmong region s) 0 64
-
 pub entries-held-at : (t : IndexColumns) (v : Visit) → length (entriesAt t v) ≡ length (regionsAmong (t .region) (standsAt (t .shared) v))
 unfolding entriesAt
 entries-held-at t v = entries-held (t .region) (t .score) (placesAt (t .region) (v .stand)) (standsAt (t .shared) v)
@@ -113,7 +109,8 @@ module _ {lengths shared region : List ℕ} {all : ℕ} where
   module _ {c : Cursor} (s : Counting lengths shared region all c) where
     module _ (lt : c .number .0 < all) {past held : ℕ} (e : past ≡ endOf shared (c .stand .0) (c .length)) (k : held ≡ ones (bitsAmong region (span (c .stand .0) past))) where
       held-is : held ≡ length (regionsAmong region (standsAt shared (visitOf c)))
-      held-is = k ∙ ap (λ (x : ℕ). ones (bitsAmong region (span (c .stand .0) x))) e ∙ ones-held region (standsAt shared (visitOf c))
+      unfolding regions
+      held-is = k ∙ ap (λ (x : ℕ). ones (bitsAmong region (span (c .stand .0) x))) e ∙ ones-word (heldAmong region (standsAt shared (visitOf c))) 0 64
 
       pub counting-fits : c .entries + held < 4294967296
       counting-fits = omega (arith, held-is, held-few region (standsAt shared (visitOf c)), s .way .low, s .way .few)
