@@ -70,15 +70,7 @@ module _ (t : Table) (g : Grid) (l : LawfulTable t g) (x : Index) where
 
   over-is : overAll (tableColumns t g) x ≡ record { order = written (orderWords t g) (x .order); nodes = written (nodeWords t g) (x .nodes); entries = written (entryWords t g) (x .entries) }
   unfolding overAll
-  over-is =
-      rw (
-        order-words g t,
-        node-words t g l,
-        entry-words t g l,
-        over-written (orderWords t g) (x .order),
-        over-written (nodeWords t g) (x .nodes),
-        over-written (entryWords t g) (x .entries),
-      )
+  over-is = rw (order-words g t, node-words t g l, entry-words t g l) (simp over-written)
 
   refusal-past : buildRefusal t g x ≡ cond (tooSmall t g x) 6 0
   unfolding buildRefusal

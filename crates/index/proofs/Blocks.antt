@@ -9,8 +9,8 @@ use native.Mathlib.Omega.{arith}
 use lib.Dec.{ltb}
 use lib.ListN.{length, drop, length-drop}
 use lib.Seq.{drop-cons, getD-drop}
-use borrow.Author.Tests.{ltb-true, ltb-false}
-use Rattle.base.proofs.Tests.{which, le-or-lt}
+use borrow.Author.Tests.{ltb-true, ltb-false, le-ltb}
+use Rattle.base.proofs.Tests.{which}
 use Rattle.node.specs.Columns.{at, frontRun, blockOf, endOf}
 
 -- the run at the front of a column that is l or more
@@ -55,14 +55,11 @@ block shared i l h =
     }
 
 -- with nothing to fall short of, the block is all the rest
+front-all : (column : List ℕ) → frontRun 0 column ≡ length column
+front-all [] = refl
+front-all (c ∷ cs) = rw (le-ltb c 0 (omega arith), front-all cs)
+
 pub end-all : (shared : List ℕ) → endOf shared 0 0 ≡ length shared
 unfolding endOf
 end-all [] = refl
-end-all (c ∷ cs) = step (le-or-lt (length (c ∷ cs)) (endOf (c ∷ cs) 0 0))
-  where
-    b : Block (c ∷ cs) 0 0 (endOf (c ∷ cs) 0 0)
-    b = block (c ∷ cs) 0 0 (omega arith)
-
-    step : (length (c ∷ cs) ≤ endOf (c ∷ cs) 0 0) ⊎ (endOf (c ∷ cs) 0 0 < length (c ∷ cs)) → endOf (c ∷ cs) 0 0 ≡ length (c ∷ cs)
-    step (inl h) = omega (arith, b .within)
-    step (inr h) = absurd (omega (arith, b .stops h))
+end-all (c ∷ cs) = omega (arith, front-all cs)

@@ -1,10 +1,11 @@
 -- A table's columns by place, and that a lawful table's columns are what the code of `words` asks for.
 -- Assumes nothing.
-use mathlib.Core.Path.{_≡_, refl, sym, ap, _∙_}
+use mathlib.Core.Path.{_≡_, refl, sym, _∙_}
 use mathlib.Core.List.{List}
 use mathlib.Core.Logic.{⊎-elim}
 use Prim.Native.Nat.{ℕ, zero, suc, _+_, _-_, _≤_, _<_}
 use native.Mathlib.Omega.{arith}
+use native.Mathlib.Nat.{zero-add}
 use lib.ListN.{length, take, drop, getD, List·getD-eq-default}
 use lib.Seq.{length-take-le, getD-take, getD-drop}
 use Rattle.base.specs.Lists.{upTo, each, sharedLength}
@@ -26,9 +27,6 @@ use Rattle.index.specs.Columns.{lengthIn, sharedIn, regionIn, lengthsIn,
 -- ---- what two names share
 
 module _ (text starts : List ℕ) where
-  pub shared-first : (i : ℕ) → i ≡ 0 → 0 ≡ sharedIn text starts i
-  shared-first i e = rw e
-
   pub shared-later : (i : ℕ) → (i ≡ 0 → ⊥) → sharedLength (name text starts (i - 1)) (name text starts i) ≡ sharedIn text starts i
   shared-later zero h = absurd (h refl)
   shared-later (suc i) h = let e : suc i - 1 ≡ i = omega arith in rw e
@@ -44,7 +42,7 @@ column-length : (f : ℕ → ℕ) (n : ℕ) → length (each f (upTo n)) ≡ n
 column-length f n = length-each f (upTo n) ∙ length-from 0 n
 
 column-at : (f : ℕ → ℕ) (n i : ℕ) → i < n → at (each f (upTo n)) i ≡ f i
-column-at f n i h = let z : 0 + i ≡ i = omega arith in getD-each-from f 0 n i 0 h ∙ ap f z
+column-at f n i h = rw (getD-each-from f 0 n i 0 h, zero-add i)
 
 module _ (t : Table) where
   pub lengths-length : length (lengthsOf t) ≡ stands t
@@ -61,11 +59,8 @@ module _ (t : Table) where
 
   pub shared-at : (i : ℕ) → i < stands t → at (sharedOf t) i ≡ sharedAt t i
   unfolding sharedOf
-  shared-at i h = column-at (sharedIn (t .text) (t .starts)) (stands t) i h ∙ is i
-    where
-      is : (i : ℕ) → sharedIn (t .text) (t .starts) i ≡ sharedAt t i
-      is zero = refl
-      is (suc i) = refl
+  shared-at zero = column-at (sharedIn (t .text) (t .starts)) (stands t) zero
+  shared-at (suc i) = column-at (sharedIn (t .text) (t .starts)) (stands t) (suc i)
 
 module _ (g : Grid) (t : Table) where
   pub regions-length : length (regionsOf g t) ≡ stands t
@@ -80,33 +75,23 @@ module _ (t : Table) (g : Grid) (l : LawfulTable t g) where
   -- where a name lies in the text
   pub name-byte : (i k : ℕ) → i < stands t → k < length (nameOf t i) → getD (nameOf t i) k 0 ≡ at (t .text) (startOf t i + k)
   name-byte i k h u =
-      ap (λ (n : List ℕ). getD n k 0) (name-part t g l i h)
-      ∙ getD-take (startOf t (i + 1) - startOf t i) (drop (startOf t i) (t .text)) k 0 (omega (arith, name-length t g l i h))
-      ∙ getD-drop (startOf t i) (t .text) k 0
+      rw (name-part t g l i h, getD-take (startOf t (i + 1) - startOf t i) (drop (startOf t i) (t .text)) k 0 (omega (arith, name-length t g l i h)), getD-drop)
 
   -- ---- what the code asks
-
-  pub spelled : Spelled (t .text) (t .starts) (stands t)
-  spelled = record { few = l .shaped .few; short = l .short }
 
   pub located : Located (t .east) (t .north) g
   located =
       let e = l .shaped .easts in
       record { few = omega (arith, l .shaped .few); same = l .shaped .norths ∙ sym e; lawful = l .gridded; inside = λ i h. l .placed i (omega arith) }
 
-  -- columns in the front of longer arrays
-  pub front-fits : (array : List ℕ) → length array ≡ 1024 → stands t ≤ length array
-  front-fits array size = omega (arith, l .shaped .few)
-
+  -- a column in the front of a longer array
   pub front-size : (array : List ℕ) → length array ≡ 1024 → stands t ≡ length (take (stands t) array)
-  front-size array size = sym (length-take-le (stands t) array (front-fits array size))
+  front-size array size = sym (length-take-le (stands t) array (omega (arith, l .shaped .few)))
 
-  pub columns-are : (long alike region : List ℕ) → take (stands t) long ≡ lengthsIn (t .text) (t .starts) (stands t)
-      → take (stands t) alike ≡ sharesIn (t .text) (t .starts) (stands t)
-      → take (length (t .east)) region ≡ regionsOver (t .east) (t .north) g
-      → indexColumns (t .text) (t .starts) (take (stands t) long) (take (stands t) alike) (take (stands t) region) (t .score) ≡ tableColumns t g
+  pub columns-are : {long alike : List ℕ} (region : List ℕ) → long ≡ lengthsIn (t .text) (t .starts) (stands t) → alike ≡ sharesIn (t .text) (t .starts) (stands t)
+      → take (length (t .east)) region ≡ regionsOver (t .east) (t .north) g → indexColumns (t .text) (t .starts) long alike (take (stands t) region) (t .score) ≡ tableColumns t g
   unfolding lengthsOf sharedOf regionsOf
-  columns-are long alike region a b c = rw (a, b, rw (l .shaped .easts) at c)
+  columns-are region a b c = rw (a, b, rw (l .shaped .easts) at c)
 
   grows : Grows (lengthsOf t) (sharedOf t)
   grows =
@@ -116,14 +101,8 @@ module _ (t : Table) (g : Grid) (l : LawfulTable t g) where
         same = shared-length t ∙ sym n;
         part = λ k h. let i : k < stands t = omega arith in omega (arith, lengths-at t k i, shared-at t k i, shared-le-other (nameBefore t k) (nameOf t k));
         short = λ k h. let i : k < stands t = omega arith in omega (arith, lengths-at t k i, l .short k i);
-        before = λ k h.
-            let i : suc k < stands t = omega arith in
-            omega (arith, lengths-at t k (omega arith), shared-at t (suc k) i, shared-le (nameOf t k) (nameOf t (suc k)));
-        first =
-            ⊎-elim
-            (λ (h : stands t ≤ 0). List·getD-eq-default (sharedOf t) 0 (omega (arith, shared-length t)))
-            (λ (h : 0 < stands t). shared-at t 0 h)
-            (le-or-lt (stands t) 0);
+        before = λ k h. omega (arith, lengths-at t k (omega arith), shared-at t (suc k) (omega arith), shared-le (nameOf t k) (nameOf t (suc k)));
+        first = ⊎-elim (λ (h : stands t ≤ 0). List·getD-eq-default (sharedOf t) 0 (omega (arith, shared-length t))) (shared-at t 0) (le-or-lt (stands t) 0);
       }
 
   placed : Placed (regionsOf g t)

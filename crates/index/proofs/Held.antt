@@ -1,15 +1,16 @@
 -- What the regions under a node hold, its words of bits and its entries: by the columns they are the definitions'.
 -- Assumes nothing.
-use mathlib.Core.Path.{_≡_, refl, sym, ap, _∙_}
-use mathlib.Core.Bool.{true, not, false≢true}
-use mathlib.Core.List.{List, [], _∷_}
+use mathlib.Core.Path.{_≡_, sym, ap, _∙_}
+use mathlib.Core.Bool.{true, not}
+use mathlib.Core.List.{List, _∷_}
 use Prim.Native.Nat.{ℕ, _+_, _-_, _≤_, _<_}
 use native.Mathlib.Omega.{arith}
 use lib.Dec.{eqb}
+use borrow.Author.Tests.{not-true}
 use lib.ListN.{length, length-append}
-use Rattle.base.specs.Lists.{upTo, keep, each, eachList, firstOf, isEmpty, sortBy, positionIn, In}
+use Rattle.base.specs.Lists.{upTo, keep, eachList, firstOf, isEmpty, sortBy, positionIn, In}
 use Rattle.base.specs.Bits.{wordOf}
-use Rattle.base.proofs.Members.{keep-in, keep-same, each-same, eachList-same}
+use Rattle.base.proofs.Members.{first-rest, keep-in, keep-same, each-same, eachList-same}
 use Rattle.base.proofs.Runs.{in-from}
 use Rattle.base.proofs.Words.{word-same}
 use Rattle.rules.specs.declared.Grid.{Grid}
@@ -36,9 +37,6 @@ module _ (g : Grid) (t : Table) where
   unfolding standsIn
   stands-same r s h = keep-same (λ i. eqb (at region i) r) (inRegion g t r) s (λ i u. ap (λ (x : ℕ). eqb x r) (regions-at g t i (h i u)))
 
-  of-run : (i e : ℕ) → e ≤ stands t → (k : ℕ) → In k (span i e) → k < stands t
-  of-run i e h k u = omega (arith, in-from i (e - i) k u)
-
   before-stand : (r i : ℕ) → i ≤ stands t → standsIn region r (upTo i) ≡ keep (inRegion g t r) (upTo i)
   before-stand r i h = stands-same r (upTo i) (λ k u. omega (arith, in-from 0 i k u))
 
@@ -54,7 +52,7 @@ module _ (g : Grid) (t : Table) where
 
   module _ (p : List ℕ) (i e : ℕ) (fits : i ≤ e) (inside : e ≤ stands t) (run : under t p ≡ span i e) where
     stands-here : (r : ℕ) → standsIn region r (span i e) ≡ keep (inRegion g t r) (under t p)
-    stands-here r = stands-same r (span i e) (of-run i e inside) ∙ ap (keep (inRegion g t r)) (sym run)
+    stands-here r = stands-same r (span i e) (λ k u. omega (arith, in-from i (e - i) k u)) ∙ ap (keep (inRegion g t r)) (sym run)
 
     held-here : (r : ℕ) → heldAmong region (span i e) r ≡ occupied t g p r
     unfolding heldAmong
@@ -70,33 +68,24 @@ module _ (g : Grid) (t : Table) where
     first-here : (r x : ℕ) (s : List ℕ) → r < regions → keep (inRegion g t r) (under t p) ≡ x ∷ s → placeAt region i r ≡ positionIn x (orderWords t g)
     unfolding placeAt before firsts
     first-here r x s lt q =
-        let size : i + (e - i) ≤ stands t = omega arith in
         let those : List ℕ = eachList (λ r. keep (inRegion g t r) (upTo (stands t))) (upTo r) in
         omega (
           arith,
           firsts-below region r,
           ap length (eachList-same (regionOrder region) (λ r. keep (inRegion g t r) (upTo (stands t))) (upTo r) (λ r h. order-region r)),
           ap length (before-stand r i (omega arith)),
-          region-place (regionOfStand g t) (stands t) regions i (e - i) r size lt x s (ap (keep (inRegion g t r)) (sym run) ∙ q),
+          region-place (regionOfStand g t) (stands t) regions i (e - i) r (omega arith) lt x s (ap (keep (inRegion g t r)) (sym run) ∙ q),
           length-append those (keep (inRegion g t r) (upTo i)),
         )
 
     entry-here : (r : ℕ) → r < regions → occupied t g p r ≡ true → entryAmong region (t .score) (placesAt region i) (span i e) r ≡ entryOf t g p r
     unfolding entryAmong
-    entry-here r lt o = go (keep (inRegion g t r) (under t p)) refl
-      where
-        go : (l : List ℕ) → keep (inRegion g t r) (under t p) ≡ l → entryAmong region (t .score) (placesAt region i) (span i e) r ≡ entryOf t g p r
-        go [] q = absurd (false≢true (sym (ap (λ (l : List ℕ). not (isEmpty l)) q) ∙ o))
-        go (x ∷ s) q =
-            let first : at (placesAt region i) r ≡ positionIn (firstOf (keep (inRegion g t r) (under t p))) (orderWords t g) =
-            place-at region i r (omega (arith, regions-are)) ∙ first-here r x s lt q ∙ ap (λ (l : List ℕ). positionIn (firstOf l) (orderWords t g)) (sym q) in
-            rw (stands-here r, first)
+    entry-here r lt o =
+        let some = first-rest (keep (inRegion g t r) (under t p)) (not-true _ o) in
+        rw (stands-here r, place-at region i r (omega (arith, regions-are)), first-here r (firstOf (keep (inRegion g t r) (under t p))) _ lt (some .0))
 
     pub entries-here : entriesAmong region (t .score) (placesAt region i) (span i e) ≡ entriesOf t g p
     unfolding entriesAmong
     entries-here =
-        let entry = entryAmong region (t .score) (placesAt region i) (span i e) in
-        ap (sortBy ahead)
-        (ap (each entry) regions-here
-        ∙ each-same entry (entryOf t g p) (regionsUnder t g p)
-        (λ r u. let k = keep-in (occupied t g p) (upTo regions) r u in entry-here r (omega (arith, in-from 0 regions r (k .0))) (k .1)))
+        rw regions-here
+        (ap (sortBy ahead) (each-same _ (entryOf t g p) (regionsUnder t g p) (λ r u. let k = keep-in (occupied t g p) (upTo regions) r u in entry-here r (omega (arith, in-from 0 regions r (k .0))) (k .1))))

@@ -1,6 +1,5 @@
 -- A table's columns by place; where a node's stands end, its number, what its regions hold; and the words of it all.
 pub mod ByStand
-pub mod Filling
 pub mod Blocks
 pub mod Numbers
 pub mod Held

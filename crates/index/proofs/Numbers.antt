@@ -1,20 +1,19 @@
 -- A node's number, its stands, its parent, its last byte and the end of its subtree: by the columns they are the definitions'.
 -- Assumes nothing.
 use mathlib.Core.Path.{_≡_, refl, sym, ap, _∙_}
-use mathlib.Core.Logic.{_⊎_, inl, inr}
+use mathlib.Core.Logic.{⊎-elim}
 use mathlib.Core.Bool.{false}
 use mathlib.Core.List.{List, []}
 use Prim.Native.Nat.{ℕ, zero, suc, _+_, _-_, _≤_, _<_}
 use native.Mathlib.Omega.{arith}
 use native.Mathlib.Numerals.{add-one}
+use native.Mathlib.Nat.{add-zero}
 use lib.Dec.{eqb}
 use lib.ListN.{length, take}
 use borrow.Author.Tests.{lt-ltb, le-ltb, ne-eqb}
-use Rattle.base.specs.Lists.{fromOn, upTo, each, total, firstOf}
+use Rattle.base.specs.Lists.{upTo, firstOf}
 use Rattle.base.proofs.Tests.{le-or-lt}
-use Rattle.base.proofs.Members.{each-append}
 use Rattle.base.proofs.Runs.{length-from}
-use Rattle.base.proofs.Sums.{total-append}
 use Rattle.base.proofs.Begins.{shared-le, shared-le-other, sharedLength-take}
 use Rattle.rules.specs.declared.Grid.{Grid}
 use Rattle.rules.specs.Tables.{Table, stands, nameOf, LawfulTable}
@@ -24,80 +23,59 @@ use Rattle.meaning.specs.Adding as added
 use Rattle.meaning.specs.Adding.{sharedAt}
 use Rattle.meaning.proofs.Tables.{under-all, under-run, past-root}
 use Rattle.meaning.proofs.Adding.{nodes-step, nodes-all, node-number, first-stand, past-stand, past-node, last-take, but-last-take}
-use Rattle.node.specs.Columns.{at, endOf, span, growth, grownOf}
+use Rattle.node.specs.Columns.{at, endOf, span, grownOf}
 use Rattle.node.specs.Visits.{grownBefore, numberAt}
 use Rattle.node.specs.Rows.{lastOf, parentOf, pastNumber}
-use Rattle.node.proofs.Ends.{upTo-part, grown-last}
+use Rattle.node.proofs.Ends.{span-none, grown-last}
 use Rattle.index.specs.Columns.{lengthsOf, sharedOf}
 use Rattle.index.proofs.ByStand.{shared-length, lengths-at, shared-at, name-byte, columns-lawful}
 use Rattle.index.proofs.Blocks.{Block, block, end-all}
-
--- ---- how many nodes stands make
-
-grown-none : (lengths shared : List ℕ) → grownOf lengths shared 0 0 ≡ 0
-unfolding grownOf
-grown-none lengths shared = refl
-
-span-all : (e : ℕ) → span 0 e ≡ upTo e
-span-all e = let z : e - 0 ≡ e = omega arith in ap (fromOn 0) z
-
-grown-add : (lengths shared : List ℕ) (i e : ℕ) → i ≤ e → grownOf lengths shared 0 e ≡ grownOf lengths shared 0 i + grownOf lengths shared i e
-unfolding grownOf
-grown-add lengths shared i e h =
-    let f = growth lengths shared in
-    rw (span-all e, span-all i)
-    (ap (λ (l : List ℕ). total (each f l)) (upTo-part i e h) ∙ ap total (each-append f (upTo i) (span i e)) ∙ total-append (each f (upTo i)) (each f (span i e)))
 
 number-root : (t : Table) → numberIn [] (beginnings t) ≡ 0
 unfolding beginnings
 number-root t = refl
 
 module _ (t : Table) (g : Grid) (l : LawfulTable t g) where
-  -- before stand e
-  nodes-same : (e : ℕ) → e ≤ stands t → added.nodesBefore t e ≡ grownBefore (lengthsOf t) (sharedOf t) e
-  nodes-same zero h = omega (arith, grown-none (lengthsOf t) (sharedOf t))
-  nodes-same (suc e) h =
-      omega (
-        arith,
-        nodes-step t e,
-        nodes-same e (omega arith),
-        grown-last (lengthsOf t) (sharedOf t) 0 e (omega arith),
-        ap (grownOf (lengthsOf t) (sharedOf t) 0) (add-one e),
-        lengths-at t e h,
-        shared-at t e h,
-      )
+  -- ---- how many nodes stands make
 
-  -- before e are those before i and those of i to e - 1
+  -- before i + d are those before i and those of the d stands from i on
+  nodes-from : (i d : ℕ) → i + d ≤ stands t → added.nodesBefore t (i + d) ≡ added.nodesBefore t i + grownOf (lengthsOf t) (sharedOf t) i (i + d)
+  unfolding grownOf
+  nodes-from i zero h = rw (add-zero i, span-none i) (omega arith)
+  nodes-from i (suc d) h =
+      let n = i + d in
+      let e : i + suc d ≡ suc n = omega arith in
+      rw (e, ← add-one n)
+      (omega (arith, nodes-step t n, ap (added.nodesBefore t) (add-one n), nodes-from i d (omega arith), grown-last (lengthsOf t) (sharedOf t) i n (omega arith), lengths-at t n (omega arith), shared-at t n (omega arith)))
+
   nodes-add : (i e : ℕ) → i ≤ e → e ≤ stands t → added.nodesBefore t e ≡ added.nodesBefore t i + grownOf (lengthsOf t) (sharedOf t) i e
-  nodes-add i e h k = omega (arith, nodes-same i (omega arith), nodes-same e k, grown-add (lengthsOf t) (sharedOf t) i e h)
+  nodes-add i e h k = let q : i + (e - i) ≡ e = omega arith in rw q at (nodes-from i (e - i) (omega arith))
+
+  nodes-same : (e : ℕ) → e ≤ stands t → added.nodesBefore t e ≡ grownBefore (lengthsOf t) (sharedOf t) e
+  nodes-same e h = omega (arith, nodes-add 0 e (omega arith) h)
 
   -- ---- numbers
 
   number-same : (i k : ℕ) → i < stands t → k ≤ length (nameOf t i) → numberAt (lengthsOf t) (sharedOf t) i k ≡ numberIn (take k (nameOf t i)) (beginnings t)
   number-same zero zero h u = sym (number-root t)
   number-same zero (suc k) h u = sym (node-number t (l .ordered) 0 (suc k) h (omega arith) u ∙ omega arith)
-  number-same (suc i) k h u = step (number-same i k (omega arith)) (le-or-lt k (at (sharedOf t) (suc i)))
-    where
-      step : (k ≤ length (nameOf t i) → numberAt (lengthsOf t) (sharedOf t) i k ≡ numberIn (take k (nameOf t i)) (beginnings t))
-          → (k ≤ at (sharedOf t) (suc i)) ⊎ (at (sharedOf t) (suc i) < k)
-          → numberAt (lengthsOf t) (sharedOf t) (suc i) k ≡ numberIn (take k (nameOf t (suc i))) (beginnings t)
-      step r (inl q) =
-          let c : k ≤ sharedAt t (suc i) = omega (arith, shared-at t (suc i) h) in
-          rw (le-ltb (at (sharedOf t) (suc i)) k q)
-          (r (omega (arith, shared-le (nameOf t i) (nameOf t (suc i))))
-          ∙ ap (λ (p : List ℕ). numberIn p (beginnings t)) (sharedLength-take (nameOf t i) (nameOf t (suc i)) k c))
-      step r (inr q) =
-          let n = node-number t (l .ordered) (suc i) k h (omega (arith, shared-at t (suc i) h)) u in
-          rw (lt-ltb (at (sharedOf t) (suc i)) k q) (omega (arith, n, nodes-same (suc i) (omega arith), shared-at t (suc i) h))
+  number-same (suc i) k h u =
+      let c = shared-at t (suc i) h in
+      ⊎-elim
+      (λ (q : k ≤ at (sharedOf t) (suc i)).
+      rw (le-ltb (at (sharedOf t) (suc i)) k q, ← sharedLength-take (nameOf t i) (nameOf t (suc i)) k (omega arith))
+      (number-same i k (omega arith) (omega (arith, shared-le (nameOf t i) (nameOf t (suc i))))))
+      (λ (q : at (sharedOf t) (suc i) < k).
+      rw (lt-ltb (at (sharedOf t) (suc i)) k q) (omega (arith, node-number t (l .ordered) (suc i) k h (omega arith) u, nodes-same (suc i) (omega arith))))
+      (le-or-lt k (at (sharedOf t) (suc i)))
 
   -- ---- the stands under the node of stand i's first k bytes
 
   module _ (i k : ℕ) (h : i < stands t) (u : k ≤ length (nameOf t i)) where
-    e : ℕ
+    abbrev e : ℕ
     e = endOf (sharedOf t) i k
 
     b : Block (sharedOf t) i k e
-    unfolding e
     b = block (sharedOf t) i k (omega (arith, shared-length t))
 
     -- all in the block begin alike
@@ -111,47 +89,17 @@ module _ (t : Table) (g : Grid) (l : LawfulTable t g) where
         rw s
         (sym (sharedLength-take (nameOf t (i + d)) (nameOf t (suc (i + d))) k c) ∙ r .0, omega (arith, shared-le-other (nameOf t (i + d)) (nameOf t (suc (i + d)))))
 
-    -- the last of them
-    record Last : Type 0 where
-      pub number : ℕ
-      pub full : suc number ≡ e
-      pub stand : number < stands t
-      pub same : take k (nameOf t number) ≡ take k (nameOf t i)
-      pub long : k ≤ length (nameOf t number)
-      pub next : suc number < stands t → sharedAt t (suc number) < k
-
-    last : Last
-    last =
+    -- where they end, and where the node's subtree does: past the last of them
+    ends : (firstOf (under t (take k (nameOf t i))) + length (under t (take k (nameOf t i))) ≡ e)
+        × (pastOf (beginnings t) (numberIn (take k (nameOf t i)) (beginnings t)) ≡ added.nodesBefore t e)
+    ends =
         let n = e - 1 in
         let full : suc n ≡ e = omega (arith, b .after) in
         let q : i + (n - i) ≡ n = omega (arith, b .after) in
         let s = rw q at (alike (n - i) (omega (arith, b .after))) in
-        record {
-          number = n;
-          full = full;
-          stand = omega (arith, b .within, shared-length t);
-          same = s .0;
-          long = s .1;
-          next = λ v. omega (arith, b .stops (omega (arith, shared-length t)), shared-at t e (omega arith), ap (sharedAt t) full);
-        }
-
-    past-is : firstOf (under t (take k (nameOf t i))) + length (under t (take k (nameOf t i))) ≡ endOf (sharedOf t) i k
-    unfolding e
-    past-is =
-        ap (λ (p : List ℕ). firstOf (under t p) + length (under t p)) (sym (last .same))
-        ∙ past-stand t (l .ordered) (last .number) k (last .stand) (last .long) (last .next)
-        ∙ last .full
-
-    past-number-is : pastOf (beginnings t) (numberIn (take k (nameOf t i)) (beginnings t)) ≡ added.nodesBefore t (endOf (sharedOf t) i k)
-    unfolding e
-    past-number-is =
-        ap (λ (p : List ℕ). pastOf (beginnings t) (numberIn p (beginnings t))) (sym (last .same))
-        ∙ past-node t (l .ordered) (l .some) (last .number) k (last .stand) (last .long) (last .next)
-        ∙ ap (added.nodesBefore t) (last .full)
-
-    end-in : (i < endOf (sharedOf t) i k) × (endOf (sharedOf t) i k ≤ stands t)
-    unfolding e
-    end-in = (b .after, omega (arith, b .within, shared-length t))
+        let stand : n < stands t = omega (arith, b .within, shared-length t) in
+        let next : suc n < stands t → sharedAt t (suc n) < k = λ v. omega (arith, b .stops (omega (arith, shared-length t)), shared-at t e (omega arith), ap (sharedAt t) full) in
+        rw (← full, ← s .0) (past-stand t (l .ordered) n k stand (s .1) next, past-node t (l .ordered) (l .some) n k stand (s .1) next)
 
 -- ---- one node: what is reckoned at stand i's first k bytes is what the definitions say of its text p
 
@@ -169,6 +117,7 @@ module _ (t : Table) (g : Grid) (l : LawfulTable t g) where
   pub meant-root : Meant t 0 0 []
   meant-root =
       let e : endOf (sharedOf t) 0 0 ≡ stands t = end-all (sharedOf t) ∙ shared-length t in
+      let z : stands t - 0 ≡ stands t = omega arith in
       let n : length (under t []) ≡ stands t = ap length (under-all t) ∙ length-from 0 (stands t) in
       let f : firstOf (under t []) ≡ 0 = ap firstOf (under-all t) ∙ first-of (stands t) in
       record {
@@ -187,7 +136,7 @@ module _ (t : Table) (g : Grid) (l : LawfulTable t g) where
               number-root t,
               ap (pastOf (beginnings t)) (number-root t),
             );
-        run = under-all t ∙ sym (ap (span 0) e ∙ span-all (stands t));
+        run = rw (under-all t, e, z);
         after = omega arith;
         within = omega (arith, e);
       }
@@ -201,27 +150,26 @@ module _ (t : Table) (g : Grid) (l : LawfulTable t g) where
   meant-new i (suc k) h c u =
       let p : List ℕ = take (suc k) (nameOf t i) in
       let f : firstOf (under t p) ≡ i = first-stand t (l .ordered) i (suc k) h c u in
-      let e : firstOf (under t p) + length (under t p) ≡ endOf (sharedOf t) i (suc k) = past-is t g l i (suc k) h u in
-      let a = end-in t g l i (suc k) h u in
-      let n : length (under t p) ≡ endOf (sharedOf t) i (suc k) - i = omega (arith, e, f) in
+      let e = ends t g l i (suc k) h u in
+      let b = block (sharedOf t) i (suc k) (omega (arith, shared-length t)) in
+      let n : length (under t p) ≡ endOf (sharedOf t) i (suc k) - i = omega (arith, e .0, f) in
+      let inside : endOf (sharedOf t) i (suc k) ≤ stands t = omega (arith, b .within, shared-length t) in
       let x : suc k - 1 ≡ k = omega arith in
       let some : eqb (suc k) 0 ≡ false = ne-eqb (suc k) 0 (λ r. omega arith) in
       record {
-        parent =
-            rw (some, x)
-            (number-same t g l i k h (omega arith) ∙ ap (λ (r : List ℕ). numberIn r (beginnings t)) (sym (but-last-take (nameOf t i) k u)));
+        parent = rw (some, x, but-last-take (nameOf t i) k u) (number-same t g l i k h (omega arith));
         last = rw (some, x) (sym (last-take (nameOf t i) k u ∙ name-byte t g l i k h u));
         first = sym f;
-        past = sym e;
+        past = sym (e .0);
         end =
             omega (
               arith,
               node-number t (l .ordered) i (suc k) h c u,
               shared-at t i h,
-              nodes-add t g l i (endOf (sharedOf t) i (suc k)) (omega arith) (a .1),
-              past-number-is t g l i (suc k) h u,
+              nodes-add t g l i (endOf (sharedOf t) i (suc k)) (omega (arith, b .after)) inside,
+              e .1,
             );
-        run = under-run t (l .ordered) p ∙ ap (λ (m : ℕ). fromOn m (length (under t p))) f ∙ ap (fromOn i) n;
-        after = omega arith;
-        within = a .1;
+        run = under-run t (l .ordered) p ∙ rw (f, n);
+        after = omega (arith, b .after);
+        within = inside;
       }

@@ -4,7 +4,7 @@ use mathlib.Core.Path.{_≡_, sym, ap, _∙_}
 use mathlib.Core.Logic.{_⊎_, inl, inr}
 use mathlib.Core.Bool.{true, false, cond}
 use mathlib.Core.List.{List, _++_}
-use Prim.Native.Nat.{ℕ, _*_, _≤_}
+use Prim.Native.Nat.{ℕ, _*_}
 use native.Mathlib.Omega.{arith}
 use lib.Dec.{eqb}
 use lib.ListN.{length, drop, take-append-drop}
@@ -39,10 +39,7 @@ module _ (t : Table) (g : Grid) (x : Index) where
 
 -- ---- an index that was built
 
--- words stand at the start of a room that they are written to; and what stands there already is not changed by writing it
-written-begins : (words room : List ℕ) → begins words (written words room) ≡ true
-written-begins words room = begins-append words (drop (length words) room)
-
+-- what stands at the start of a room already is not changed by writing it there
 written-again : (words room : List ℕ) → begins words room ≡ true → written words room ≡ room
 written-again words room h =
     ap (λ (w : List ℕ). w ++ drop (length words) room) (begins-is-take words room h) ∙ take-append-drop (length words) room
@@ -58,18 +55,14 @@ module _ (t : Table) (g : Grid) (x : Index) where
     pub entries : e ≡ entryCount t g
     pub buffers : y ≡ writtenAll
 
-  unrefused : buildRefusal t g x ≡ 0 → tableRefusal t g ≡ 0
-  unfolding buildRefusal
-  unrefused e = first-none (tableRefusal t g) (cond (tooSmall t g x) 6 0) e .0
-
   succeeded : (n e : ℕ) (y : Index) → BuildPromise t g x (built.Index n e) y → Succeeded n e y
-  unfolding buildTold indexAfter
+  unfolding buildTold indexAfter buildRefusal
   succeeded n e y p = step (which (eqb (buildRefusal t g x) 0))
     where
       step : (eqb (buildRefusal t g x) 0 ≡ true) ⊎ (eqb (buildRefusal t g x) 0 ≡ false) → Succeeded n e y
       step (inl q) =
           record {
-            table = unrefused (eqb-true (buildRefusal t g x) 0 q);
+            table = first-none (tableRefusal t g) (cond (tooSmall t g x) 6 0) (eqb-true (buildRefusal t g x) 0 q) .0;
             nodes = ap (λ (b : BuildTold). b .nodes) (rw q at (p .told));
             entries = ap (λ (b : BuildTold). b .entries) (rw q at (p .told));
             buffers = rw q at (p .buffers);
@@ -84,7 +77,7 @@ module _ (t : Table) (g : Grid) (x : Index) where
       let has : setLawful t g writtenAll ≡ true =
       every-of _ (
         eq-eqb (tableRefusal t g) 0 (s .table),
-        (written-begins (orderWords t g) (x .order), (written-begins (nodeWords t g) (x .nodes), (written-begins (entryWords t g) (x .entries), tt))),
+        (begins-append (orderWords t g) _, (begins-append (nodeWords t g) _, (begins-append (entryWords t g) _, tt))),
       ) in
       one-checked r (checked.Lawful n e) (c ∙ rw (s .buffers, has, s .nodes, s .entries))
 
@@ -99,15 +92,12 @@ module _ (t : Table) (g : Grid) (x : Index) where
       let nodes : begins (nodeWords t g) (x .nodes) ≡ true = every-at _ 2 h in
       let entries : begins (entryWords t g) (x .entries) ≡ true = every-at _ 3 h in
       let l = lawful t g table in
-      let a : stands t ≤ length (x .order) = omega (arith, begins-length (orderWords t g) (x .order) order, order-means t g l .whole) in
-      let b : 8 * nodeCount t ≤ length (x .nodes) = omega (arith, begins-length (nodeWords t g) (x .nodes) nodes, nodes-length t g) in
-      let c : 4 * entryCount t g ≤ length (x .entries) = omega (arith, begins-length (entryWords t g) (x .entries) entries, entry-words-length t g) in
       let none : buildRefusal t g x ≡ 0 =
       rw (
         table,
-        le-ltb (length (x .order)) (stands t) a,
-        le-ltb (length (x .nodes)) (8 * nodeCount t) b,
-        le-ltb (length (x .entries)) (4 * entryCount t g) c,
+        le-ltb (length (x .order)) (stands t) (omega (arith, begins-length (orderWords t g) (x .order) order, order-means t g l .whole)),
+        le-ltb (length (x .nodes)) (8 * nodeCount t) (omega (arith, begins-length (nodeWords t g) (x .nodes) nodes, nodes-length t g)),
+        le-ltb (length (x .entries)) (4 * entryCount t g) (omega (arith, begins-length (entryWords t g) (x .entries) entries, entry-words-length t g)),
       ) in
       (none, rw (eq-eqb (buildRefusal t g x) 0 none) (rw (written-again (orderWords t g) (x .order) order, written-again (nodeWords t g) (x .nodes) nodes, written-again (entryWords t g) (x .entries) entries)))
 

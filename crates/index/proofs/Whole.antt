@@ -1,13 +1,12 @@
 -- The walk through the nodes meets the beginnings in their order, so the words that it makes are those of the rules.
 -- Assumes nothing.
 use mathlib.Core.Path.{_≡_, refl, sym, ap, _∙_, subst, ap₂}
-use mathlib.Core.Logic.{_⊎_, inl, inr, ⊎-elim}
+use mathlib.Core.Logic.{_⊎_, inl, inr}
 use mathlib.Core.List.{List, [], _∷_, _++_}
-use Prim.Native.Nat.{ℕ, suc, _+_, _-_, _≤_, _<_}
+use Prim.Native.Nat.{ℕ, suc, _+_, _-_, _<_}
 use native.Mathlib.Omega.{arith}
 use lib.ListN.{length, take, drop, getD}
 use Rattle.base.specs.Lists.{fromOn, upTo, each, eachList, total, In}
-use Rattle.base.proofs.Tests.{le-or-lt}
 use Rattle.base.proofs.Members.{length-each, in-each, in-eachList, getD-each, getD-in, each-same, each-each, each-eachList, eachList-each, eachList-same, drop-head}
 use Rattle.base.proofs.Runs.{in-from}
 use Rattle.base.proofs.Sums.{total-suc}
@@ -19,21 +18,17 @@ use Rattle.meaning.proofs.Tree.{number-at}
 use Rattle.meaning.proofs.Tables.{beginnings-tree}
 use Rattle.meaning.proofs.Adding.{new-takes}
 use Rattle.meaning.proofs.Words.{entries-length}
-use Rattle.node.specs.Columns.{IndexColumns, at, endOf, regionsAmong}
-use Rattle.node.specs.Visits.{Visit, visitsAt, newVisits, visitsFrom}
-use Rattle.node.specs.Rows.{standsAt, entriesAt, rowAt, rowOf}
+use Rattle.node.specs.Columns.{IndexColumns, at, endOf}
+use Rattle.node.specs.Visits.{Visit, newVisits}
+use Rattle.node.specs.Rows.{entriesAt, rowAt, rowOf}
 use Rattle.words.specs.Words.{rowsFrom, visitsOf, nodeCountOf, entryCountOf, nodeWordsOf, entryWordsOf}
-use Rattle.node.proofs.Steps.{visits-first, visits-done}
-use Rattle.index.specs.Columns.{lengthsOf, sharedOf, regionsOf, tableColumns}
+use Rattle.words.proofs.Walks.{visits-all, entries-held-at}
+use Rattle.index.specs.Columns.{lengthsOf, sharedOf, tableColumns}
 use Rattle.index.proofs.ByStand.{lengths-length, lengths-at, shared-at, columns-lawful}
 use Rattle.index.proofs.Numbers.{Meant, meant-root, meant-new}
-use Rattle.index.proofs.Held.{bits-here, regions-here, entries-here}
+use Rattle.index.proofs.Held.{bits-here, entries-here}
 
-same8 : (a b c d e f g h a' b' c' d' e' f' g' h' : ℕ) → a ≡ a' → b ≡ b' → c ≡ c' → d ≡ d' → e ≡ e' → f ≡ f' → g ≡ g' → h ≡ h'
-    → a ∷ b ∷ c ∷ d ∷ e ∷ f ∷ g ∷ h ∷ [] ≡ a' ∷ b' ∷ c' ∷ d' ∷ e' ∷ f' ∷ g' ∷ h' ∷ []
-same8 a b c d e f g h a' b' c' d' e' f' g' h' p q r s t u v w = cc
-
-root : Visit
+abbrev root : Visit
 root = record { stand = 0; length = 0 }
 
 module _ (t : Table) (g : Grid) (l : LawfulTable t g) where
@@ -48,42 +43,20 @@ module _ (t : Table) (g : Grid) (l : LawfulTable t g) where
 
   -- ---- the visits are the beginnings
 
-  others : List Visit
-  others = eachList (newVisits (lengthsOf t) (sharedOf t)) (upTo (stands t))
-
-  visits-are : visitsOf C ≡ root ∷ others
-  unfolding root others visitsFrom
-  visits-are = visits-first (lengthsOf t) (sharedOf t) 0 0 (omega arith) ∙ ap (λ (v : List Visit). root ∷ v) (⊎-elim none some (le-or-lt (stands t) 0))
-    where
-      none : stands t ≤ 0 → visitsFrom (lengthsOf t) (sharedOf t) 0 1 ≡ others
-      none h =
-          let n : stands t ≡ 0 = omega arith in
-          visits-done (lengthsOf t) (sharedOf t) 0 1 (omega (arith, lengths-length t)) (omega arith)
-          ∙ ap (λ (m : ℕ). eachList (newVisits (lengthsOf t) (sharedOf t)) (upTo m)) (sym n)
-
-      some : 0 < stands t → visitsFrom (lengthsOf t) (sharedOf t) 0 1 ≡ others
-      some h =
-          let n : stands t ≡ suc (length (lengthsOf t) - 1) = omega (arith, lengths-length t) in
-          let f = newVisits (lengthsOf t) (sharedOf t) in
-          ap (λ (k : ℕ). visitsAt (lengthsOf t) 0 (suc k) ++ eachList f (fromOn 1 (length (lengthsOf t) - 1))) (sym (columns-lawful t g l .grows .first))
-          ∙ ap (λ (m : ℕ). eachList f (upTo m)) (sym n)
+  visits-are : visitsOf C ≡ root ∷ eachList (newVisits (lengthsOf t) (sharedOf t)) (upTo (stands t))
+  visits-are = rw (visits-all (lengthsOf t) (sharedOf t) (columns-lawful t g l .grows), lengths-length t)
 
   new-texts : (i : ℕ) → i < stands t → each textAt (newVisits (lengthsOf t) (sharedOf t) i) ≡ newAt t i
   new-texts i h =
       let c = shared-at t i h in
       let n : suc (at (lengthsOf t) i) - suc (at (sharedOf t) i) ≡ length (nameOf t i) - sharedAt t i = omega (arith, c, lengths-at t i h) in
-      each-each textAt (λ k. record { stand = i; length = k }) (fromOn (suc (at (sharedOf t) i)) (suc (at (lengthsOf t) i) - suc (at (sharedOf t) i)))
-      ∙ ap (λ (m : ℕ). each (λ k. take k (nameOf t i)) (fromOn (suc (at (sharedOf t) i)) m)) n
-      ∙ ap (λ (m : ℕ). each (λ k. take k (nameOf t i)) (fromOn (suc m) (length (nameOf t i) - sharedAt t i))) c
-      ∙ sym (new-takes t i)
+      rw (each-each, n, c) (sym (new-takes t i))
 
   texts : each textAt (visitsOf C) ≡ B
-  unfolding beginnings root others
+  unfolding beginnings
   texts =
-      ap (each textAt) visits-are
-      ∙ ap (λ (r : List (List ℕ)). [] ∷ r)
-      (each-eachList textAt (newVisits (lengthsOf t) (sharedOf t)) (upTo (stands t))
-      ∙ eachList-same (λ i. each textAt (newVisits (lengthsOf t) (sharedOf t) i)) (newAt t) (upTo (stands t)) (λ i u. new-texts i (omega (arith, in-from 0 (stands t) i u))))
+      let new = newVisits (lengthsOf t) (sharedOf t) in
+      rw (visits-are, each-eachList textAt new (upTo (stands t)), eachList-same (λ i. each textAt (new i)) (newAt t) (upTo (stands t)) (λ i u. new-texts i (omega (arith, in-from 0 (stands t) i u))))
 
   pub node-count : nodeCountOf C ≡ nodeCount t
   node-count = sym (length-each textAt (visitsOf C)) ∙ ap length texts
@@ -91,13 +64,9 @@ module _ (t : Table) (g : Grid) (l : LawfulTable t g) where
   -- ---- each visit means its text
 
   meant : (v : Visit) → In v (visitsOf C) → Meant t (v .stand) (v .length) (textAt v)
-  unfolding root others
   meant v u = step (subst (In v) visits-are u)
     where
-      new : (i k : ℕ) → i < stands t → v ≡ record { stand = i; length = k } → sharedAt t i < k → k ≤ length (nameOf t i) → Meant t (v .stand) (v .length) (textAt v)
-      new i k h e a b = rw e (meant-new t g l i k h a b)
-
-      step : (v ≡ root) ⊎ In v others → Meant t (v .stand) (v .length) (textAt v)
+      step : (v ≡ root) ⊎ In v (eachList (newVisits (lengthsOf t) (sharedOf t)) (upTo (stands t))) → Meant t (v .stand) (v .length) (textAt v)
       step (inl e) = rw e (meant-root t g l)
       step (inr w) =
           let s = in-eachList (newVisits (lengthsOf t) (sharedOf t)) (upTo (stands t)) v w in
@@ -105,33 +74,19 @@ module _ (t : Table) (g : Grid) (l : LawfulTable t g) where
           let h : i < stands t = omega (arith, in-from 0 (stands t) i (s .1)) in
           let r = in-each (λ k. record { stand = i; length = k }) (fromOn (suc (at (sharedOf t) i)) (suc (at (lengthsOf t) i) - suc (at (sharedOf t) i))) v (s .2) in
           let b = in-from (suc (at (sharedOf t) i)) (suc (at (lengthsOf t) i) - suc (at (sharedOf t) i)) (r .0) (r .1) in
-          new i (r .0) h (r .2) (omega (arith, shared-at t i h)) (omega (arith, lengths-at t i h))
+          rw (r .2) (meant-new t g l i (r .0) h (omega (arith, shared-at t i h)) (omega (arith, lengths-at t i h)))
 
   entries-at : (v : Visit) → In v (visitsOf C) → entriesAt C v ≡ entriesOf t g (textAt v)
   unfolding entriesAt
   entries-at v u = let m = meant v u in entries-here g t (textAt v) (v .stand) (endOf (sharedOf t) (v .stand) (v .length)) (m .after) (m .within) (m .run)
 
-  regions-at-node : (v : Visit) → In v (visitsOf C) → length (regionsAmong (regionsOf g t) (standsAt (sharedOf t) v)) ≡ length (entriesOf t g (textAt v))
-  regions-at-node v u =
-      let m = meant v u in
-      ap length (regions-here g t (textAt v) (v .stand) (endOf (sharedOf t) (v .stand) (v .length)) (m .after) (m .within) (m .run))
-      ∙ sym (entries-length t g (textAt v))
-
   -- ---- the entries
 
   pub entry-words : entryWordsOf C ≡ entryWords t g
-  entry-words =
-      eachList-same (λ v. eachList entryRow (entriesAt C v)) (λ v. eachList entryRow (entriesOf t g (textAt v))) (visitsOf C) (λ v u. ap (eachList entryRow) (entries-at v u))
-      ∙ sym (eachList-each (λ p. eachList entryRow (entriesOf t g p)) textAt (visitsOf C))
-      ∙ ap (eachList (λ p. eachList entryRow (entriesOf t g p))) texts
+  entry-words = rw (← texts, eachList-each) (eachList-same _ _ (visitsOf C) (λ v u. ap (eachList entryRow) (entries-at v u)))
 
   pub entry-count : entryCountOf C ≡ entryCount t g
-  entry-count =
-      let many : List ℕ → ℕ = λ p. length (entriesOf t g p) in
-      ap total
-      (each-same (λ v. length (regionsAmong (regionsOf g t) (standsAt (sharedOf t) v))) (λ v. many (textAt v)) (visitsOf C) regions-at-node
-      ∙ sym (each-each many textAt (visitsOf C))
-      ∙ ap (each many) texts)
+  entry-count = rw (← texts, each-each) (ap total (each-same _ _ (visitsOf C) (λ v u. sym (entries-held-at C v) ∙ ap length (entries-at v u))))
 
   -- ---- the nodes
 
@@ -143,33 +98,28 @@ module _ (t : Table) (g : Grid) (l : LawfulTable t g) where
   unfolding rowAt counted
   row-at v j u h e =
       let m = meant v u in
-      let p = textAt v in
-      let i = v .stand in
-      let past = endOf (sharedOf t) (v .stand) (v .length) in
-      let number : numberIn p B ≡ j = ap (λ (q : List ℕ). numberIn q B) (sym e) ∙ number-at B (beginnings-tree t (l .ordered) .sorted) j h in
-      rw e
-      (same8 _ _ _ _ _ _ _ _ _ _ _ _ _ _ _ _
-      (m .parent) (m .last) (m .first) (m .past) (rw (number, e) at (m .end))
-      (bits-here g t p i past (m .after) (m .within) (m .run) 0) (bits-here g t p i past (m .after) (m .within) (m .run) 32) refl)
+      let number : numberIn (textAt v) B ≡ j = ap (λ (q : List ℕ). numberIn q B) (sym e) ∙ number-at B (beginnings-tree t (l .ordered) .sorted) j h in
+      let bits = bits-here g t (textAt v) (v .stand) (endOf (sharedOf t) (v .stand) (v .length)) (m .after) (m .within) (m .run) in
+      let end = rw (number, e) at (m .end) in
+      rw e (cc (bits 0, bits 32))
 
-  rows-from : (j n : ℕ) (vs : List Visit) → drop j (visitsOf C) ≡ vs → n ≡ counted j → rowsFrom C j n vs ≡ eachList (nodeRow t g) (fromOn j (length vs))
+  rows-from : (j : ℕ) (vs : List Visit) → drop j (visitsOf C) ≡ vs → rowsFrom C j (counted j) vs ≡ eachList (nodeRow t g) (fromOn j (length vs))
   unfolding counted
-  rows-from j n [] e q = refl
-  rows-from j n (v ∷ vs) e q =
+  rows-from j [] e = refl
+  rows-from j (v ∷ vs) e =
       let d = drop-head root v (visitsOf C) vs j e in
       let there : In v (visitsOf C) = subst (λ (x : Visit). In x (visitsOf C)) (d .1) (getD-in root (visitsOf C) j (d .0)) in
       let text : getD B j [] ≡ textAt v = ap (λ (b : List (List ℕ)). getD b j []) (sym texts) ∙ getD-each textAt (visitsOf C) j root [] (d .0) ∙ ap textAt (d .1) in
       let h : j < length B = omega (arith, node-count) in
-      let more : n + length (entriesAt C v) ≡ counted (suc j) =
+      let more : counted j + length (entriesAt C v) ≡ counted (suc j) =
       omega (
         arith,
         ap length (entries-at v there) ∙ entries-length t g (textAt v),
         total-suc (λ q. length (regionsUnder t g q)) [] B j h,
         ap (λ (p : List ℕ). length (regionsUnder t g p)) text,
       ) in
-      ap (λ (k : ℕ). rowOf C j k v ++ rowsFrom C (suc j) (n + length (entriesAt C v)) vs) q
-      ∙ ap₂ (λ (a b : List ℕ). a ++ b) (row-at v j there h text) (rows-from (suc j) (n + length (entriesAt C v)) vs (d .2) more)
+      rw more (ap₂ _++_ (row-at v j there h text) (rows-from (suc j) vs (d .2)))
 
   pub node-words : nodeWordsOf C ≡ nodeWords t g
   unfolding counted
-  node-words = rows-from 0 0 (visitsOf C) refl refl ∙ ap (λ (n : ℕ). eachList (nodeRow t g) (upTo n)) node-count
+  node-words = rows-from 0 (visitsOf C) refl ∙ ap (λ (n : ℕ). eachList (nodeRow t g) (upTo n)) node-count

@@ -1,37 +1,41 @@
 -- The loops over the nodes: the cursor on its way, and what counting, writing and checking have done so far.
 -- Assumes nothing.
 use mathlib.Core.Path.{_≡_, refl, sym, ap, _∙_}
-use mathlib.Core.Logic.{⊎-elim}
-use mathlib.Core.List.{List, [], _∷_, _++_}
+use mathlib.Core.List.{List, [], _∷_}
 use Prim.Native.Nat.{ℕ, suc, _+_, _-_, _*_, _≤_, _<_}
 use native.Mathlib.Omega.{arith}
-use lib.ListN.{length, length-append, drop-of-length-le, List·getD-eq-default}
+use borrow.Author.Needs.{needs}
+use native.Mathlib.Nat.{lt-of-not-le}
+use lib.ListN.{length, length-append, drop-of-length-le}
 use lib.Count.{ones}
-use Rattle.base.specs.Lists.{fromOn, upTo, each, eachList, total}
+use Rattle.base.specs.Lists.{fromOn, upTo, eachList}
 use Rattle.rules.specs.Places.{regions}
-use Rattle.base.proofs.Tests.{le-or-lt}
 use Rattle.base.proofs.Members.{length-each, length-keep, each-same}
 use Rattle.base.proofs.Runs.{length-from}
+use Rattle.base.proofs.Rows.{length-parts}
 use Rattle.base.proofs.Words.{ones-word}
 use Rattle.node.specs.declared.cursor.Cursor.{Cursor}
-use Rattle.node.specs.Columns.{IndexColumns, LawfulColumns, Grows, at, span, growth, grownOf, heldAmong, regionsAmong, bitsAmong}
-use Rattle.node.specs.Visits.{Visit, visitsAt, newVisits, visitsFrom, rootCursor, placesAt, On, Ways, Stepped}
+use Rattle.node.specs.Columns.{IndexColumns, LawfulColumns, Grows, at, growth, grownOf, heldAmong, regionsAmong, bitsAmong}
+use Rattle.node.specs.Visits.{Visit, newVisits, visitsFrom, rootCursor, placesAt, On, Ways, Stepped}
 use Rattle.node.specs.Rows.{standsAt, entriesAt, rowAt, rowOf}
 use Rattle.node.proofs.Ends.{grown-small}
 use Rattle.node.proofs.Placing.{regions-are}
 use Rattle.node.proofs.Gathering.{entries-held}
 use Rattle.node.proofs.Steps.{visits-first, visits-done}
 use Rattle.words.specs.Words.{entryRows, rowsFrom, entryWordsFrom, countFrom, nodeCountOf, visitOf, Work, Scratch, Standing, Moved}
-use Rattle.words.proofs.Overs.{length-rows}
+use Rattle.words.proofs.Overs.{Next, length-rows}
 
 abbrev pub restOf : List ℕ → List ℕ → Cursor → List Visit
 restOf lengths shared c = visitsFrom lengths shared (c .stand .0) (c .length)
 
--- ---- how many nodes
+-- ---- which nodes, and how many
 
-length-eachList : {A B : Type 0} (f : A → List B) (l : List A) → length (eachList f l) ≡ total (each (λ x. length (f x)) l)
-length-eachList f [] = refl
-length-eachList f (x ∷ l) = length-append (f x) (eachList f l) ∙ ap (λ (k : ℕ). length (f x) + k) (length-eachList f l)
+-- the root, and of each stand those that the one before has not
+pub visits-all : (lengths shared : List ℕ) → Grows lengths shared
+    → visitsFrom lengths shared 0 0 ≡ record { stand = 0; length = 0 } ∷ eachList (newVisits lengths shared) (upTo (length lengths))
+unfolding visitsFrom
+visits-all [] shared g = refl
+visits-all (n ∷ ns) shared g = let e : suc (length ns) - 1 ≡ length ns = omega arith in visits-first (n ∷ ns) shared 0 0 (omega arith) ∙ rw (e, g .first)
 
 module _ (lengths shared : List ℕ) (g : Grows lengths shared) where
   new-count : (k : ℕ) → length (newVisits lengths shared k) ≡ growth lengths shared k
@@ -39,35 +43,11 @@ module _ (lengths shared : List ℕ) (g : Grows lengths shared) where
       length-each _ (fromOn (suc (at shared k)) (suc (at lengths k) - suc (at shared k))) ∙ length-from (suc (at shared k)) (suc (at lengths k) - suc (at shared k)) ∙ omega arith
 
   pub node-count : length (visitsFrom lengths shared 0 0) ≡ grownOf lengths shared 0 (length lengths) + 1
-  unfolding visitsFrom grownOf
+  unfolding grownOf
   node-count =
-      length-append (visitsAt lengths 0 0) (eachList (newVisits lengths shared) (fromOn 1 (length lengths - 1)))
-      ∙ ⊎-elim none some (le-or-lt (length lengths) 0)
-    where
-      first : length (visitsAt lengths 0 0) ≡ suc (at lengths 0)
-      first = length-each _ (fromOn 0 (suc (at lengths 0) - 0)) ∙ length-from 0 (suc (at lengths 0) - 0) ∙ omega arith
-
-      rest : length (eachList (newVisits lengths shared) (fromOn 1 (length lengths - 1))) ≡ total (each (growth lengths shared) (fromOn 1 (length lengths - 1)))
-      rest =
-          length-eachList (newVisits lengths shared) (fromOn 1 (length lengths - 1))
-          ∙ ap total (each-same (λ k. length (newVisits lengths shared k)) (growth lengths shared) (fromOn 1 (length lengths - 1)) (λ x k. new-count x))
-
-      some : 0 < length lengths
-          → length (visitsAt lengths 0 0) + length (eachList (newVisits lengths shared) (fromOn 1 (length lengths - 1))) ≡ total (each (growth lengths shared) (span 0 (length lengths))) + 1
-      some h =
-          let n : length lengths - 0 ≡ suc (length lengths - 1) = omega arith in
-          let s : total (each (growth lengths shared) (span 0 (length lengths))) ≡ growth lengths shared 0 + total (each (growth lengths shared) (fromOn 1 (length lengths - 1))) = rw n in
-          omega (arith, first, rest, s, g .first)
-
-      none : length lengths ≤ 0
-          → length (visitsAt lengths 0 0) + length (eachList (newVisits lengths shared) (fromOn 1 (length lengths - 1))) ≡ total (each (growth lengths shared) (span 0 (length lengths))) + 1
-      none h =
-          let n : length lengths - 0 ≡ 0 = omega arith in
-          let m : length lengths - 1 ≡ 0 = omega arith in
-          let s : total (each (growth lengths shared) (span 0 (length lengths))) ≡ 0 = rw n in
-          let u : total (each (growth lengths shared) (fromOn 1 (length lengths - 1))) ≡ 0 = rw m in
-          let y : at lengths 0 ≡ 0 = List·getD-eq-default lengths 0 h in
-          omega (arith, first, rest, s, u, y)
+      let z : length lengths - 0 ≡ length lengths = omega arith in
+      let new = newVisits lengths shared in
+      rw (visits-all lengths shared g, z, length-parts new (upTo (length lengths)), each-same (λ k. length (new k)) (growth lengths shared) (upTo (length lengths)) (λ k u. new-count k)) (omega arith)
 
   -- 24 for each stand, and the root
   pub nodes-few : length (visitsFrom lengths shared 0 0) ≤ 24577
@@ -78,11 +58,7 @@ module _ (lengths shared : List ℕ) (g : Grows lengths shared) where
 held-few : (region s : List ℕ) → length (regionsAmong region s) ≤ 64
 held-few region s = omega (arith, length-keep (heldAmong region s) (upTo regions), length-from 0 regions, regions-are)
 
-pub ones-held : (region s : List ℕ) → ones (bitsAmong region s) ≡ length (regionsAmong region s)
-unfolding regions
-ones-held region s = ones-word (heldAmong region s) 0 64
-
-entries-held-at : (t : IndexColumns) (v : Visit) → length (entriesAt t v) ≡ length (regionsAmong (t .region) (standsAt (t .shared) v))
+pub entries-held-at : (t : IndexColumns) (v : Visit) → length (entriesAt t v) ≡ length (regionsAmong (t .region) (standsAt (t .shared) v))
 unfolding entriesAt
 entries-held-at t v = entries-held (t .region) (t .score) (placesAt (t .region) (v .stand)) (standsAt (t .shared) v)
 
@@ -97,14 +73,7 @@ pub record Going (lengths shared : List ℕ) (all : ℕ) (c : Cursor) : Type 0 w
 module _ {lengths shared : List ℕ} {all : ℕ} where
   going : {c : Cursor} → c ≡ rootCursor → Grows lengths shared → all ≡ length (visitsFrom lengths shared 0 0) → Going lengths shared all c
   unfolding grownOf
-  going r g e =
-      rw r
-      record {
-        left = omega arith;
-        few = omega (arith, nodes-few lengths shared g);
-        low = omega arith;
-        on = λ h. record { within = omega arith; long = omega arith; new = λ u. absurd (omega arith); count = omega (arith, g .first) };
-      }
+  going r g e = let few = nodes-few lengths shared g in rw r (search needs)
 
   module _ {c : Cursor} (s : Going lengths shared all c) (lt : c .number .0 < all) where
     pub going-first : restOf lengths shared c ≡ visitOf c ∷ visitsFrom lengths shared (c .stand .0) (suc (c .length))
@@ -119,11 +88,7 @@ module _ {lengths shared : List ℕ} {all : ℕ} where
 
       -- a cursor with nodes before it stands at one
       inside : r .number .0 < all → r .stand .0 < length lengths
-      inside h =
-          ⊎-elim
-          (λ (q : length lengths ≤ r .stand .0). absurd (omega (arith, left-more, ap length (visits-done lengths shared (r .stand .0) (r .length) q (p .some)))))
-          (λ (q : r .stand .0 < length lengths). q)
-          (le-or-lt (length lengths) (r .stand .0))
+      inside h = lt-of-not-le (λ q. omega (arith, left-more, ap length (visits-done lengths shared (r .stand .0) (r .length) q (p .some))))
 
       going-more : held ≤ 64 → Going lengths shared all r
       going-more h = record { left = left-more; few = s .few; low = omega (arith, p .number, p .entries, s .low); on = λ l. p .on (inside l) }
@@ -144,7 +109,8 @@ module _ {lengths shared region : List ℕ} {all : ℕ} where
   module _ {c : Cursor} (s : Counting lengths shared region all c) where
     module _ (lt : c .number .0 < all) {bits : ℕ} (e : bits ≡ bitsAmong region (standsAt shared (visitOf c))) where
       held-is : ones bits ≡ length (regionsAmong region (standsAt shared (visitOf c)))
-      held-is = ap ones e ∙ ones-held region (standsAt shared (visitOf c))
+      unfolding regions
+      held-is = ap ones e ∙ ones-word (heldAmong region (standsAt shared (visitOf c))) 0 64
 
       pub counting-fits : c .entries + ones bits < 4294967296
       counting-fits = omega (arith, held-is, held-few region (standsAt shared (visitOf c)), s .way .low, s .way .few)
@@ -158,6 +124,10 @@ module _ {lengths shared region : List ℕ} {all : ℕ} where
 
     pub counting-end : all ≤ c .number .0 → c .entries ≡ countFrom shared region (visitsFrom lengths shared 0 0)
     counting-end h = omega (arith, s .so-far, ap (countFrom shared region) (going-end (s .way) h))
+
+pub length-row : (t : IndexColumns) (j n : ℕ) (v : Visit) → length (rowOf t j n v) ≡ 8
+unfolding rowAt
+length-row t j n v = refl
 
 -- ---- with what is lent beside the cursor
 
@@ -176,25 +146,20 @@ module _ {t : IndexColumns} {all : ℕ} {c : Cursor} {w : Work} where
     pub standing : Standing t c w
     standing = record { on = s .way .on lt; low = omega (arith, s .way .few); few = s .way .low; next-is = s .next-is; ways = s .ways lt; scratch = s .scratch }
 
+    -- the node's words are the first of those that are left
+    pub rows-first : Next (rowsFrom t (c .number .0) (c .entries) (restOf (t .lengths) (t .shared) c)) (rowOf t (c .number .0) (c .entries) (visitOf c))
+        (rowsFrom t (suc (c .number .0)) (c .entries + length (entriesAt t (visitOf c))) (visitsFrom (t .lengths) (t .shared) (c .stand .0) (suc (c .length))))
+    rows-first = record { is = ap (rowsFrom t (c .number .0) (c .entries)) (going-first (s .way) lt) }
+
+    pub entries-first : Next (entryWordsFrom t (restOf (t .lengths) (t .shared) c)) (entryRows (entriesAt t (visitOf c)))
+        (entryWordsFrom t (visitsFrom (t .lengths) (t .shared) (c .stand .0) (suc (c .length))))
+    entries-first = record { is = ap (entryWordsFrom t) (going-first (s .way) lt) }
+
     entries-few : length (entriesAt t (visitOf c)) ≤ 64
     entries-few = omega (arith, entries-held-at t (visitOf c), held-few (t .region) (standsAt (t .shared) (visitOf c)))
 
-    module _ {r : Cursor} {w′ : Work} (m : Moved t c r w′) where
-      pub carrying-more : Carrying t all r w′
-      carrying-more = record { way = going-more (s .way) lt (m .stepped) entries-few; next-is = m .next-is; ways = λ h. m .ways (inside (s .way) lt (m .stepped) h); scratch = m .scratch }
-
-      -- the node's words, and those of the nodes after it
-      pub rows-next : rowsFrom t (c .number .0) (c .entries) (restOf (t .lengths) (t .shared) c) ≡ rowOf t (c .number .0) (c .entries) (visitOf c) ++ rowsFrom t (r .number .0) (r .entries) (restOf (t .lengths) (t .shared) r)
-      rows-next =
-          ap (rowsFrom t (c .number .0) (c .entries)) (going-rest (s .way) lt (m .stepped))
-          ∙ rw (← m .stepped .number, ← m .stepped .entries)
-
-      pub entries-next : entryWordsFrom t (restOf (t .lengths) (t .shared) c) ≡ entryRows (entriesAt t (visitOf c)) ++ entryWordsFrom t (restOf (t .lengths) (t .shared) r)
-      entries-next = ap (entryWordsFrom t) (going-rest (s .way) lt (m .stepped))
-
-pub length-row : (t : IndexColumns) (j n : ℕ) (v : Visit) → length (rowOf t j n v) ≡ 8
-unfolding rowAt
-length-row t j n v = refl
+    pub carrying-more : {r : Cursor} {w′ : Work} → Moved t c r w′ → Carrying t all r w′
+    carrying-more m = record { way = going-more (s .way) lt (m .stepped) entries-few; next-is = m .next-is; ways = λ h. m .ways (inside (s .way) lt (m .stepped) h); scratch = m .scratch }
 
 pub entries-length : (t : IndexColumns) (vs : List Visit) → length (entryWordsFrom t vs) ≡ countFrom (t .shared) (t .region) vs * 4
 entries-length t [] = refl

@@ -1,85 +1,71 @@
 -- `check` says no for a table that is refused; else it compares the buffers with what the table's columns give.
 -- Assumes nothing.
-use mathlib.Core.Path.{_≡_, sym, ap, _∙_}
-use lib.ListN.{take}
+use mathlib.Core.Path.{sym, ap, _∙_}
 use borrow.Author.Needs.{needs}
 use Rattle.rules.specs.Numbers.{verdictNumber}
-use Rattle.rules.specs.Tables.{Table, tableOf, stands, LawfulTable}
+use Rattle.rules.specs.Tables.{tableOf, LawfulTable}
 use Rattle.rules.proofs.Lawful.{granted}
-use Rattle.node.specs.Columns.{indexColumns}
-use Rattle.index.specs.Columns.{tableColumns}
-use Rattle.index.proofs.ByStand.{spelled, located, front-fits, front-size, columns-are, columns-lawful}
+use Rattle.index.proofs.ByStand.{located, front-size, columns-are, columns-lawful}
 use Rattle.index.proofs.Answers.{refused-checked, compared-checked}
 use Rattle.index.proofs.check.Statement.{statement}
 use Rattle.index.proofs.check.Tie as tie
 
-table-refusal-requires : tie.Need-table-refusal-requires
-table-refusal-requires c κs = search needs
-
-enum-told : tie.Need-enum-told
-enum-told c = search needs
-
-enum-told-2 : tie.Need-enum-told-2
-enum-told-2 c = search needs
-
 returns : tie.Need-returns
 returns c = refused-checked _ _ _ (c .enum-told2 .given .0 .0) (sym (ap verdictNumber (c .enum-told2 .given .1)) ∙ c .before .before .table-refusal .ensures)
 
-abbrev table-of : tie.Start → Table
-table-of s = let a = s .args in tableOf (a .text .now) (a .starts .now) (a .east .now) (a .north .now) (a .score .now)
-
 -- past the refusals
-lawful-here : (c : tie.After-enum-told)
-    → LawfulTable (table-of (c .before .before .before .before .before .before .before .before .before)) (c .before .before .before .before .before .before .before .before .before .args .grid)
+lawful-here : (c : tie.After-enum-told) →
+    let a = c .before .before .before .before .before .before .before .before .before .args in
+    LawfulTable (tableOf (a .text .now) (a .starts .now) (a .east .now) (a .north .now) (a .score .now)) (a .grid)
 lawful-here c = granted _ _ _ (c .before .before .table-refusal .ensures) (c .enum-told .given .1)
 
 lengths-requires : tie.Need-lengths-requires
-lengths-requires c κs = spelled _ _ (lawful-here c)
+lengths-requires c κs = let l = lawful-here c in search needs
 
 shares-requires : tie.Need-shares-requires
-shares-requires c κs = spelled _ _ (lawful-here (c .before))
+shares-requires c κs = let l = lawful-here (c .before) in search needs
 
 regions-requires : tie.Need-regions-requires
 regions-requires c κs = located _ _ (lawful-here (c .before .before))
 
 array-share-prefix-long : tie.Need-array-share-prefix-long
-array-share-prefix-long c = front-fits _ _ (lawful-here (c .before .before .before)) (c .before .before .lengths .result) (search needs)
+array-share-prefix-long c = let l = lawful-here (c .before .before .before) in search needs
 
 slice-aggregate-has-index : tie.Need-slice-aggregate-has-index
 slice-aggregate-has-index c = front-size _ _ (lawful-here (c .before .before .before .before)) (c .before .before .before .lengths .result) (search needs)
 
 array-share-prefix-alike : tie.Need-array-share-prefix-alike
-array-share-prefix-alike c = front-fits _ _ (lawful-here (c .before .before .before .before)) (c .before .before .shares .result) (search needs)
+array-share-prefix-alike c = let l = lawful-here (c .before .before .before .before) in search needs
 
 slice-aggregate-has-index-2 : tie.Need-slice-aggregate-has-index-2
 slice-aggregate-has-index-2 c = front-size _ _ (lawful-here (c .before .before .before .before .before)) (c .before .before .before .shares .result) (search needs)
 
 array-share-prefix-region : tie.Need-array-share-prefix-region
-array-share-prefix-region c = front-fits _ _ (lawful-here (c .before .before .before .before .before)) (c .before .before .regions .result) (search needs)
+array-share-prefix-region c = let l = lawful-here (c .before .before .before .before .before) in search needs
 
 slice-aggregate-has-index-3 : tie.Need-slice-aggregate-has-index-3
 slice-aggregate-has-index-3 c = front-size _ _ (lawful-here (c .before .before .before .before .before .before)) (c .before .before .before .regions .result) (search needs)
 
--- the columns that are lent
-columns-here : (c : tie.After-regions) →
-    let t = table-of (c .before .before .before .before .before .before .before .before .before .before .before .before) in
-    indexColumns (t .text) (t .starts) (take (stands t) (c .before .before .lengths .result)) (take (stands t) (c .before .shares .result)) (take (stands t) (c .regions .result)) (t .score)
-    ≡ tableColumns t (c .before .before .before .before .before .before .before .before .before .before .before .before .args .grid)
-columns-here c = columns-are _ _ (lawful-here (c .before .before .before)) _ _ _ (c .before .before .lengths .ensures) (c .before .shares .ensures) (c .regions .ensures)
-
 has-index-requires : tie.Need-has-index-requires
-has-index-requires c κs = rw (columns-here (c .before .before .before)) (columns-lawful _ _ (lawful-here (c .before .before .before .before .before .before)))
+has-index-requires c κs =
+    let lent = c .before .before .before in
+    let l = lawful-here (lent .before .before .before) in
+    rw (columns-are _ _ l _ (lent .before .before .lengths .ensures) (lent .before .shares .ensures) (lent .regions .ensures)) (columns-lawful _ _ l)
 
 returns-2 : tie.Need-returns-2
-returns-2 c = compared-checked _ _ (lawful-here (c .before .before .before .before .before .before .before)) _ _ (rw (columns-here (c .before .before .before .before)) at (c .has-index .ensures))
+returns-2 c =
+    let lent = c .before .before .before .before in
+    let l = lawful-here (lent .before .before .before) in
+    let columns = columns-are _ _ l _ (lent .before .before .lengths .ensures) (lent .before .shares .ensures) (lent .regions .ensures) in
+    compared-checked _ _ l _ _ (rw columns at (c .has-index .ensures))
 
 pub check-spec : {M : Type 1} → statement M
 check-spec =
     tie.close
     (tie.spec
-    table-refusal-requires
-    enum-told
-    enum-told-2
+    (λ c κs. search needs)
+    (search needs)
+    (search needs)
     returns
     lengths-requires
     shares-requires

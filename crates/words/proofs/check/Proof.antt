@@ -17,12 +17,6 @@ Inv-loop text starts lengths shared region score all nodes entries next₀ path�
 abbrev μ-loop : tie.MeasureT-loop
 μ-loop text starts lengths shared region score all nodes entries next₀ path₀ places₀ best₀ ranked₀ here₀ next path places best ranked here = all - here .number .0
 
-places-of-requires : tie.Need-places-of-requires Inv-loop μ-loop
-places-of-requires c κs = c .before .before .before .before .before .before .before .before .pre .lawful .placed
-
-root-requires : tie.Need-root-requires Inv-loop μ-loop
-root-requires c κs = search needs
-
 loop-holds : tie.Need-loop-holds Inv-loop μ-loop
 loop-holds c =
     let p = c .before .before .before .before .before .before .before .before .before .before .pre in
@@ -32,12 +26,6 @@ check-node-requires : tie.Need-check-node-requires Inv-loop μ-loop
 check-node-requires c κs =
     let p = c .before .before .before .before .before .before .before .before .before .before .before .before .before .before .before .before .before .before .pre in
     record { lawful = p .lawful; standing = standing (c .before .before .before .before .before .before .before .loop .inv .carried) (c .before .before .before .before .before .if1 .taken) }
-
-enum-known-further : tie.Need-enum-known-further Inv-loop μ-loop
-enum-known-further c = search needs
-
-enum-told : tie.Need-enum-told Inv-loop μ-loop
-enum-told c = search needs
 
 returns : tie.Need-returns Inv-loop μ-loop
 returns c = checking-not (c .before .before .before .before .before .before .before .before .before .before .loop .inv) (c .before .before .before .before .before .before .before .before .if1 .taken) (c .before .before .check-node .ensures .different (c .enum-told .given .1))
@@ -59,12 +47,12 @@ check-spec =
     (tie.spec
     Inv-loop
     μ-loop
-    places-of-requires
-    root-requires
+    (λ c κs. search needs)
+    (λ c κs. search needs)
     loop-holds
     check-node-requires
-    enum-known-further
-    enum-told
+    (search needs)
+    (search needs)
     returns
     loop-less
     loop-again

@@ -13,9 +13,6 @@ Inv-loop lengths shared region all cursor₀ cursor = Counting lengths shared re
 abbrev μ-loop : tie.MeasureT-loop
 μ-loop lengths shared region all cursor₀ cursor = all - cursor .number .0
 
-root-requires : tie.Need-root-requires Inv-loop μ-loop
-root-requires c κs = search needs
-
 loop-holds : tie.Need-loop-holds Inv-loop μ-loop
 loop-holds c = counting (c .root .ensures) (c .before .before .before .before .pre .grows) (c .before .before .before .before .pre .count)
 
@@ -33,9 +30,6 @@ step-requires c κs =
       fits = counting-fits s lt (c .regions-under .ensures);
     }
 
-loop-less : tie.Need-loop-less Inv-loop μ-loop
-loop-less c = omega (arith, c .step .ensures .number, c .before .before .if1 .taken)
-
 loop-again : tie.Need-loop-again Inv-loop μ-loop
 loop-again c = counting-more (c .before .before .before .before .loop .inv) (c .before .before .if1 .taken) (c .before .regions-under .ensures) (c .step .ensures)
 
@@ -48,10 +42,10 @@ count-entries-spec =
     (tie.spec
     Inv-loop
     μ-loop
-    root-requires
+    (λ c κs. search needs)
     loop-holds
     regions-under-requires
     step-requires
-    loop-less
+    (search needs)
     loop-again
     returns)

@@ -7,12 +7,6 @@ use Rattle.words.proofs.Walks.{node-count}
 use Rattle.words.proofs.count_nodes.Statement.{statement}
 use Rattle.words.proofs.count_nodes.Tie as tie
 
-cast-t6 : tie.Need-cast-t6
-cast-t6 c = search needs
-
-grown-requires : tie.Need-grown-requires
-grown-requires c κs = search needs
-
 add-result : tie.Need-add-result
 add-result c = omega (arith, c .grown .ensures, grown-small _ _ (c .before .before .before .pre) 0 (length (c .before .before .before .args .lengths .now)) (omega arith))
 
@@ -20,4 +14,4 @@ returns : tie.Need-returns
 returns c = omega (arith, c .grown .ensures, node-count _ _ (c .before .before .before .pre))
 
 pub count-nodes-spec : {M : Type 1} → statement M
-count-nodes-spec = tie.close (tie.spec cast-t6 grown-requires add-result returns)
+count-nodes-spec = tie.close (tie.spec (search needs) (λ c κs. search needs) add-result returns)

@@ -1,12 +1,11 @@
 -- `words::write` meets its contract: the loop's invariant is `Writing`, whose laws are of proofs/Writes.antt. Assumes nothing.
 use borrow.Author.Needs.{needs}
-use native.Mathlib.Omega.{arith}
 use mathlib.Core.Path.{refl}
 use Prim.Native.Nat.{_-_}
 use Rattle.node.specs.Columns.{indexColumns}
 use Rattle.words.specs.Words.{workOf}
 use Rattle.words.proofs.Walks.{carrying, standing}
-use Rattle.words.proofs.Writes.{Writing, writing, writing-nodes, writing-entries, writing-room, writing-more, writing-end}
+use Rattle.words.proofs.Writes.{Writing, writing, writing-room, writing-more, writing-end}
 use Rattle.words.proofs.write.Statement.{statement}
 use Rattle.words.proofs.write.Tie as tie
 
@@ -17,35 +16,20 @@ Inv-loop text starts lengths shared region score all nodes₀ entries₀ next₀
 abbrev μ-loop : tie.MeasureT-loop
 μ-loop text starts lengths shared region score all nodes₀ entries₀ next₀ path₀ places₀ best₀ ranked₀ cursor₀ nodes entries next path places best ranked cursor = all - cursor .number .0
 
-places-of-requires : tie.Need-places-of-requires Inv-loop μ-loop
-places-of-requires c κs = c .before .before .before .before .before .before .before .before .pre .lawful .placed
-
-root-requires : tie.Need-root-requires Inv-loop μ-loop
-root-requires c κs = search needs
-
 loop-holds : tie.Need-loop-holds Inv-loop μ-loop
 loop-holds c =
     let p = c .before .before .before .before .before .before .before .before .before .before .pre in
-    writing (c .root .ensures) (carrying (p .lawful) (c .root .ensures) (p .count) (c .before .places-of .ensures) (record { path-size = refl; places-size = refl; best-size = refl; ranked-size = refl }))
+    writing (c .root .ensures) p (carrying (p .lawful) (c .root .ensures) (p .count) (c .before .places-of .ensures) (record { path-size = refl; places-size = refl; best-size = refl; ranked-size = refl }))
 
 write-node-requires : tie.Need-write-node-requires Inv-loop μ-loop
 write-node-requires c κs =
     let p = c .before .before .before .before .before .before .before .before .before .before .before .before .before .before .before .before .before .before .before .before .pre in
     let s = c .before .before .before .before .before .before .before .before .before .loop .inv in
     let lt = c .before .before .before .before .before .before .before .if1 .taken in
-    record { turn = record { lawful = p .lawful; standing = standing (s .carried) lt }; room = writing-room s lt p }
-
-loop-less : tie.Need-loop-less Inv-loop μ-loop
-loop-less c = omega (arith, c .before .before .before .before .write-node .ensures .moved .stepped .number, c .before .before .before .before .before .before .before .before .before .before .before .before .if1 .taken)
+    record { turn = record { lawful = p .lawful; standing = standing (s .carried) lt }; room = writing-room s lt }
 
 loop-again : tie.Need-loop-again Inv-loop μ-loop
 loop-again c = writing-more (c .before .before .before .before .before .before .before .before .before .before .before .before .before .before .loop .inv) (c .before .before .before .before .before .before .before .before .before .before .before .before .if1 .taken) (c .before .before .before .before .write-node .ensures)
-
-same-length : tie.Need-same-length Inv-loop μ-loop
-same-length c = let p = c .before .before .before .before .before .before .before .before .before .before .before .before .before .pre in writing-nodes (c .before .before .loop .inv) (p .row-room)
-
-same-length-2 : tie.Need-same-length-2 Inv-loop μ-loop
-same-length-2 c = let p = c .before .before .before .before .before .before .before .before .before .before .before .before .before .pre in writing-entries (c .before .before .loop .inv) (p .entry-room)
 
 returns : tie.Need-returns Inv-loop μ-loop
 returns c = writing-end (c .before .before .loop .inv) (c .if1 .left)
@@ -56,12 +40,12 @@ write-spec =
     (tie.spec
     Inv-loop
     μ-loop
-    places-of-requires
-    root-requires
+    (λ c κs. search needs)
+    (λ c κs. search needs)
     loop-holds
     write-node-requires
-    loop-less
+    (search needs)
     loop-again
-    same-length
-    same-length-2
+    (search needs)
+    (search needs)
     returns)

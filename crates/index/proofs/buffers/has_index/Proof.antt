@@ -6,23 +6,11 @@ use borrow.Author.Needs.{needs}
 use Rattle.index.proofs.buffers.has_index.Statement.{statement}
 use Rattle.index.proofs.buffers.has_index.Tie as tie
 
-has-order-requires : tie.Need-has-order-requires
-has-order-requires c κs = search needs
-
 returns : tie.Need-returns
 returns c = other-order _ _ _ (c .before .has-order .ensures) (not-true _ (c .if1 .taken))
 
-count-nodes-requires : tie.Need-count-nodes-requires
-count-nodes-requires c κs = search needs
-
-check-requires : tie.Need-check-requires
-check-requires c κs = search needs
-
 returns-2 : tie.Need-returns-2
 returns-2 c = other-nodes _ _ _ (c .before .before .before .before .has-order .ensures) _ (c .before .check .ensures) (not-false _ (c .before .before .before .if1 .left)) (not-true _ (c .if2 .taken))
-
-count-entries-requires : tie.Need-count-entries-requires
-count-entries-requires c κs = search needs
 
 returns-3 : tie.Need-returns-3
 returns-3 c =
@@ -33,10 +21,10 @@ pub has-index-spec : {M : Type 1} → statement M
 has-index-spec =
     tie.close
     (tie.spec
-    has-order-requires
+    (λ c κs. search needs)
     returns
-    count-nodes-requires
-    check-requires
+    (λ c κs. search needs)
+    (λ c κs. search needs)
     returns-2
-    count-entries-requires
+    (λ c κs. search needs)
     returns-3)

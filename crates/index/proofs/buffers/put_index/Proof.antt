@@ -1,37 +1,22 @@
 -- `buffers::put_index` counts, tests the buffers, and writes: two ways out.
 -- Assumes nothing.
-use Rattle.rules.specs.Indexes.{Index, indexOf}
-use Rattle.node.specs.Columns.{IndexColumns, indexColumns}
+use Rattle.rules.specs.Indexes.{indexOf}
+use Rattle.node.specs.Columns.{indexColumns}
 use Rattle.index.proofs.Answers.{Roomy, no-room, roomy, wrote}
 use borrow.Author.Needs.{needs}
 use Rattle.index.proofs.buffers.put_index.Statement.{statement}
 use Rattle.index.proofs.buffers.put_index.Tie as tie
 
-count-nodes-requires : tie.Need-count-nodes-requires
-count-nodes-requires c κs = search needs
-
-count-entries-requires : tie.Need-count-entries-requires
-count-entries-requires c κs = search needs
-
-too-small-requires : tie.Need-too-small-requires
-too-small-requires c κs = search needs
-
 returns : tie.Need-returns
 returns c = no-room _ _ _ _ (c .before .before .before .count-nodes .ensures) (c .before .before .count-entries .ensures) _ (c .before .too-small .ensures) (c .if1 .taken)
-
-abbrev columns-of : tie.Start → IndexColumns
-columns-of s = let a = s .args in indexColumns (a .text .now) (a .starts .now) (a .lengths .now) (a .shared .now) (a .region .now) (a .score .now)
-
-abbrev buffers-of : tie.Start → Index
-buffers-of s = let a = s .args in indexOf (a .order .now) (a .nodes .now) (a .entries .now)
 
 abbrev start : tie.Else1 → tie.Start
 start c = c .before .before .before .before .before .before .before .before .before .before .before .before .before
 
-room : (c : tie.Else1) → Roomy (columns-of (start c)) (buffers-of (start c))
-room c =
-    roomy (columns-of (start c)) (buffers-of (start c)) _ _
-    (c .before .before .before .count-nodes .ensures) (c .before .before .count-entries .ensures) _ (c .before .too-small .ensures) (c .if1 .left)
+room : (c : tie.Else1) →
+    let a = start c .args in
+    Roomy (indexColumns (a .text .now) (a .starts .now) (a .lengths .now) (a .shared .now) (a .region .now) (a .score .now)) (indexOf (a .order .now) (a .nodes .now) (a .entries .now))
+room c = roomy _ _ _ _ (c .before .before .before .count-nodes .ensures) (c .before .before .count-entries .ensures) _ (c .before .too-small .ensures) (c .if1 .left)
 
 put-order-requires : tie.Need-put-order-requires
 put-order-requires c κs = (start (c .before) .pre .placed, room (c .before) .for-order)
@@ -41,15 +26,6 @@ write-requires c κs =
     let s = c .before .before .before .before .before .before in
     let r = room s in
     record { lawful = start s .pre; count = s .before .before .before .count-nodes .ensures; row-room = r .for-nodes; entry-room = r .for-entries }
-
-same-length : tie.Need-same-length
-same-length c = search needs
-
-same-length-2 : tie.Need-same-length-2
-same-length-2 c = search needs
-
-same-length-3 : tie.Need-same-length-3
-same-length-3 c = search needs
 
 returns-2 : tie.Need-returns-2
 returns-2 c =
@@ -61,13 +37,13 @@ pub put-index-spec : {M : Type 1} → statement M
 put-index-spec =
     tie.close
     (tie.spec
-    count-nodes-requires
-    count-entries-requires
-    too-small-requires
+    (λ c κs. search needs)
+    (λ c κs. search needs)
+    (λ c κs. search needs)
     returns
     put-order-requires
     write-requires
-    same-length
-    same-length-2
-    same-length-3
+    (search needs)
+    (search needs)
+    (search needs)
     returns-2)

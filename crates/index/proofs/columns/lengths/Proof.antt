@@ -1,47 +1,29 @@
--- `columns::lengths` fills the column of the names' lengths: the invariant is Filled.
+-- `columns::lengths` fills the column of the names' lengths: the invariant is Front.
 -- Assumes nothing.
 use Prim.Native.Nat.{_-_}
 use mathlib.Core.Path.{ap}
 use lib.ListN.{length}
 use Rattle.index.specs.Columns.{lengthIn}
-use Rattle.index.proofs.Filling.{Filled, filled, filled-more, filled-end}
+use Rattle.words.proofs.Filling.{Front, front-more, front-end}
 use native.Mathlib.Omega.{arith}
 use borrow.Author.Needs.{needs}
 use Rattle.index.proofs.columns.lengths.Statement.{statement}
 use Rattle.index.proofs.columns.lengths.Tie as tie
 
 abbrev Inv-loop : tie.InvT-loop
-Inv-loop text starts stands column₀ i₀ column i = Filled (lengthIn text starts) stands column i
+Inv-loop text starts stands column₀ i₀ column i = Front (lengthIn text starts) stands column i
 
 abbrev μ-loop : tie.MeasureT-loop
 μ-loop text starts stands column₀ i₀ column i = stands - i
 
-loop-holds : tie.Need-loop-holds Inv-loop μ-loop
-loop-holds c = filled _ _ _ (search needs)
-
-cast-t8 : tie.Need-cast-t8 Inv-loop μ-loop
-cast-t8 c = search needs
-
-name-of-requires : tie.Need-name-of-requires Inv-loop μ-loop
-name-of-requires c κs = search needs
-
 cast-column : tie.Need-cast-column Inv-loop μ-loop
 cast-column c = omega (arith, ap length (c .name-of .ensures), c .before .before .before .before .before .pre .short (c .before .before .loop .stand) (c .before .loop-test .taken))
 
-array-write-column : tie.Need-array-write-column Inv-loop μ-loop
-array-write-column c = search needs
-
-add-stand : tie.Need-add-stand Inv-loop μ-loop
-add-stand c = search needs
-
-loop-less : tie.Need-loop-less Inv-loop μ-loop
-loop-less c = search needs
-
 loop-again : tie.Need-loop-again Inv-loop μ-loop
-loop-again c = filled-more _ _ _ _ _ (c .before .before .loop .inv) (c .before .loop-test .taken) (ap length (c .name-of .ensures))
+loop-again c = front-more (c .before .before .loop .inv) (c .before .loop-test .taken) (ap length (c .name-of .ensures))
 
 returns : tie.Need-returns Inv-loop μ-loop
-returns c = filled-end _ _ _ _ (c .before .loop .inv) (c .loop-test .left)
+returns c = front-end (c .before .loop .inv) (c .loop-test .left)
 
 pub lengths-spec : {M : Type 1} → statement M
 lengths-spec =
@@ -49,12 +31,12 @@ lengths-spec =
     (tie.spec
     Inv-loop
     μ-loop
-    loop-holds
-    cast-t8
-    name-of-requires
+    (λ c. search needs)
+    (search needs)
+    (λ c κs. search needs)
     cast-column
-    array-write-column
-    add-stand
-    loop-less
+    (search needs)
+    (search needs)
+    (search needs)
     loop-again
     returns)

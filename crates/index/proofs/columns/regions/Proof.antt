@@ -1,4 +1,4 @@
--- `columns::regions` fills the column of the regions: the invariant is Filled.
+-- `columns::regions` fills the column of the regions: the invariant is Front.
 -- Assumes nothing.
 use Prim.Native.Nat.{ℕ, _-_}
 use native.Mathlib.Omega.{arith}
@@ -11,31 +11,16 @@ use Rattle.rules.specs.Places.{inGrid, regionOf}
 use Rattle.rules.specs.Tables.{placeIn}
 use Rattle.rules.proofs.Places.{region-less}
 use Rattle.index.specs.Columns.{regionIn}
-use Rattle.index.proofs.Filling.{Filled, filled, filled-more, filled-end}
+use Rattle.words.proofs.Filling.{Front, front-more, front-end}
 use borrow.Author.Needs.{needs}
 use Rattle.index.proofs.columns.regions.Statement.{statement}
 use Rattle.index.proofs.columns.regions.Tie as tie
 
 abbrev Inv-loop : tie.InvT-loop
-Inv-loop east north grid column₀ i₀ column i = Filled (regionIn east north grid) (length east) column i
+Inv-loop east north grid column₀ i₀ column i = Front (regionIn east north grid) (length east) column i
 
 abbrev μ-loop : tie.MeasureT-loop
 μ-loop east north grid column₀ i₀ column i = length east - i
-
-loop-holds : tie.Need-loop-holds Inv-loop μ-loop
-loop-holds c = filled _ _ _ (search needs)
-
-mul-t7 : tie.Need-mul-t7 Inv-loop μ-loop
-mul-t7 c = search needs
-
-shared-slice-copy-out-t10 : tie.Need-shared-slice-copy-out-t10 Inv-loop μ-loop
-shared-slice-copy-out-t10 c = search needs
-
-mul-t11 : tie.Need-mul-t11 Inv-loop μ-loop
-mul-t11 c = search needs
-
-shared-slice-copy-out-t13 : tie.Need-shared-slice-copy-out-t13 Inv-loop μ-loop
-shared-slice-copy-out-t13 c = search needs
 
 region-of-requires : tie.Need-region-of-requires Inv-loop μ-loop
 region-of-requires c κs =
@@ -61,20 +46,11 @@ cast-column c =
     let i = c .before .before .before .before .loop .stand in
     omega (arith, told c, region-less (a .grid) (placeIn (a .east .now) (a .north .now) i) (p .lawful) (p .inside i (c .before .before .before .loop-test .taken)))
 
-array-write-column : tie.Need-array-write-column Inv-loop μ-loop
-array-write-column c = search needs
-
-add-stand : tie.Need-add-stand Inv-loop μ-loop
-add-stand c = search needs
-
-loop-less : tie.Need-loop-less Inv-loop μ-loop
-loop-less c = search needs
-
 loop-again : tie.Need-loop-again Inv-loop μ-loop
-loop-again c = filled-more _ _ _ _ _ (c .before .before .before .before .loop .inv) (c .before .before .before .loop-test .taken) (told c)
+loop-again c = front-more (c .before .before .before .before .loop .inv) (c .before .before .before .loop-test .taken) (told c)
 
 returns : tie.Need-returns Inv-loop μ-loop
-returns c = filled-end _ _ _ _ (c .before .loop .inv) (c .loop-test .left)
+returns c = front-end (c .before .loop .inv) (c .loop-test .left)
 
 pub regions-spec : {M : Type 1} → statement M
 regions-spec =
@@ -82,15 +58,15 @@ regions-spec =
     (tie.spec
     Inv-loop
     μ-loop
-    loop-holds
-    mul-t7
-    shared-slice-copy-out-t10
-    mul-t11
-    shared-slice-copy-out-t13
+    (λ c. search needs)
+    (search needs)
+    (search needs)
+    (search needs)
+    (search needs)
     region-of-requires
     cast-column
-    array-write-column
-    add-stand
-    loop-less
+    (search needs)
+    (search needs)
+    (search needs)
     loop-again
     returns)

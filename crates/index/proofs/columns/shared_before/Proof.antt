@@ -4,31 +4,10 @@ use native.Mathlib.Omega.{arith}
 use mathlib.Core.Path.{_≡_, _∙_, ap₂}
 use Rattle.base.specs.Lists.{sharedLength}
 use Rattle.index.specs.Columns.{sharedIn}
-use Rattle.index.proofs.ByStand.{shared-first, shared-later, shared-short}
+use Rattle.index.proofs.ByStand.{shared-later, shared-short}
 use borrow.Author.Needs.{needs}
 use Rattle.index.proofs.columns.shared_before.Statement.{statement}
 use Rattle.index.proofs.columns.shared_before.Tie as tie
-
-returns : tie.Need-returns
-returns c = shared-first _ _ _ (c .if1 .taken)
-
-sub-t8 : tie.Need-sub-t8
-sub-t8 c = search needs
-
-cast-t9 : tie.Need-cast-t9
-cast-t9 c = search needs
-
-name-of-requires : tie.Need-name-of-requires
-name-of-requires c κs = search needs
-
-cast-t9-2 : tie.Need-cast-t9-2
-cast-t9-2 c = search needs
-
-name-of-requires-2 : tie.Need-name-of-requires-2
-name-of-requires-2 c κs = search needs
-
-shared-requires : tie.Need-shared-requires
-shared-requires c κs = search needs
 
 told : (c : tie.After-shared) → let a = c .before .before .before .before .before .before .args in c .shared .result ≡ sharedIn (a .text .now) (a .starts .now) (a .stand)
 told c = c .shared .ensures ∙ ap₂ sharedLength (c .before .before .name-of .ensures) (c .before .name-of2 .ensures) ∙ shared-later _ _ _ (c .before .before .before .if1 .left)
@@ -43,12 +22,12 @@ pub shared-before-spec : {M : Type 1} → statement M
 shared-before-spec =
     tie.close
     (tie.spec
-    returns
-    sub-t8
-    cast-t9
-    name-of-requires
-    cast-t9-2
-    name-of-requires-2
-    shared-requires
+    (λ c. search needs)
+    (search needs)
+    (search needs)
+    (λ c κs. search needs)
+    (search needs)
+    (λ c κs. search needs)
+    (λ c κs. search needs)
     cast-result
     returns-2)

@@ -1,63 +1,45 @@
--- `words::rooms::has_entries` meets its contract: the loop's invariant is `Comparing`, whose laws are of proofs/Overs.antt. Assumes nothing.
+-- `words::rooms::has_entries` meets its contract: the loop's invariant is `From`, entry after entry, by the laws of proofs/Overs.antt. Assumes nothing.
 use borrow.Author.Needs.{needs}
 use native.Mathlib.Omega.{arith}
 use mathlib.Core.Path.{ap}
-use Prim.Native.Nat.{_-_}
+use native.Mathlib.Nat.{add-zero}
+use Prim.Native.Nat.{_+_, _-_, _*_}
 use lib.ListN.{length}
 use Rattle.base.proofs.Tests.{breaks, holds}
 use Rattle.node.specs.Columns.{entriesFrom}
-use Rattle.words.proofs.Overs.{Comparing, comparing, slots-not, slots-same, slots-all}
+use Rattle.words.specs.Words.{entryRows}
+use Rattle.words.proofs.Overs.{From, from-not, from-more, from-end, slotsFrom, slots-next, slots-past}
 use Rattle.words.proofs.rooms.has_entries.Statement.{statement}
 use Rattle.words.proofs.rooms.has_entries.Tie as tie
 
 abbrev Inv-loop : tie.InvT-loop
-Inv-loop room at ranked held best next places k₀ k = Comparing room at (entriesFrom best next places ranked held) k
+Inv-loop room at ranked held best next places k₀ k = From room at (entryRows (entriesFrom best next places ranked held)) (slotsFrom best next places ranked held k) (at + k * 4)
 
 abbrev μ-loop : tie.MeasureT-loop
 μ-loop room at ranked held best next places k₀ k = held - k
 
 loop-holds : tie.Need-loop-holds Inv-loop μ-loop
-loop-holds c = comparing _ _ _
-
-mul-entry-row : tie.Need-mul-entry-row Inv-loop μ-loop
-mul-entry-row c = search needs
-
-element-copy-out-entry-row : tie.Need-element-copy-out-entry-row Inv-loop μ-loop
-element-copy-out-entry-row c = search needs
+unfolding entriesFrom slotsFrom
+loop-holds c = record { is = rw add-zero }
 
 entry-row-requires : tie.Need-entry-row-requires Inv-loop μ-loop
 entry-row-requires c κs = c .before .before .before .before .pre .0 .small _ (c .before .loop-test .taken)
 
-mul-has-words : tie.Need-mul-has-words Inv-loop μ-loop
-mul-has-words c = search needs
-
-add-has-words : tie.Need-add-has-words Inv-loop μ-loop
-add-has-words c = search needs
-
-slice-aggregate-has-words : tie.Need-slice-aggregate-has-words Inv-loop μ-loop
-slice-aggregate-has-words c = search needs
-
-has-words-requires : tie.Need-has-words-requires Inv-loop μ-loop
-has-words-requires c κs = (omega arith, omega (arith, ap length (c .before .entry-row .ensures)))
-
 returns : tie.Need-returns Inv-loop μ-loop
 returns c =
     let p = c .before .before .before .before .before .before .before .before .pre in
-    slots-not _ _ _ _ _ (p .0 .size) (p .0 .few) _ _ _ (c .before .before .before .before .before .before .loop .inv) _ (c .before .before .before .before .before .loop-test .taken) (c .before .before .before .entry-row .ensures) (breaks _ _ (c .before .has-words .ensures) (c .if1 .taken))
-
-add-rank : tie.Need-add-rank Inv-loop μ-loop
-add-rank c = search needs
-
-loop-less : tie.Need-loop-less Inv-loop μ-loop
-loop-less c = search needs
+    from-not (c .before .before .before .before .before .before .loop .inv)
+    (slots-next _ _ _ _ _ (p .0 .size) (p .0 .few) _ (c .before .before .before .before .before .loop-test .taken) (c .before .before .before .entry-row .ensures)) (breaks _ _ (c .before .has-words .ensures) (c .if1 .taken))
 
 loop-again : tie.Need-loop-again Inv-loop μ-loop
 loop-again c =
     let p = c .before .before .before .before .before .before .before .before .pre in
-    slots-same _ _ _ _ _ (p .0 .size) (p .0 .few) _ _ _ (c .before .before .before .before .before .before .loop .inv) _ (c .before .before .before .before .before .loop-test .taken) (c .before .before .before .entry-row .ensures) (holds _ _ (c .before .has-words .ensures) (c .if1 .left))
+    let row = c .before .before .before .entry-row .ensures in
+    from-more (c .before .before .before .before .before .before .loop .inv) (slots-next _ _ _ _ _ (p .0 .size) (p .0 .few) _ (c .before .before .before .before .before .loop-test .taken) row)
+    (omega (arith, ap length row)) (holds _ _ (c .before .has-words .ensures) (c .if1 .left))
 
 returns-2 : tie.Need-returns-2 Inv-loop μ-loop
-returns-2 c = slots-all _ _ _ _ _ (c .before .before .before .pre .0 .size) (c .before .before .before .pre .0 .few) _ _ _ (c .before .loop .inv) (c .loop-test .left)
+returns-2 c = let p = c .before .before .before .pre .0 in from-end (c .before .loop .inv) (slots-past _ _ _ _ _ (p .size) (p .few) _ (c .loop-test .left))
 
 pub has-entries-spec : {M : Type 1} → statement M
 has-entries-spec =
@@ -66,15 +48,15 @@ has-entries-spec =
     Inv-loop
     μ-loop
     loop-holds
-    mul-entry-row
-    element-copy-out-entry-row
+    (search needs)
+    (search needs)
     entry-row-requires
-    mul-has-words
-    add-has-words
-    slice-aggregate-has-words
-    has-words-requires
+    (search needs)
+    (search needs)
+    (search needs)
+    (λ c κs. search needs)
     returns
-    add-rank
-    loop-less
+    (search needs)
+    (search needs)
     loop-again
     returns-2)

@@ -1,52 +1,35 @@
--- `words::rooms::has_words` meets its contract: the loop's invariant is `Matching`, whose laws are of proofs/Overs.antt. Assumes nothing.
+-- `words::rooms::has_words` meets its contract: the loop's invariant is `From`, word after word, by the laws of proofs/Overs.antt. Assumes nothing.
 use borrow.Author.Needs.{needs}
-use Prim.Native.Nat.{_-_}
-use lib.ListN.{length}
-use Rattle.words.proofs.Overs.{Matching, matching, matching-short, matching-not, matching-more, matching-end}
+use native.Mathlib.Omega.{arith}
+use native.Mathlib.Nat.{add-zero}
+use Prim.Native.Nat.{_+_, _-_}
+use lib.ListN.{length, drop, drop-of-length-le}
+use Rattle.words.proofs.Overs.{From, from-not, from-more, from-end, word-next, word-short, word-not, word-same}
 use Rattle.words.proofs.rooms.has_words.Statement.{statement}
 use Rattle.words.proofs.rooms.has_words.Tie as tie
 
 abbrev Inv-loop : tie.InvT-loop
-Inv-loop room at words k₀ k = Matching room at words k
+Inv-loop room at words k₀ k = From room at words (drop k words) (at + k)
 
 abbrev μ-loop : tie.MeasureT-loop
 μ-loop room at words k₀ k = length words - k
 
 loop-holds : tie.Need-loop-holds Inv-loop μ-loop
-loop-holds c = matching _ _ _
-
-add-place : tie.Need-add-place Inv-loop μ-loop
-add-place c = search needs
+loop-holds c = record { is = rw add-zero }
 
 returns : tie.Need-returns Inv-loop μ-loop
-returns c = matching-short _ _ _ _ (c .before .before .loop .inv) (c .before .loop-test .taken) (c .if1 .taken)
-
-mul-if2 : tie.Need-mul-if2 Inv-loop μ-loop
-mul-if2 c = search needs
-
-shared-slice-read-if2 : tie.Need-shared-slice-read-if2 Inv-loop μ-loop
-shared-slice-read-if2 c = search needs
-
-mul-if2-2 : tie.Need-mul-if2-2 Inv-loop μ-loop
-mul-if2-2 c = search needs
-
-shared-slice-read-if2-2 : tie.Need-shared-slice-read-if2-2 Inv-loop μ-loop
-shared-slice-read-if2-2 c = search needs
+returns c = from-not (c .before .before .loop .inv) (word-next _ _ (c .before .loop-test .taken)) (word-short _ _ _ (c .if1 .taken))
 
 returns-2 : tie.Need-returns-2 Inv-loop μ-loop
-returns-2 c = matching-not _ _ _ _ (c .before .before .before .before .before .loop .inv) (c .before .before .before .before .loop-test .taken) (c .before .before .before .if1 .left) (c .if2 .taken)
-
-add-done : tie.Need-add-done Inv-loop μ-loop
-add-done c = search needs
-
-loop-less : tie.Need-loop-less Inv-loop μ-loop
-loop-less c = search needs
+returns-2 c =
+    from-not (c .before .before .before .before .before .loop .inv) (word-next _ _ (c .before .before .before .before .loop-test .taken)) (word-not _ _ _ (c .before .before .before .if1 .left) (c .if2 .taken))
 
 loop-again : tie.Need-loop-again Inv-loop μ-loop
-loop-again c = matching-more _ _ _ _ (c .before .before .before .before .before .loop .inv) (c .before .before .before .before .loop-test .taken) (c .before .before .before .if1 .left) (c .if2 .left)
+loop-again c =
+    from-more (c .before .before .before .before .before .loop .inv) (word-next _ _ (c .before .before .before .before .loop-test .taken)) (omega arith) (word-same _ _ _ (c .before .before .before .if1 .left) (c .if2 .left))
 
 returns-3 : tie.Need-returns-3 Inv-loop μ-loop
-returns-3 c = matching-end _ _ _ _ (c .before .loop .inv) (c .loop-test .left)
+returns-3 c = from-end (c .before .loop .inv) (drop-of-length-le _ (c .loop-test .left))
 
 pub has-words-spec : {M : Type 1} → statement M
 has-words-spec =
@@ -55,14 +38,14 @@ has-words-spec =
     Inv-loop
     μ-loop
     loop-holds
-    add-place
+    (search needs)
     returns
-    mul-if2
-    shared-slice-read-if2
-    mul-if2-2
-    shared-slice-read-if2-2
+    (search needs)
+    (search needs)
+    (search needs)
+    (search needs)
     returns-2
-    add-done
-    loop-less
+    (search needs)
+    (search needs)
     loop-again
     returns-3)

@@ -2,7 +2,7 @@
 use borrow.Author.Needs.{needs}
 use native.Mathlib.Omega.{arith}
 use Rattle.base.proofs.Tests.{breaks, holds}
-use Rattle.words.proofs.Turns.{gather-asks, held-asks, row-asks, row-size, advance-asks, row-differs, entries-differ, agrees}
+use Rattle.words.proofs.Turns.{gather-asks, row-asks, row-size, advance-asks, row-differs, entries-differ, agrees}
 use Rattle.words.proofs.turn.check_node.Statement.{statement}
 use Rattle.words.proofs.turn.check_node.Tie as tie
 
@@ -11,19 +11,10 @@ abbrev start : tie.After-gather → tie.Start
 start c = c .before .before .before .before .before .before .before .before .before .before .before .before .before
 
 gather-requires : tie.Need-gather-requires
-gather-requires c κs = let p = c .before .before .before .before .before .before .before .before .before .before .before .before .pre in gather-asks p
+gather-requires c κs = gather-asks (c .before .before .before .before .before .before .before .before .before .before .before .before .pre)
 
 row-requires : tie.Need-row-requires
-row-requires c κs = let p = start (c .before) .pre in row-asks p (c .before .gather .ensures)
-
-cast-has-words : tie.Need-cast-has-words
-cast-has-words c = search needs
-
-mul-has-words : tie.Need-mul-has-words
-mul-has-words c = omega (arith, start (c .before .before .before) .pre .standing .low)
-
-slice-aggregate-has-words : tie.Need-slice-aggregate-has-words
-slice-aggregate-has-words c = search needs
+row-requires c κs = row-asks (start (c .before) .pre) (c .before .gather .ensures)
 
 has-words-requires : tie.Need-has-words-requires
 has-words-requires c κs =
@@ -36,36 +27,24 @@ returns : tie.Need-returns
 returns c =
     let at-row = c .before .before .before .before in
     let gathered = at-row .before .before in
-    let p = start gathered .pre in
-    row-differs p (gathered .gather .ensures) (at-row .row .ensures) (breaks _ _ (c .before .has-words .ensures) (c .if1 .taken))
-
-cast-has-entries : tie.Need-cast-has-entries
-cast-has-entries c = search needs
-
-mul-has-entries : tie.Need-mul-has-entries
-mul-has-entries c = let p = start (c .before .before .before .before .before .before .before) .pre in omega (arith, p .standing .low, p .standing .few)
+    row-differs (start gathered .pre) (gathered .gather .ensures) (at-row .row .ensures) (breaks _ _ (c .before .has-words .ensures) (c .if1 .taken))
 
 has-entries-requires : tie.Need-has-entries-requires
 has-entries-requires c κs =
     let gathered = c .before .before .before .before .before .before .before .before .before .before .before in
     let p = start gathered .pre in
     let g = gathered .gather .ensures in
-    (held-asks p g, omega (arith, p .standing .low, p .standing .few))
+    (search needs, omega (arith, p .standing .low, p .standing .few))
 
 returns-2 : tie.Need-returns-2
 returns-2 c =
     let gathered = c .before .before .before .before .before .before .before .before .before .before .before .before .before in
-    let p = start gathered .pre in
-    entries-differ p (gathered .gather .ensures) (breaks _ _ (c .before .has-entries .ensures) (c .if2 .taken))
-
-cast-advance : tie.Need-cast-advance
-cast-advance c = search needs
+    entries-differ (start gathered .pre) (gathered .gather .ensures) (breaks _ _ (c .before .has-entries .ensures) (c .if2 .taken))
 
 advance-requires : tie.Need-advance-requires
 advance-requires c κs =
     let gathered = c .before .before .before .before .before .before .before .before .before .before .before .before .before .before .before .before in
-    let p = start gathered .pre in
-    advance-asks p (gathered .gather .ensures)
+    advance-asks (start gathered .pre) (gathered .gather .ensures)
 
 returns-3 : tie.Need-returns-3
 returns-3 c =
@@ -73,8 +52,7 @@ returns-3 c =
     let at-words = at-entries .before .before .before .before .before .before .before in
     let at-row = at-words .before .before .before .before in
     let gathered = at-row .before .before in
-    let p = start gathered .pre in
-    agrees p (gathered .gather .ensures) (at-row .row .ensures)
+    agrees (start gathered .pre) (gathered .gather .ensures) (at-row .row .ensures)
     (holds _ _ (at-words .before .has-words .ensures) (at-words .if1 .left)) (holds _ _ (at-entries .before .has-entries .ensures) (at-entries .if2 .left)) (c .advance .ensures)
 
 pub check-node-spec : {M : Type 1} → statement M
@@ -83,15 +61,15 @@ check-node-spec =
     (tie.spec
     gather-requires
     row-requires
-    cast-has-words
-    mul-has-words
-    slice-aggregate-has-words
+    (search needs)
+    (search needs)
+    (search needs)
     has-words-requires
     returns
-    cast-has-entries
-    mul-has-entries
+    (search needs)
+    (search needs)
     has-entries-requires
     returns-2
-    cast-advance
+    (search needs)
     advance-requires
     returns-3)

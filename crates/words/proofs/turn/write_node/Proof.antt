@@ -1,7 +1,7 @@
 -- `words::turn::write_node` meets its contract, by those of the calls that it makes and the laws of proofs/Turns.antt. Assumes nothing.
 use borrow.Author.Needs.{needs}
 use native.Mathlib.Omega.{arith}
-use Rattle.words.proofs.Turns.{gather-asks, held-asks, row-asks, row-size, count-now, advance-asks, moved, wrote}
+use Rattle.words.proofs.Turns.{gather-asks, row-asks, row-size, count-now, advance-asks, moved, wrote}
 use Rattle.words.proofs.turn.write_node.Statement.{statement}
 use Rattle.words.proofs.turn.write_node.Tie as tie
 
@@ -10,19 +10,10 @@ abbrev start : tie.After-gather → tie.Start
 start c = c .before .before .before .before .before .before .before .before .before .before .before .before .before
 
 gather-requires : tie.Need-gather-requires
-gather-requires c κs = let p = c .before .before .before .before .before .before .before .before .before .before .before .before .pre in gather-asks (p .turn)
+gather-requires c κs = gather-asks (c .before .before .before .before .before .before .before .before .before .before .before .before .pre .turn)
 
 row-requires : tie.Need-row-requires
-row-requires c κs = let p = start (c .before) .pre in row-asks (p .turn) (c .before .gather .ensures)
-
-cast-put-words : tie.Need-cast-put-words
-cast-put-words c = search needs
-
-mul-put-words : tie.Need-mul-put-words
-mul-put-words c = search needs
-
-slice-aggregate-put-words : tie.Need-slice-aggregate-put-words
-slice-aggregate-put-words c = search needs
+row-requires c κs = row-asks (start (c .before) .pre .turn) (c .before .gather .ensures)
 
 put-words-requires : tie.Need-put-words-requires
 put-words-requires c κs =
@@ -31,33 +22,17 @@ put-words-requires c κs =
     let p = start gathered .pre in
     omega (arith, p .room .row-room, row-size (p .turn) (gathered .gather .ensures) (at-row .row .ensures))
 
-cast-put-entries : tie.Need-cast-put-entries
-cast-put-entries c = search needs
-
-mul-put-entries : tie.Need-mul-put-entries
-mul-put-entries c = search needs
-
 put-entries-requires : tie.Need-put-entries-requires
 put-entries-requires c κs =
     let gathered = c .before .before .before .before .before .before .before .before .before .before .before .before .before .before in
     let p = start gathered .pre in
     let g = gathered .gather .ensures in
-    (held-asks (p .turn) g, omega (arith, p .room .entry-room, count-now (p .turn) g))
-
-cast-advance : tie.Need-cast-advance
-cast-advance c = search needs
+    (search needs, omega (arith, p .room .entry-room, count-now (p .turn) g))
 
 advance-requires : tie.Need-advance-requires
 advance-requires c κs =
     let gathered = c .before .before .before .before .before .before .before .before .before .before .before .before .before .before .before .before .before .before .before .before in
-    let p = start gathered .pre in
-    advance-asks (p .turn) (gathered .gather .ensures)
-
-same-length : tie.Need-same-length
-same-length c = search needs
-
-same-length-2 : tie.Need-same-length-2
-same-length-2 c = search needs
+    advance-asks (start gathered .pre .turn) (gathered .gather .ensures)
 
 returns : tie.Need-returns
 returns c =
@@ -75,15 +50,15 @@ write-node-spec =
     (tie.spec
     gather-requires
     row-requires
-    cast-put-words
-    mul-put-words
-    slice-aggregate-put-words
+    (search needs)
+    (search needs)
+    (search needs)
     put-words-requires
-    cast-put-entries
-    mul-put-entries
+    (search needs)
+    (search needs)
     put-entries-requires
-    cast-advance
+    (search needs)
     advance-requires
-    same-length
-    same-length-2
+    (search needs)
+    (search needs)
     returns)
