@@ -1,7 +1,7 @@
 -- Lists that begin with another, and the length that two lists share.
 -- Sharing is the invariant of a loop that compares element by element. Assumes nothing.
 use mathlib.Core.Path.{_≡_, refl, sym, ap, _∙_}
-use mathlib.Core.Logic.{_⊎_, inl, inr, ⊎-elim}
+use mathlib.Core.Logic.{_⊎_, inl, inr}
 use mathlib.Core.Bool.{true, false, _&&_, false≢true}
 use mathlib.Core.List.{List, [], _∷_, _++_}
 use Prim.Native.Nat.{ℕ, zero, suc, _+_, _≤_, _<_}
@@ -10,6 +10,7 @@ use native.Mathlib.Omega.{arith}
 use lib.Dec.{eqb, eqb·zero-suc, eqb·suc-suc}
 use lib.ListN.{length, take, drop, getD, drop-of-length-le}
 use lib.Seq.{drop-cons, take-take}
+use borrow.Table.Steps.{cases}
 use borrow.Author.Tests.{eqb-true, eqb-false, eq-eqb, ne-eqb}
 use Rattle.base.specs.Lists.{begins, sameList, sharedLength, In}
 use Rattle.base.proofs.Tests.{which, never, and-parts}
@@ -88,7 +89,7 @@ begins-append (a ∷ p) q = begins-same a a p (p ++ q) refl (begins-append p q)
 pub begins-parts : (p q n : List ℕ) → begins (p ++ q) n ≡ begins p n && begins q (drop (length p) n)
 begins-parts [] q n = refl
 begins-parts (a ∷ p) q [] = refl
-begins-parts (a ∷ p) q (b ∷ n) = ⊎-elim (λ (e : eqb a b ≡ true). rw e (begins-parts p q n)) (λ (e : eqb a b ≡ false). rw e) (which (eqb a b))
+begins-parts (a ∷ p) q (b ∷ n) = cases (eqb a b) (λ e. rw e (begins-parts p q n)) (λ e. rw e)
 
 -- ---- the same list, by a test
 
@@ -150,23 +151,22 @@ pub begins-shared : (p n : List ℕ) → begins p n ≡ eqb (sharedLength p n) (
 begins-shared [] n = refl
 begins-shared (x ∷ p) [] = sym (eqb·zero-suc (length p))
 begins-shared (x ∷ p) (y ∷ n) =
-    ⊎-elim (λ e. rw e (begins-shared p n ∙ sym (eqb·suc-suc (sharedLength p n) (length p)))) (λ e. rw e (sym (eqb·zero-suc (length p)))) (which (eqb x y))
+    cases (eqb x y) (λ e. rw e (begins-shared p n ∙ sym (eqb·suc-suc (sharedLength p n) (length p)))) (λ e. rw e (sym (eqb·zero-suc (length p))))
 
 pub sharedLength-sym : (m n : List ℕ) → sharedLength m n ≡ sharedLength n m
 sharedLength-sym [] [] = refl
 sharedLength-sym [] (b ∷ n) = refl
 sharedLength-sym (a ∷ m) [] = refl
 sharedLength-sym (a ∷ m) (b ∷ n) =
-    ⊎-elim
-    (λ (q : eqb a b ≡ true). rw (q, eq-eqb b a (sym (eqb-true a b q)), sharedLength-sym m n))
-    (λ (q : eqb a b ≡ false). rw (q, ne-eqb b a (λ e. eqb-false a b q (sym e))))
-    (which (eqb a b))
+    cases (eqb a b)
+    (λ q. rw (q, eq-eqb b a (sym (eqb-true a b q)), sharedLength-sym m n))
+    (λ q. rw (q, ne-eqb b a (λ e. eqb-false a b q (sym e))))
 
 pub shared-le : (a b : List ℕ) → sharedLength a b ≤ length a
 shared-le [] b = omega arith
 shared-le (x ∷ a) [] = omega arith
 shared-le (x ∷ a) (y ∷ b) =
-    ⊎-elim (λ e. rw e (omega (arith, shared-le a b))) (λ e. rw e (omega arith)) (which (eqb x y))
+    cases (eqb x y) (λ e. rw e (omega (arith, shared-le a b))) (λ e. rw e (omega arith))
 
 pub shared-le-other : (a b : List ℕ) → sharedLength a b ≤ length b
 shared-le-other a b = rw (sharedLength-sym a b) (shared-le b a)
@@ -177,10 +177,9 @@ sharedLength-take m n zero h = refl
 sharedLength-take [] n (suc l) h = absurd (omega arith)
 sharedLength-take (a ∷ m) [] (suc l) h = absurd (omega arith)
 sharedLength-take (a ∷ m) (b ∷ n) (suc l) h =
-    ⊎-elim
-    (λ (q : eqb a b ≡ true). cc (eqb-true a b q, sharedLength-take m n l (omega (arith, rw q at h))))
-    (λ (q : eqb a b ≡ false). absurd (omega (arith, rw q at h)))
-    (which (eqb a b))
+    cases (eqb a b)
+    (λ q. cc (eqb-true a b q, sharedLength-take m n l (omega (arith, rw q at h))))
+    (λ q. absurd (omega (arith, rw q at h)))
 
 -- so a beginning of n begins m as far as the two share it
 pub shared-begins : (m n : List ℕ) (l : ℕ) → l ≤ sharedLength m n → begins (take l n) m ≡ true
@@ -192,7 +191,6 @@ past-shared m n zero h k = absurd (omega arith)
 past-shared m [] (suc l) h k = absurd (omega arith)
 past-shared [] (b ∷ n) (suc l) h k = refl
 past-shared (a ∷ m) (b ∷ n) (suc l) h k =
-    ⊎-elim
-    (λ (q : eqb a b ≡ true). rw (eq-eqb b a (sym (eqb-true a b q))) (past-shared m n l (omega (arith, rw q at h)) (omega arith)))
-    (λ (q : eqb a b ≡ false). rw (ne-eqb b a (λ e. eqb-false a b q (sym e))))
-    (which (eqb a b))
+    cases (eqb a b)
+    (λ q. rw (eq-eqb b a (sym (eqb-true a b q))) (past-shared m n l (omega (arith, rw q at h)) (omega arith)))
+    (λ q. rw (ne-eqb b a (λ e. eqb-false a b q (sym e))))

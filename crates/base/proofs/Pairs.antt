@@ -2,12 +2,13 @@
 -- Rising numbers, and a list put part by part, are such lists. Assumes nothing.
 use mathlib.Core.Path.{_≡_, refl, sym, _∙_}
 use mathlib.Core.Logic.{_⊎_, inl, inr, ⊎-elim}
-use mathlib.Core.Bool.{Bool, true, false}
+use mathlib.Core.Bool.{Bool}
 use mathlib.Core.List.{List, [], _∷_, _++_}
 use Prim.Native.Nat.{ℕ, zero, suc, _+_, _≤_, _<_}
 use native.Mathlib.Omega.{arith}
 use lib.Dec.{eqb}
 use lib.ListN.{length, take, getD}
+use borrow.Table.Steps.{cases}
 use borrow.Author.Tests.{eqb-true}
 use Rattle.base.specs.Lists.{fromOn, keep, each, eachList, firstOf, sortBy, In, Pairwise}
 use Rattle.base.proofs.Tests.{which, le-or-lt}
@@ -34,7 +35,7 @@ module _ {A : Type 0} (R : A → A → Type 0) where
   pairs-keep f [] h = tt
   pairs-keep f (x ∷ l) h =
       let r = pairs-keep f l (h .1) in
-      ⊎-elim (λ (q : f x ≡ true). rw q ((λ y k. h .0 y (keep-in f l y k .0)), r)) (λ (q : f x ≡ false). rw q r) (which (f x))
+      cases (f x) (λ q. rw q ((λ y k. h .0 y (keep-in f l y k .0)), r)) (λ q. rw q r)
 
   pub pairs-take : (k : ℕ) (l : List A) → Pairwise R l → Pairwise R (take k l)
   pairs-take zero l h = tt

@@ -10,6 +10,7 @@ use native.Mathlib.Nat.{add-suc, add-zero, zero-add, suc-add, eq-or-lt-of-le}
 use lib.Dec.{eqb}
 use lib.ListN.{length, getD, set, replicate, length-set, length-append, List·getD-append}
 use lib.Seq.{getD-set-same, getD-set-other, ext-getD, getD-append-seam}
+use borrow.Table.Steps.{cases}
 use borrow.Author.Tests.{eqb-true, eqb-false}
 use Rattle.base.specs.Lists.{fromOn, upTo, keep, each, firstOf, In}
 use Rattle.base.proofs.Tests.{which, never, refuted, le-or-lt}
@@ -108,10 +109,9 @@ module _ (f : ℕ → Bool) (e : ℕ) where
   keep-down : (a n : ℕ) → a + n ≡ e → ((i k : ℕ) → a ≤ i → i ≤ k → k < e → f k ≡ true → f i ≡ true) → keep f (fromOn a n) ≡ fromOn a (length (keep f (fromOn a n)))
   keep-down a zero q down = refl
   keep-down a (suc n) q down =
-      ⊎-elim
-      (λ (r : f a ≡ true). rw r (ap (λ (l : List ℕ). a ∷ l) (keep-down (suc a) n (omega arith) (λ i k u. down i k (omega arith)))))
-      (λ (r : f a ≡ false). rw (r, keep-none f (fromOn (suc a) n) (off r)))
-      (which (f a))
+      cases (f a)
+      (λ r. rw r (ap (λ (l : List ℕ). a ∷ l) (keep-down (suc a) n (omega arith) (λ i k u. down i k (omega arith)))))
+      (λ r. rw (r, keep-none f (fromOn (suc a) n) (off r)))
     where
       off : f a ≡ false → (x : ℕ) → In x (fromOn (suc a) n) → f x ≡ false
       off r x h = let t = in-from (suc a) n x h in refuted _ (λ s. never _ (down a x (omega arith) (omega arith) (omega arith) s) r)
@@ -120,10 +120,9 @@ module _ (f : ℕ → Bool) (e : ℕ) where
   pub keep-run : (a n : ℕ) → a + n ≡ e → ((i j k : ℕ) → i ≤ j → j ≤ k → k < e → f i ≡ true → f k ≡ true → f j ≡ true) → Run (keep f (fromOn a n))
   keep-run a zero q convex = refl
   keep-run a (suc n) q convex =
-      ⊎-elim
-      (λ (r : f a ≡ true). rw r (ap (λ (l : List ℕ). a ∷ l) (keep-down (suc a) n (omega arith) (λ i k u v w s. convex a i k (omega arith) v w r s))))
-      (λ (r : f a ≡ false). rw r (keep-run (suc a) n (omega arith) convex))
-      (which (f a))
+      cases (f a)
+      (λ r. rw r (ap (λ (l : List ℕ). a ∷ l) (keep-down (suc a) n (omega arith) (λ i k u v w s. convex a i k (omega arith) v w r s))))
+      (λ r. rw r (keep-run (suc a) n (omega arith) convex))
 
 -- what stands at place k of the numbers below n that pass: it passes, as k smaller ones do
 abbrev pub KeptAt : (ℕ → Bool) → ℕ → ℕ → Type 0

@@ -1,12 +1,13 @@
 -- Bools: the two cases of one, the parts of `&&` and `||`, tests in a row; and what an `if` of the code says of a definition.
 -- Assumes nothing.
 use mathlib.Core.Path.{_≡_, refl, sym, _∙_}
-use mathlib.Core.Logic.{_⊎_, inl, inr, ⊎-elim}
+use mathlib.Core.Logic.{_⊎_, inl, inr}
 use mathlib.Core.Bool.{Bool, true, false, not, _&&_, _||_, true≢false, false≢true, and-false}
 use mathlib.Core.List.{List, [], _∷_}
 use Prim.Native.Nat.{ℕ, zero, suc, _<_, _≤_}
 use lib.Dec.{leb}
 use lib.ListN.{getD}
+use borrow.Table.Steps.{cases}
 use borrow.Author.Tests.{leb-true, leb-false, not-true, not-false}
 use Rattle.base.specs.Lists.{every}
 
@@ -23,7 +24,7 @@ refuted true h = absurd (h refl)
 refuted false h = refl
 
 pub le-or-lt : (a b : ℕ) → (a ≤ b) ⊎ (b < a)
-le-or-lt a b = ⊎-elim (λ e. inl (leb-true a b e)) (λ e. inr (leb-false a b e)) (which (leb a b))
+le-or-lt a b = cases (leb a b) (λ e. inl (leb-true a b e)) (λ e. inr (leb-false a b e))
 
 pub and-left : (a b : Bool) → (a && b) ≡ true → a ≡ true
 and-left true b e = refl

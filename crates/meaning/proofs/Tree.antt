@@ -8,6 +8,7 @@ use Prim.Native.Nat.{ℕ, zero, suc, _+_, _≤_, _<_}
 use native.Mathlib.Omega.{arith}
 use lib.ListN.{length, take, getD, length-take}
 use lib.Seq.{take-take}
+use borrow.Table.Steps.{cases}
 use Rattle.base.specs.Lists.{fromOn, each, begins, sameList, In}
 use Rattle.base.proofs.Tests.{which, never}
 use Rattle.base.proofs.Members.{in-left, in-right, in-either, getD-in, in-each}
@@ -131,10 +132,9 @@ number-in p (x ∷ B) h = first (number-in p B) h (which (sameList p x))
 pub number-out : (p : List ℕ) (B : List (List ℕ)) → (In p B → ⊥) → numberIn p B ≡ length B
 number-out p [] h = refl
 number-out p (x ∷ B) h =
-    ⊎-elim
-    (λ (q : sameList p x ≡ true). absurd (h (inl (same-true p x q))))
-    (λ (q : sameList p x ≡ false). rw (q, number-out p B (λ k. h (inr k))))
-    (which (sameList p x))
+    cases (sameList p x)
+    (λ q. absurd (h (inl (same-true p x q))))
+    (λ q. rw (q, number-out p B (λ k. h (inr k))))
 
 pub number-at : (B : List (List ℕ)) → Sorted B → (j : ℕ) → j < length B → numberIn (getD B j []) B ≡ j
 number-at B s j h = let t = number-in (getD B j []) B (getD-in [] B j h) in sorted-once B s (numberIn (getD B j []) B) j (t .0) h (t .1)

@@ -9,6 +9,7 @@ use native.Mathlib.Omega.{arith}
 use native.Mathlib.Nat.{add-zero, eq-or-lt-of-le}
 use lib.Dec.{eqb, ltb}
 use lib.ListN.{length, getD}
+use borrow.Table.Steps.{cases}
 use borrow.Author.Tests.{ltb-true, eqb-true, lt-ltb, le-ltb, eq-eqb}
 use Rattle.base.specs.Lists.{begins, sharedLength}
 use Rattle.base.proofs.Tests.{which, never, refuted, le-or-lt, and-parts, or-cases}
@@ -119,34 +120,31 @@ pub order-whole : (a b : List ℕ) → sharedLength a b ≡ length a → inOrder
 order-whole [] b e = refl
 order-whole (x ∷ a) [] e = absurd (omega arith)
 order-whole (x ∷ a) (y ∷ b) e =
-    ⊎-elim
-    (λ (q : eqb x y ≡ true).
+    cases (eqb x y)
+    (λ q.
     let h : sharedLength a b ≡ length a = omega (arith, rw q at e) in
-    ⊎-elim (λ (l : ltb x y ≡ true). rw l) (λ (l : ltb x y ≡ false). rw (l, q) (order-whole a b h)) (which (ltb x y)))
+    cases (ltb x y) (λ l. rw l) (λ l. rw (l, q) (order-whole a b h)))
     (λ q. absurd (omega (arith, rw q at e)))
-    (which (eqb x y))
 
 pub order-longer : (a b : List ℕ) → (sharedLength a b ≡ length a → ⊥) → sharedLength a b ≡ length b → inOrder a b ≡ false
 order-longer [] b n e = absurd (n refl)
 order-longer (x ∷ a) [] n e = refl
 order-longer (x ∷ a) (y ∷ b) n e =
-    ⊎-elim
+    cases (eqb x y)
     (λ q.
     let h : sharedLength a b ≡ length b = omega (arith, rw q at e) in
     let m : sharedLength a b ≡ length a → ⊥ = λ z. n (rw q (ap suc z)) in
     rw (q, order-longer a b m h, le-ltb x y (omega (arith, eqb-true x y q))))
     (λ q. absurd (omega (arith, rw q at e)))
-    (which (eqb x y))
 
 pub order-byte : (a b : List ℕ) → (sharedLength a b ≡ length a → ⊥) → (sharedLength a b ≡ length b → ⊥)
     → inOrder a b ≡ ltb (getD a (sharedLength a b) 0) (getD b (sharedLength a b) 0)
 order-byte [] b n m = absurd (n refl)
 order-byte (x ∷ a) [] n m = absurd (m refl)
 order-byte (x ∷ a) (y ∷ b) n m =
-    ⊎-elim
+    cases (eqb x y)
     (λ q. rw (q, order-byte a b (λ z. n (rw q (ap suc z))) (λ z. m (rw q (ap suc z))), le-ltb x y (omega (arith, eqb-true x y q))))
-    (λ q. rw q (⊎-elim (λ l. rw l) (λ l. rw l) (which (ltb x y))))
-    (which (eqb x y))
+    (λ q. rw q (cases (ltb x y) (λ l. rw l) (λ l. rw l)))
 
 -- ---- names by number
 
