@@ -1,19 +1,19 @@
 -- Lists that begin with another, and the length that two lists share.
 -- Sharing is the invariant of a loop that compares element by element. Assumes nothing.
 use mathlib.Core.Path.{_≡_, refl, sym, ap, _∙_}
-use mathlib.Core.Logic.{_⊎_, inl, inr}
+use mathlib.Core.Logic.{_⊎_, inl, inr, ⊎-elim}
 use mathlib.Core.Bool.{true, false, _&&_, false≢true}
 use mathlib.Core.List.{List, [], _∷_, _++_}
 use Prim.Native.Nat.{ℕ, zero, suc, _+_, _≤_, _<_}
 use native.Mathlib.Numerals.{add-one}
 use native.Mathlib.Omega.{arith}
 use lib.Dec.{eqb, eqb·zero-suc, eqb·suc-suc}
-use lib.ListN.{length, take, drop, getD, drop-of-length-le}
-use lib.Seq.{drop-cons, take-take}
+use lib.ListN.{length, take, drop, getD, drop-of-length-le, length-take, take-append-drop}
+use lib.Seq.{drop-cons, take-take, take-all, getD-take, length-take-le, ext-getD}
 use borrow.Table.Steps.{cases}
 use borrow.Author.Tests.{eqb-true, eqb-false, eq-eqb, ne-eqb}
 use Rattle.base.specs.Lists.{begins, sameList, sharedLength, In}
-use Rattle.base.proofs.Tests.{which, never, and-parts}
+use Rattle.base.proofs.Tests.{never, and-parts}
 
 pub begins-cases : (a b : ℕ) (p n : List ℕ) → begins (a ∷ p) (b ∷ n) ≡ true → (a ≡ b) × (begins p n ≡ true)
 begins-cases a b p n e = let t = and-parts (eqb a b) (begins p n) e in (eqb-true a b (t .0), t .1)
@@ -21,70 +21,48 @@ begins-cases a b p n e = let t = and-parts (eqb a b) (begins p n) e in (eqb-true
 pub begins-same : (a b : ℕ) (p n : List ℕ) → a ≡ b → begins p n ≡ true → begins (a ∷ p) (b ∷ n) ≡ true
 begins-same a b p n e h = rw (eq-eqb a b e, h)
 
-pub begins-refl : (p : List ℕ) → begins p p ≡ true
-begins-refl [] = refl
-begins-refl (a ∷ p) = begins-same a a p p refl (begins-refl p)
+pub begins-append : (p q : List ℕ) → begins p (p ++ q) ≡ true
+begins-append [] q = refl
+begins-append (a ∷ p) q = begins-same a a p (p ++ q) refl (begins-append p q)
 
-pub begins-trans : (p q n : List ℕ) → begins p q ≡ true → begins q n ≡ true → begins p n ≡ true
-begins-trans [] q n h k = refl
-begins-trans (a ∷ p) [] n h k = absurd (false≢true h)
-begins-trans (a ∷ p) (b ∷ q) [] h k = absurd (false≢true k)
-begins-trans (a ∷ p) (b ∷ q) (c ∷ n) h k =
-    let s = begins-cases a b p q h in
-    let t = begins-cases b c q n k in
-    begins-same a c p n (s .0 ∙ t .0) (begins-trans p q n (s .1) (t .1))
-
-pub begins-length : (p n : List ℕ) → begins p n ≡ true → length p ≤ length n
-begins-length [] n h = omega arith
-begins-length (a ∷ p) [] h = absurd (false≢true h)
-begins-length (a ∷ p) (b ∷ n) h = let t = begins-length p n (begins-cases a b p n h .1) in omega arith
-
--- of two beginnings of one list the shorter begins the longer
-pub begins-both : (p q n : List ℕ) → begins p n ≡ true → begins q n ≡ true → length p ≤ length q → begins p q ≡ true
-begins-both [] q n h k l = refl
-begins-both (a ∷ p) [] n h k l = absurd (omega arith)
-begins-both (a ∷ p) (b ∷ q) [] h k l = absurd (false≢true h)
-begins-both (a ∷ p) (b ∷ q) (c ∷ n) h k l =
-    let s = begins-cases a c p n h in
-    let t = begins-cases b c q n k in
-    begins-same a b p q (s .0 ∙ sym (t .0)) (begins-both p q n (s .1) (t .1) (omega arith))
-
--- a beginning as long as the whole is the whole
-pub begins-whole : (p q : List ℕ) → begins p q ≡ true → length q ≤ length p → p ≡ q
-begins-whole [] [] h l = refl
-begins-whole [] (b ∷ q) h l = absurd (omega arith)
-begins-whole (a ∷ p) [] h l = absurd (false≢true h)
-begins-whole (a ∷ p) (b ∷ q) h l = let s = begins-cases a b p q h in cc (s .0, begins-whole p q (s .1) (omega arith))
-
-pub take-begins : (l : ℕ) (n : List ℕ) → begins (take l n) n ≡ true
-take-begins zero n = refl
-take-begins (suc l) [] = refl
-take-begins (suc l) (b ∷ n) = begins-same b b (take l n) n refl (take-begins l n)
-
+-- a beginning is as many of the first elements as it has, and back: most of what follows is known of `take`
 pub begins-is-take : (p n : List ℕ) → begins p n ≡ true → p ≡ take (length p) n
 begins-is-take [] n h = refl
 begins-is-take (a ∷ p) [] h = absurd (false≢true h)
 begins-is-take (a ∷ p) (b ∷ n) h = let t = begins-cases a b p n h in cc (t .0, begins-is-take p n (t .1))
 
--- element by element, and back
-pub begins-at : (p n : List ℕ) (i d : ℕ) → begins p n ≡ true → i < length p → getD n i d ≡ getD p i d
-begins-at [] n i d h l = absurd (omega arith)
-begins-at (a ∷ p) [] i d h l = absurd (false≢true h)
-begins-at (a ∷ p) (b ∷ n) zero d h l = sym (begins-cases a b p n h .0)
-begins-at (a ∷ p) (b ∷ n) (suc i) d h l = begins-at p n i d (begins-cases a b p n h .1) (omega arith)
+pub take-begins : (l : ℕ) (n : List ℕ) → begins (take l n) n ≡ true
+take-begins l n = rw take-append-drop at (begins-append (take l n) (drop l n))
 
-pub begins-of : (p n : List ℕ) → length p ≤ length n → ((i : ℕ) → i < length p → getD p i 0 ≡ getD n i 0) → begins p n ≡ true
-begins-of [] n h e = refl
-begins-of (a ∷ p) [] h e = absurd (omega arith)
-begins-of (a ∷ p) (b ∷ n) h e = begins-same a b p n (e 0 (omega arith)) (begins-of p n (omega arith) (λ i l. e (suc i) (omega arith)))
+is-begun : (p n : List ℕ) → p ≡ take (length p) n → begins p n ≡ true
+is-begun p n e = rw e (take-begins (length p) n)
+
+pub begins-refl : (p : List ℕ) → begins p p ≡ true
+begins-refl p = is-begun p p (sym (take-all (length p) p (omega arith)))
+
+pub begins-length : (p n : List ℕ) → begins p n ≡ true → length p ≤ length n
+begins-length p n h = omega (arith, ap length (begins-is-take p n h) ∙ length-take (length p) n)
 
 pub begins-part : (p n : List ℕ) (k : ℕ) → begins p n ≡ true → k ≤ length p → take k n ≡ take k p
 begins-part p n k h l = sym (ap (take k) (begins-is-take p n h) ∙ take-take k (length p) n l)
 
-pub begins-append : (p q : List ℕ) → begins p (p ++ q) ≡ true
-begins-append [] q = refl
-begins-append (a ∷ p) q = begins-same a a p (p ++ q) refl (begins-append p q)
+pub begins-trans : (p q n : List ℕ) → begins p q ≡ true → begins q n ≡ true → begins p n ≡ true
+begins-trans p q n h k = is-begun p n (begins-is-take p q h ∙ sym (begins-part q n (length p) k (begins-length p q h)))
 
+-- of two beginnings of one list the shorter begins the longer
+pub begins-both : (p q n : List ℕ) → begins p n ≡ true → begins q n ≡ true → length p ≤ length q → begins p q ≡ true
+begins-both p q n h k l = is-begun p q (begins-is-take p n h ∙ begins-part q n (length p) k l)
+
+-- a beginning as long as the whole is the whole
+pub begins-whole : (p q : List ℕ) → begins p q ≡ true → length q ≤ length p → p ≡ q
+begins-whole p q h l = begins-is-take p q h ∙ take-all (length p) q l
+
+-- element by element, and back
+pub begins-at : (p n : List ℕ) (i d : ℕ) → begins p n ≡ true → i < length p → getD n i d ≡ getD p i d
+begins-at p n i d h l = sym (ap (λ m. getD m i d) (begins-is-take p n h) ∙ getD-take (length p) n i d l)
+
+pub begins-of : (p n : List ℕ) → length p ≤ length n → ((i : ℕ) → i < length p → getD p i 0 ≡ getD n i 0) → begins p n ≡ true
+begins-of p n h e = is-begun p n (ext-getD 0 p _ (sym (length-take-le (length p) n h)) (λ i l. e i l ∙ sym (getD-take (length p) n i 0 l)))
 -- a list that begins with two lists, one after the other
 pub begins-parts : (p q n : List ℕ) → begins (p ++ q) n ≡ begins p n && begins q (drop (length p) n)
 begins-parts [] q n = refl
@@ -106,17 +84,10 @@ same-refl (a ∷ p) = rw (eq-eqb a a refl, same-refl p)
 -- a list is a member of a list of lists, or it is not
 pub in-or-out : (p : List ℕ) (B : List (List ℕ)) → In p B ⊎ (In p B → ⊥)
 in-or-out p [] = inr (λ h. h)
-in-or-out p (q ∷ B) = step (which (sameList p q)) (in-or-out p B)
-  where
-    neither : sameList p q ≡ false → (In p B → ⊥) → In p (q ∷ B) → ⊥
-    neither e h (inl s) = never (sameList p q) (rw s (same-refl q)) e
-    neither e h (inr k) = h k
-
-    step : (sameList p q ≡ true) ⊎ (sameList p q ≡ false) → In p B ⊎ (In p B → ⊥) → In p (q ∷ B) ⊎ (In p (q ∷ B) → ⊥)
-    step (inl e) r = inl (inl (same-true p q e))
-    step (inr e) (inl k) = inl (inr k)
-    step (inr e) (inr h) = inr (neither e h)
-
+in-or-out p (q ∷ B) =
+    cases (sameList p q)
+    (λ e. inl (inl (same-true p q e)))
+    (λ e. ⊎-elim (λ k. inl (inr k)) (λ h. inr (⊎-elim (λ s. never _ (rw s (same-refl q)) e) h)) (in-or-out p B))
 -- ---- the length that two lists share
 
 pub record Sharing (a b : List ℕ) (i : ℕ) : Type 0 where

@@ -11,7 +11,6 @@ use lib.Seq.{drop-cons, take-nil}
 use borrow.Table.Steps.{cases}
 use borrow.Author.Tests.{eq-eqb, ne-eqb}
 use Rattle.base.specs.Lists.{keep, each, eachList, firstOf, isEmpty, positionIn, In}
-use Rattle.base.proofs.Tests.{which}
 
 pub in-left : {A : Type 0} (x : A) (s t : List A) → In x s → In x (s ++ t)
 in-left x [] t h = absurd h
@@ -111,16 +110,10 @@ module _ {A : Type 0} (f : A → Bool) where
 
   pub keep-in : (l : List A) (x : A) → In x (keep f l) → In x l × (f x ≡ true)
   keep-in [] x h = absurd h
-  keep-in (y ∷ l) x h = step (keep-in l x) (which (f y))
-    where
-      first : f y ≡ true → (In x (keep f l) → In x l × (f x ≡ true)) → (x ≡ y) ⊎ In x (keep f l) → In x (y ∷ l) × (f x ≡ true)
-      first q below (inl e) = (inl e, ap f e ∙ q)
-      first q below (inr r) = (inr (below r .0), below r .1)
-
-      step : (In x (keep f l) → In x l × (f x ≡ true)) → (f y ≡ true) ⊎ (f y ≡ false) → In x (y ∷ l) × (f x ≡ true)
-      step below (inl q) = first q below (rw q at h)
-      step below (inr q) = let r = below (rw q at h) in (inr (r .0), r .1)
-
+  keep-in (y ∷ l) x h =
+      cases (f y)
+      (λ q. ⊎-elim (λ e. (inl e, ap f e ∙ q)) (λ k. let r = keep-in l x k in (inr (r .0), r .1)) (rw q at h))
+      (λ q. let r = keep-in l x (rw q at h) in (inr (r .0), r .1))
   pub keep-none : (l : List A) → ((x : A) → In x l → f x ≡ false) → keep f l ≡ []
   keep-none [] h = refl
   keep-none (y ∷ l) h = rw (h y (inl refl)) (keep-none l (λ x k. h x (inr k)))

@@ -11,7 +11,7 @@ use lib.ListN.{length, take, getD}
 use borrow.Table.Steps.{cases}
 use borrow.Author.Tests.{eqb-true}
 use Rattle.base.specs.Lists.{fromOn, keep, each, eachList, firstOf, sortBy, In, Pairwise}
-use Rattle.base.proofs.Tests.{which, le-or-lt}
+use Rattle.base.proofs.Tests.{le-or-lt}
 use Rattle.base.proofs.Members.{in-right, in-either, getD-in, keep-in, in-take, in-each, in-eachList}
 use Rattle.base.proofs.Runs.{in-from}
 use Rattle.base.proofs.Shuffles.{Shuffle, shuffle-sym, shuffle-in, sort-shuffle, part}
@@ -20,11 +20,7 @@ use Rattle.base.proofs.Shuffles as shuffles
 module _ {A : Type 0} (R : A → A → Type 0) where
   pub pairs-append : (s t : List A) → Pairwise R s → Pairwise R t → ((x y : A) → In x s → In y t → R x y) → Pairwise R (s ++ t)
   pairs-append [] t hs ht h = ht
-  pairs-append (x ∷ s) t hs ht h = (first, pairs-append s t (hs .1) ht (λ u v k. h u v (inr k)))
-    where
-      first : (y : A) → In y (s ++ t) → R x y
-      first y k = ⊎-elim (λ u. hs .0 y u) (λ u. h x y (inl refl) u) (in-either y s t k)
-
+  pairs-append (x ∷ s) t hs ht h = ((λ y k. ⊎-elim (hs .0 y) (h x y (inl refl)) (in-either y s t k)), pairs-append s t (hs .1) ht (λ u v k. h u v (inr k)))
   -- what stands before a seam, to what stands behind it
   pub pairs-seam : (s t : List A) → Pairwise R (s ++ t) → (x y : A) → In x s → In y t → R x y
   pairs-seam [] t h x y u v = absurd u
@@ -46,11 +42,8 @@ module _ {A : Type 0} (R : A → A → Type 0) where
   pairs-shuffle : ((x y : A) → R x y → R y x) → {l m : List A} → Shuffle l m → Pairwise R l → Pairwise R m
   pairs-shuffle both (shuffles.same l) h = h
   pairs-shuffle both (shuffles.below x p) h = ((λ y k. h .0 y (shuffle-in (shuffle-sym p) y k)), pairs-shuffle both p (h .1))
-  pairs-shuffle both (shuffles.swap x y l) h = (first, ((λ z k. h .0 z (inr k)), h .1 .1))
-    where
-      first : (z : A) → (z ≡ x) ⊎ In z l → R y z
-      first z (inl e) = rw e (both x y (h .0 y (inl refl)))
-      first z (inr k) = h .1 .0 z k
+  pairs-shuffle both (shuffles.swap x y l) h =
+      ((λ z. ⊎-elim (λ e. rw e (both x y (h .0 y (inl refl)))) (h .1 .0 z)), ((λ z k. h .0 z (inr k)), h .1 .1))
   pairs-shuffle both (shuffles.next p q) h = pairs-shuffle both q (pairs-shuffle both p h)
 
   -- by places
@@ -62,11 +55,7 @@ module _ {A : Type 0} (R : A → A → Type 0) where
 
 pub pairs-each : {A B : Type 0} (R : B → B → Type 0) (f : A → B) (l : List A) → Pairwise (λ x y. R (f x) (f y)) l → Pairwise R (each f l)
 pairs-each R f [] h = tt
-pairs-each {A} {B} R f (x ∷ l) h = (first, pairs-each R f l (h .1))
-  where
-    first : (y : B) → In y (each f l) → R (f x) y
-    first y k = let s = in-each f l y k in rw (s .2) (h .0 (s .0) (s .1))
-
+pairs-each R f (x ∷ l) h = ((λ y k. let s = in-each f l y k in rw (s .2) (h .0 (s .0) (s .1))), pairs-each R f l (h .1))
 -- what follows of two relations for each pair
 pub pairs-join : {A : Type 0} (R S T : A → A → Type 0) (l : List A) → ((x y : A) → In x l → In y l → R x y → S x y → T x y)
     → Pairwise R l → Pairwise S l → Pairwise T l
@@ -85,13 +74,11 @@ Distinct key l = Pairwise (λ x y. key x ≡ key y → ⊥) l
 -- two places with one key are one place
 pub distinct-once : {A B : Type 0} (key : A → B) (d : A) (l : List A) → Distinct key l
     → (i k : ℕ) → i < length l → k < length l → key (getD l i d) ≡ key (getD l k d) → i ≡ k
-distinct-once key d l h i k u v e = step (le-or-lt k i) (le-or-lt i k)
-  where
-    step : (k ≤ i) ⊎ (i < k) → (i ≤ k) ⊎ (k < i) → i ≡ k
-    step (inr a) b = absurd (pairs-at (λ x y. key x ≡ key y → ⊥) d l h i k a v e)
-    step (inl a) (inr b) = absurd (pairs-at (λ x y. key x ≡ key y → ⊥) d l h k i b u (sym e))
-    step (inl a) (inl b) = omega arith
-
+distinct-once key d l h i k u v e =
+    ⊎-elim
+    (λ (a : k ≤ i). ⊎-elim (λ (b : i ≤ k). omega arith) (λ b. absurd (pairs-at _ d l h k i b u (sym e))) (le-or-lt i k))
+    (λ a. absurd (pairs-at _ d l h i k a v e))
+    (le-or-lt k i)
 pub distinct-sort : {A B : Type 0} (key : A → B) (before : A → A → Bool) (l : List A) → Distinct key l → Distinct key (sortBy before l)
 distinct-sort key before l h = pairs-shuffle (λ x y. key x ≡ key y → ⊥) (λ x y n e. n (sym e)) (shuffle-sym (sort-shuffle before l)) h
 
