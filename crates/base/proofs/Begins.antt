@@ -63,6 +63,7 @@ begins-at p n i d h l = sym (ap (λ m. getD m i d) (begins-is-take p n h) ∙ ge
 
 pub begins-of : (p n : List ℕ) → length p ≤ length n → ((i : ℕ) → i < length p → getD p i 0 ≡ getD n i 0) → begins p n ≡ true
 begins-of p n h e = is-begun p n (ext-getD 0 p _ (sym (length-take-le (length p) n h)) (λ i l. e i l ∙ sym (getD-take (length p) n i 0 l)))
+
 -- a list that begins with two lists, one after the other
 pub begins-parts : (p q n : List ℕ) → begins (p ++ q) n ≡ begins p n && begins q (drop (length p) n)
 begins-parts [] q n = refl
@@ -88,6 +89,7 @@ in-or-out p (q ∷ B) =
     cases (sameList p q)
     (λ e. inl (inl (same-true p q e)))
     (λ e. ⊎-elim (λ k. inl (inr k)) (λ h. inr (⊎-elim (λ s. never _ (rw s (same-refl q)) e) h)) (in-or-out p B))
+
 -- ---- the length that two lists share
 
 pub record Sharing (a b : List ℕ) (i : ℕ) : Type 0 where

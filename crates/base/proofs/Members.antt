@@ -114,6 +114,7 @@ module _ {A : Type 0} (f : A → Bool) where
       cases (f y)
       (λ q. ⊎-elim (λ e. (inl e, ap f e ∙ q)) (λ k. let r = keep-in l x k in (inr (r .0), r .1)) (rw q at h))
       (λ q. let r = keep-in l x (rw q at h) in (inr (r .0), r .1))
+
   pub keep-none : (l : List A) → ((x : A) → In x l → f x ≡ false) → keep f l ≡ []
   keep-none [] h = refl
   keep-none (y ∷ l) h = rw (h y (inl refl)) (keep-none l (λ x k. h x (inr k)))

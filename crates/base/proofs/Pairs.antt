@@ -21,6 +21,7 @@ module _ {A : Type 0} (R : A → A → Type 0) where
   pub pairs-append : (s t : List A) → Pairwise R s → Pairwise R t → ((x y : A) → In x s → In y t → R x y) → Pairwise R (s ++ t)
   pairs-append [] t hs ht h = ht
   pairs-append (x ∷ s) t hs ht h = ((λ y k. ⊎-elim (hs .0 y) (h x y (inl refl)) (in-either y s t k)), pairs-append s t (hs .1) ht (λ u v k. h u v (inr k)))
+
   -- what stands before a seam, to what stands behind it
   pub pairs-seam : (s t : List A) → Pairwise R (s ++ t) → (x y : A) → In x s → In y t → R x y
   pairs-seam [] t h x y u v = absurd u
@@ -56,6 +57,7 @@ module _ {A : Type 0} (R : A → A → Type 0) where
 pub pairs-each : {A B : Type 0} (R : B → B → Type 0) (f : A → B) (l : List A) → Pairwise (λ x y. R (f x) (f y)) l → Pairwise R (each f l)
 pairs-each R f [] h = tt
 pairs-each R f (x ∷ l) h = ((λ y k. let s = in-each f l y k in rw (s .2) (h .0 (s .0) (s .1))), pairs-each R f l (h .1))
+
 -- what follows of two relations for each pair
 pub pairs-join : {A : Type 0} (R S T : A → A → Type 0) (l : List A) → ((x y : A) → In x l → In y l → R x y → S x y → T x y)
     → Pairwise R l → Pairwise S l → Pairwise T l
@@ -79,6 +81,7 @@ distinct-once key d l h i k u v e =
     (λ (a : k ≤ i). ⊎-elim (λ (b : i ≤ k). omega arith) (λ b. absurd (pairs-at _ d l h k i b u (sym e))) (le-or-lt i k))
     (λ a. absurd (pairs-at _ d l h i k a v e))
     (le-or-lt k i)
+
 pub distinct-sort : {A B : Type 0} (key : A → B) (before : A → A → Bool) (l : List A) → Distinct key l → Distinct key (sortBy before l)
 distinct-sort key before l h = pairs-shuffle (λ x y. key x ≡ key y → ⊥) (λ x y n e. n (sym e)) (shuffle-sym (sort-shuffle before l)) h
 

@@ -1,21 +1,23 @@
 -- A word of bits: its size, what one more bit adds, what each bit says, the words of tests put together, of parts and of an interval.
 -- Assumes nothing.
-use mathlib.Core.Path.{_≡_, refl, ap, _∙_}
+use mathlib.Core.Path.{_≡_, refl, sym, ap, _∙_}
 use mathlib.Core.Bool.{Bool, true, false, _&&_, _||_, and-true, and-false}
 use mathlib.Core.Logic.{_⊎_, inl, inr, ⊎-elim}
 use mathlib.Core.List.{[], _∷_, _++_}
 use Prim.Native.Nat.{ℕ, zero, suc, _+_, _-_, _*_, _/_, _%_, _^_, _<_, _≤_}
 use native.Mathlib.Nat.{pow-suc, mod-eq-of-lt, one-mul, add-comm, add-assoc, add-mul, mul-assoc, add-mul-div-right, zero-add, add-zero, add-suc}
+use native.Mathlib.Numerals.{add-one}
 use native.Mathlib.Omega.{arith}
 use lib.Dec.{eqb, leb, ltb}
 use lib.Bits.{bitAnd, bitOr, and-block, or-block}
 use lib.Count.{ones, ones-cat}
 use lib.ListN.{length, length-append}
 use lib.Pow.{pow-lt, pow-mono, pow-pos, pow-add, high, mod-pow-add}
+use borrow.Table.Steps.{cases}
 use borrow.Author.Tests.{eq-eqb, ne-eqb, lt-ltb, le-ltb, le-leb, lt-leb}
 use Rattle.base.specs.Lists.{fromOn, keep}
 use Rattle.base.specs.Bits.{bit, wordOf, bitAt}
-use Rattle.base.proofs.Tests.{le-or-lt, which}
+use Rattle.base.proofs.Tests.{le-or-lt}
 use Rattle.base.proofs.Members.{keep-append}
 use Rattle.base.proofs.Runs.{from-split}
 
@@ -185,16 +187,11 @@ pub ones-word : (test : ℕ → Bool) (base n : ℕ) → ones (wordOf test base 
 unfolding wordOf ones
 ones-word test base zero = refl
 ones-word test base (suc n) =
-    let e : suc n ≡ n + 1 = omega arith in
-    let k : keep test (fromOn base (suc n)) ≡ keep test (fromOn base n) ++ keep test ((base + n) ∷ []) =
-    ap (λ (m : ℕ). keep test (fromOn base m)) e ∙ ap (keep test) (from-split base n 1) ∙ keep-append test (fromOn base n) ((base + n) ∷ []) in
+    let k = ap (keep test) (ap (fromOn base) (sym (add-one n)) ∙ from-split base n 1) ∙ keep-append test (fromOn base n) ((base + n) ∷ []) in
+    let one : ones (bit (test (base + n))) ≡ length (keep test ((base + n) ∷ [])) = cases (test (base + n)) (λ q. rw q) (λ q. rw q) in
     ap ones (add-comm (wordOf test base n) (bit (test (base + n)) * 2 ^ n))
     ∙ ones-cat n (bit (test (base + n))) (wordOf test base n) (word-less test base n)
-    ∙ omega (arith, ones-word test base n, one (which (test (base + n))), ap length k ∙ length-append (keep test (fromOn base n)) (keep test ((base + n) ∷ [])))
-  where
-    one : (test (base + n) ≡ true) ⊎ (test (base + n) ≡ false) → ones (bit (test (base + n))) ≡ length (keep test ((base + n) ∷ []))
-    one (inl q) = rw q
-    one (inr q) = rw q
+    ∙ omega (arith, ones-word test base n, ap length k ∙ length-append (keep test (fromOn base n)) (keep test ((base + n) ∷ [])))
 
 -- the highest bit of a word that is 1: the test holds there, and of none above it
 pub record TopBit (test : ℕ → Bool) (n i : ℕ) : Type 0 where
@@ -228,24 +225,17 @@ top-set test n i h k q =
 
 pub top-bit : (test : ℕ → Bool) (n i : ℕ) → 2 ^ i ≤ wordOf test 0 n → wordOf test 0 n < 2 ^ suc i → TopBit test n i
 top-bit test zero i h k = absurd (omega (arith, word-less test 0 0, pow-pos i))
-top-bit test (suc n) i h k = step (which (test n)) (top-bit test n i)
-  where
-    lower : test n ≡ false → TopBit test n i → TopBit test (suc n) i
-    lower q t =
-        let w : wordOf test 0 (suc n) ≡ wordOf test 0 n = word-next test n ∙ rw q (omega arith) in
-        record {
-          inside = omega (arith, t .inside);
-          set = t .set;
-          rest = rw w (t .rest);
-          above = λ m l u.
-              ⊎-elim
-              (λ (v : n ≤ m). let e : m ≡ n = omega arith in ap test e ∙ q)
-              (λ (v : m < n). t .above m l v)
-              (le-or-lt n m);
-        }
-
-    step : (test n ≡ true) ⊎ (test n ≡ false) → (2 ^ i ≤ wordOf test 0 n → wordOf test 0 n < 2 ^ suc i → TopBit test n i) → TopBit test (suc n) i
-    step (inl q) below = top-set test n i h k q
-    step (inr q) below =
-        let w : wordOf test 0 (suc n) ≡ wordOf test 0 n = word-next test n ∙ rw q (omega arith) in
-        lower q (below (omega (arith, w)) (omega (arith, w)))
+top-bit test (suc n) i h k =
+    cases (test n) (top-set test n i h k) (λ q.
+    let w : wordOf test 0 (suc n) ≡ wordOf test 0 n = word-next test n ∙ rw q (omega arith) in
+    let t = top-bit test n i (omega arith) (omega arith) in
+    record {
+      inside = omega (arith, t .inside);
+      set = t .set;
+      rest = rw w (t .rest);
+      above = λ m l u.
+          ⊎-elim
+          (λ (v : n ≤ m). let e : m ≡ n = omega arith in ap test e ∙ q)
+          (λ (v : m < n). t .above m l v)
+          (le-or-lt n m);
+    })
