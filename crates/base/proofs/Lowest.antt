@@ -1,9 +1,9 @@
 -- The set bits of a word, taken lowest first: the lowest one, the word without it, and how many there are.
 -- Each law goes by the lowest digit and the word's half. Assumes nothing.
-use mathlib.Core.Path.{_≡_, refl, ap, _∙_}
-use mathlib.Core.Logic.{_⊎_, inl, inr, ⊎-elim}
+use mathlib.Core.Path.{_≡_, ap, _∙_}
+use mathlib.Core.Logic.{⊎-elim}
 use mathlib.Core.List.{List, [], _∷_}
-use Prim.Native.Nat.{ℕ, zero, suc, _-_, _*_, _/_, _%_, _^_, _≤_, _<_}
+use Prim.Native.Nat.{ℕ, zero, suc, _-_, _*_, _/_, _%_, _^_, _<_}
 use native.Mathlib.Nat.{pow-suc, mul-comm, zero-div, div-one, div-div-eq-div-mul}
 use native.Mathlib.Omega.{arith}
 use lib.Bits.{bitAnd, and-step, and-self}
@@ -11,7 +11,7 @@ use lib.Count.{ones, ones-step, trailingZeros}
 use lib.ListN.{length}
 use Rattle.base.specs.Lists.{fromOn, upTo, keep, each}
 use Rattle.base.specs.Bits.{bitAt}
-use Rattle.base.proofs.Tests.{le-or-lt}
+use Rattle.base.proofs.Words.{parity}
 use Rattle.base.proofs.Members.{keep-each, keep-none, keep-same, length-each}
 use Rattle.base.proofs.Runs.{from-shift}
 
@@ -38,9 +38,6 @@ odd k w e = rw (div-one w, e, above-is k w)
 
 even : (k w : ℕ) → w % 2 ≡ 0 → setBits (suc k) w ≡ above k w
 even k w e = rw (div-one w, e, above-is k w)
-
-parity : (w : ℕ) → (w % 2 ≡ 0) ⊎ (w % 2 ≡ 1)
-parity w = ⊎-elim (λ (h : w % 2 ≤ 0). inl (omega arith)) (λ (h : 0 < w % 2). inr (omega arith)) (le-or-lt (w % 2) 0)
 
 -- no set bit in 0
 pub bits-none : (k : ℕ) → setBits k 0 ≡ []

@@ -3,7 +3,7 @@
 use mathlib.Core.Path.{_≡_, refl, sym, ap, _∙_}
 use mathlib.Core.Bool.{Bool, true, false, _&&_, _||_, and-true, and-false}
 use mathlib.Core.Logic.{_⊎_, inl, inr, ⊎-elim}
-use mathlib.Core.List.{[], _∷_, _++_}
+use mathlib.Core.List.{[], _∷_}
 use Prim.Native.Nat.{ℕ, zero, suc, _+_, _-_, _*_, _/_, _%_, _^_, _<_, _≤_}
 use native.Mathlib.Nat.{pow-suc, mod-eq-of-lt, one-mul, add-comm, add-assoc, add-mul, mul-assoc, add-mul-div-right, zero-add, add-zero, add-suc}
 use native.Mathlib.Numerals.{add-one}
@@ -20,6 +20,9 @@ use Rattle.base.specs.Bits.{bit, wordOf, bitAt}
 use Rattle.base.proofs.Tests.{le-or-lt}
 use Rattle.base.proofs.Members.{keep-append}
 use Rattle.base.proofs.Runs.{from-split}
+
+pub parity : (w : ℕ) → (w % 2 ≡ 0) ⊎ (w % 2 ≡ 1)
+parity w = ⊎-elim (λ (h : w % 2 ≤ 0). inl (omega arith)) (λ (h : 0 < w % 2). inr (omega arith)) (le-or-lt (w % 2) 0)
 
 bit-most : (b : Bool) (n : ℕ) → bit b * n ≤ n
 bit-most true n = omega arith
@@ -165,11 +168,7 @@ word-between first past (suc n) h =
 
 -- a number is the word of its own bits
 half-bit : (x : ℕ) → bit (eqb (x % 2) 1) ≡ x % 2
-half-bit x =
-    ⊎-elim
-    (λ (h : x % 2 ≤ 0). let z : x % 2 ≡ 0 = omega arith in rw z)
-    (λ (h : 0 < x % 2). let z : x % 2 ≡ 1 = omega arith in rw z)
-    (le-or-lt (x % 2) 0)
+half-bit x = ⊎-elim (λ (e : x % 2 ≡ 0). rw e) (λ (e : x % 2 ≡ 1). rw e) (parity x)
 
 bits-below : (w n : ℕ) → wordOf (bitAt w) 0 n ≡ w % 2 ^ n
 unfolding wordOf
@@ -207,15 +206,9 @@ word-next test n = ap (λ (k : ℕ). wordOf test 0 n + bit (test k) * 2 ^ n) (ze
 top-set : (test : ℕ → Bool) (n i : ℕ) → 2 ^ i ≤ wordOf test 0 (suc n) → wordOf test 0 (suc n) < 2 ^ suc i → test n ≡ true → TopBit test (suc n) i
 top-set test n i h k q =
     let w : wordOf test 0 (suc n) ≡ wordOf test 0 n + 2 ^ n = word-next test n ∙ rw q (omega arith) in
-    let same : i ≡ n =
-    ⊎-elim
-    (λ (l : n ≤ i).
-    ⊎-elim
-    (λ (u : i ≤ n). omega arith)
-    (λ (u : n < i). absurd (omega (arith, word-less test 0 (suc n), pow-mono {i = suc n} {j = i} u)))
-    (le-or-lt i n))
-    (λ (l : i < n). absurd (omega (arith, pow-mono {i = suc i} {j = n} l)))
-    (le-or-lt n i) in
+    let low : n ≤ i = ⊎-elim (λ l. l) (λ l. absurd (omega (arith, pow-mono {i = suc i} {j = n} l))) (le-or-lt n i) in
+    let high : i ≤ n = ⊎-elim (λ u. u) (λ u. absurd (omega (arith, word-less test 0 (suc n), pow-mono {i = suc n} {j = i} u))) (le-or-lt i n) in
+    let same : i ≡ n = omega arith in
     record {
       inside = omega arith;
       set = ap test same ∙ q;
