@@ -8,6 +8,7 @@ use Prim.Native.Nat.{ℕ, zero, suc}
 use native.Mathlib.Omega.{arith}
 use lib.Dec.{ltb}
 use lib.ListN.{length, getD}
+use borrow.Table.Steps.{cases}
 use Rattle.base.specs.Lists.{all}
 use Rattle.rules.specs.declared.Grid.{Grid}
 use Rattle.rules.specs.declared.Rect.{Rect}
@@ -20,7 +21,7 @@ use Rattle.rules.specs.Names.{allowed, textRefusal}
 use Rattle.rules.specs.Places.{rectLawful}
 use Rattle.rules.specs.Tables.{Table}
 use Rattle.rules.specs.Questions.{rangeList, ranking, rankingLawful, rangeRefusal, rankedRefusal}
-use Rattle.rules.specs.Outcomes.{Outcome, outcome, refused, filled, roomFor, settled, rangeOutcome, rankedOutcome, rangeCame, rankedCame}
+use Rattle.rules.specs.Outcomes.{Outcome, refused, roomFor, settled, rangeOutcome, rankedOutcome, rangeCame, rankedCame}
 use Rattle.rules.specs.Promises.{Kept, RangeKept, RankedKept}
 use Rattle.rules.proofs.Numbers.{one-range, one-ranked}
 
@@ -53,11 +54,7 @@ limit-but-7 false n h e = h e
 
 settled-but-7 : (n places : ℕ) (short told : Told) (words rooms : List (List ℕ)) → (n ≡ 7 → ⊥) → (short .refusal ≡ 7 → ⊥) → (told .refusal ≡ 7 → ⊥)
     → settled n places short told words rooms .told .refusal ≡ 7 → ⊥
-settled-but-7 zero places short told words rooms h s a = step (roomFor places rooms)
-  where
-    step : (b : Bool) → cond b (outcome told (filled words rooms)) (outcome short rooms) .told .refusal ≡ 7 → ⊥
-    step true = a
-    step false = s
+settled-but-7 zero places short told words rooms h s a = cases (roomFor places rooms) (λ q. rw q a) (λ q. rw q s)
 settled-but-7 (suc n) places short told words rooms h s a = h
 
 pub range-but-7 : (p : List ℕ) (r : Rect) (list : List ℕ) (rooms : List (List ℕ)) → rangeOutcome (rangeRefusal p r) list rooms .told .refusal ≡ 7 → ⊥
