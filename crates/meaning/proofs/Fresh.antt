@@ -2,8 +2,9 @@
 -- Assumes nothing.
 use mathlib.Core.Path.{_≡_, refl, sym, ap, _∙_}
 use mathlib.Core.Bool.{Bool, true, false, not}
-use mathlib.Core.List.{List, [], _∷_, _++_}
+use mathlib.Core.List.{List, [], _∷_}
 use Prim.Native.Nat.{ℕ, suc, _+_, _-_, _≤_}
+use native.Mathlib.Numerals.{one-add}
 use native.Mathlib.Omega.{arith}
 use lib.ListN.{length, take, length-take}
 use borrow.Author.Tests.{not-true}
@@ -15,37 +16,18 @@ use Rattle.rules.specs.Indexes.{beginningsOf}
 use Rattle.meaning.specs.Trees.{fresh}
 
 pub fresh-takes : (m n : List ℕ) → fresh m n ≡ each (λ l. take l n) (fromOn (suc (sharedLength m n)) (length n - sharedLength m n))
-fresh-takes m n = keep-each (λ p. not (begins p m)) (λ l. take l n) (fromOn 1 (length n)) ∙ ap (each (λ l. take l n)) lengths
-  where
-    new : ℕ → Bool
-    new l = not (begins (take l n) m)
-
-    shared : ℕ
-    shared = sharedLength m n
-
+fresh-takes m n =
+    let new : ℕ → Bool = λ l. not (begins (take l n) m) in
+    let shared = sharedLength m n in
+    let few = shared-le-other m n in
     -- the lengths up to what is shared, and the longer ones
-    split : fromOn 1 (length n) ≡ fromOn 1 shared ++ fromOn (suc shared) (length n - shared)
-    split =
-        let e : length n ≡ shared + (length n - shared) = omega (arith, shared-le-other m n) in
-        let o : 1 + shared ≡ suc shared = omega arith in
-        ap (fromOn 1) e ∙ from-split 1 shared (length n - shared) ∙ ap (λ k. fromOn 1 shared ++ fromOn k (length n - shared)) o
-
-    old : (x : ℕ) → In x (fromOn 1 shared) → new x ≡ false
-    old x h = rw (shared-begins m n x (omega (arith, in-from 1 shared x h)))
-
-    longer : (x : ℕ) → In x (fromOn (suc shared) (length n - shared)) → new x ≡ true
-    longer x h =
-        let r = in-from (suc shared) (length n - shared) x h in
-        rw (past-shared m n x (omega arith) (omega (arith, shared-le-other m n)))
-
-    lengths : keep (λ l. not (begins (take l n) m)) (fromOn 1 (length n)) ≡ fromOn (suc (sharedLength m n)) (length n - sharedLength m n)
-    lengths =
-        rw (
-          split,
-          keep-append new (fromOn 1 shared) (fromOn (suc shared) (length n - shared)),
-          keep-none new (fromOn 1 shared) old,
-          keep-every new (fromOn (suc shared) (length n - shared)) longer,
-        )
+    let e : length n ≡ shared + (length n - shared) = omega arith in
+    let old = keep-none new (fromOn 1 shared) (λ x h. rw (shared-begins m n x (omega (arith, in-from 1 shared x h)))) in
+    let longer = keep-every new (fromOn (1 + shared) (length n - shared)) (λ x h.
+    let r = in-from (1 + shared) (length n - shared) x h in rw (past-shared m n x (omega arith) (omega arith))) in
+    keep-each (λ p. not (begins p m)) (λ l. take l n) (fromOn 1 (length n))
+    ∙ ap (λ k. each (λ l. take l n) (keep new (fromOn 1 k))) e
+    ∙ rw (from-split 1 shared (length n - shared), keep-append new (fromOn 1 shared) (fromOn (1 + shared) (length n - shared)), old, longer, one-add shared)
 
 in-beginnings : (n p : List ℕ) → In p (beginningsOf n) → (begins p n ≡ true) × (1 ≤ length p)
 in-beginnings n p h =

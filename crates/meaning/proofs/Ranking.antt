@@ -1,8 +1,8 @@
 -- A ranked answer means what the rules say: the best k stands under the text, best first.
 -- Assumes nothing.
 use mathlib.Core.Path.{_≡_, sym, ap, _∙_, subst}
-use mathlib.Core.Logic.{_⊎_, inl, inr}
-use mathlib.Core.List.{List, _++_}
+use mathlib.Core.Logic.{⊎-elim}
+use mathlib.Core.List.{List}
 use Prim.Native.Nat.{ℕ, min}
 use native.Mathlib.Omega.{arith}
 use lib.ListN.{take, drop, length-take, take-append-drop}
@@ -38,19 +38,13 @@ module _ (t : Table) (g : Grid) (p : List ℕ) (q : Ranking) where
 
   left-out : (h : Hit) → In h (take (q .k) sorted) → (i : ℕ) → StandUnder t p i → (In (hitOf t g q i) (take (q .k) sorted) → ⊥) → Better h (hitOf t g q i)
   unfolding hits sorted
-  left-out h k i u out = step (in-either (hitOf t g q i) (take (q .k) sorted) (drop (q .k) sorted) there)
-    where
-      parts : sorted ≡ take (q .k) sorted ++ drop (q .k) sorted
-      parts = sym (take-append-drop (q .k) sorted)
-
-      there : In (hitOf t g q i) (take (q .k) sorted ++ drop (q .k) sorted)
-      there =
-          subst (λ (l : List Hit). In (hitOf t g q i) l) parts
-          (shuffle-in (shuffle-sym (sort-shuffle better hits)) (hitOf t g q i) (each-in (hitOf t g q) (under t p) i (under-stand t p i u)))
-
-      step : In (hitOf t g q i) (take (q .k) sorted) ⊎ In (hitOf t g q i) (drop (q .k) sorted) → Better h (hitOf t g q i)
-      step (inl m) = absurd (out m)
-      step (inr m) = pairs-seam Better (take (q .k) sorted) (drop (q .k) sorted) (subst (Pairwise Better) parts hits-turn) h (hitOf t g q i) k m
+  left-out h k i u out =
+      let parts = sym (take-append-drop (q .k) sorted) in
+      let there = shuffle-in (shuffle-sym (sort-shuffle better hits)) (hitOf t g q i) (each-in (hitOf t g q) (under t p) i (under-stand t p i u)) in
+      ⊎-elim
+      (λ m. absurd (out m))
+      (pairs-seam Better (take (q .k) sorted) (drop (q .k) sorted) (subst (Pairwise Better) parts hits-turn) h (hitOf t g q i) k)
+      (in-either (hitOf t g q i) (take (q .k) sorted) (drop (q .k) sorted) (subst (λ (l : List Hit). In (hitOf t g q i) l) parts there))
 
   pub ranked-means : RankedMeans t g p q
   unfolding hits sorted

@@ -10,7 +10,7 @@ use native.Mathlib.Omega.{arith}
 use native.Mathlib.Numerals.{add-one}
 use lib.ListN.{length, drop, length-drop}
 use lib.Seq.{length-take-le}
-use Rattle.base.specs.Lists.{upTo, keep, each, total, begins, In, Pairwise}
+use Rattle.base.specs.Lists.{upTo, keep, each, total, begins, In}
 use Rattle.base.proofs.Tests.{never, le-or-lt}
 use Rattle.base.proofs.Members.{keep-in, length-each, in-each, each-append, some-length}
 use Rattle.base.proofs.Runs.{in-from, length-from, upTo-suc}
@@ -37,27 +37,17 @@ use Rattle.meaning.proofs.Regions.{by-region-shuffle}
 
 -- texts strictly in order that begin one name: each is longer than those before, so they are at most one for each length
 beginnings-few : (n : List ℕ) (B : List (List ℕ)) → Sorted B → length (keep (λ p. begins p n) B) ≤ suc (length n)
-beginnings-few n B s = rw (sym (length-each length chosen)) (less-few (each length chosen) 0 (suc (length n)) longer bounded)
-  where
-    chosen : List (List ℕ)
-    chosen = keep (λ p. begins p n) B
-
-    begun : (p : List ℕ) → In p chosen → begins p n ≡ true
-    begun p h = keep-in (λ p. begins p n) B p h .1
-
-    less : (p q : List ℕ) → In p chosen → In q chosen → inOrder q p ≡ false → length p < length q
-    less p q u v h = ⊎-elim (λ k. never _ (begins-order q p (begins-both q p n (begun q v) (begun p u) k)) h) (λ k. k) (le-or-lt (length q) (length p))
-
-    longer : Pairwise Less (each length chosen)
-    longer =
-        pairs-each Less length chosen
-        (pairs-weaken (λ p q. inOrder q p ≡ false) (λ p q. length p < length q) chosen less (pairs-keep (λ p q. inOrder q p ≡ false) (λ p. begins p n) B s))
-
-    bounded : (x : ℕ) → In x (each length chosen) → (0 ≤ x) × (x < 0 + suc (length n))
-    bounded x h =
-        let r = in-each length chosen x h in
-        let b = begins-length (r .0) n (begun (r .0) (r .1)) in
-        (omega arith, omega (arith, r .2))
+beginnings-few n B s =
+    let chosen = keep (λ p. begins p n) B in
+    let begun : (p : List ℕ) → In p chosen → begins p n ≡ true = λ p h. keep-in (λ p. begins p n) B p h .1 in
+    let less : (p q : List ℕ) → In p chosen → In q chosen → inOrder q p ≡ false → length p < length q = λ p q u v h.
+    ⊎-elim (λ k. never _ (begins-order q p (begins-both q p n (begun q v) (begun p u) k)) h) (λ k. k) (le-or-lt (length q) (length p)) in
+    let strict = pairs-keep (λ p q. inOrder q p ≡ false) (λ p. begins p n) B s in
+    rw (sym (length-each length chosen))
+    (less-few (each length chosen) 0 (suc (length n)) (pairs-each Less length chosen (pairs-weaken _ (λ p q. length p < length q) chosen less strict)) (λ x h.
+    let r = in-each length chosen x h in
+    let b = begins-length (r .0) n (begun (r .0) (r .1)) in
+    (omega arith, omega (arith, r .2))))
 
 module _ (t : Table) (g : Grid) (l : LawfulTable t g) where
   -- a name has the bytes from its start to the next one's

@@ -109,12 +109,12 @@ module _ (t : Table) where
 
     -- the run ends within the table, also where it is empty
     pub under-fits : firstOf (under t p) + length (under t p) ≤ stands t
-    under-fits = step (le-or-lt (length (under t p)) 0)
+    under-fits =
+        ⊎-elim
+        (none (under t p))
+        (λ (h : 0 < length (under t p)). omega (arith, under-only (firstOf (under t p) + length (under t p) - 1) (omega arith) (omega arith) .0))
+        (le-or-lt (length (under t p)) 0)
       where
         none : (l : List ℕ) → length l ≤ 0 → firstOf l + length l ≤ stands t
         none [] h = omega arith
         none (x ∷ l) h = absurd (omega arith)
-
-        step : (length (under t p) ≤ 0) ⊎ (0 < length (under t p)) → firstOf (under t p) + length (under t p) ≤ stands t
-        step (inl h) = none (under t p) h
-        step (inr h) = omega (arith, under-only (firstOf (under t p) + length (under t p) - 1) (omega arith) (omega arith) .0)
