@@ -19,9 +19,6 @@ use Rattle.base.proofs.Runs.{from-shift}
 abbrev pub setBits : ℕ → ℕ → List ℕ
 setBits k w = keep (bitAt w) (upTo k)
 
-bit-half : (w i : ℕ) → bitAt w (suc i) ≡ bitAt (w / 2) i
-bit-half w i = rw (pow-suc 2 i, mul-comm (2 ^ i) 2, ← div-div-eq-div-mul w 2 (2 ^ i))
-
 -- those above the lowest are those of the half, each one place higher
 above : ℕ → ℕ → List ℕ
 above k w = each suc (setBits k (w / 2))
@@ -31,7 +28,7 @@ unfolding above
 above-is k w =
     ap (keep (bitAt w)) (from-shift 0 k)
     ∙ keep-each (bitAt w) suc (upTo k)
-    ∙ ap (each suc) (keep-same (λ i. bitAt w (suc i)) (bitAt (w / 2)) (upTo k) (λ i h. bit-half w i))
+    ∙ ap (each suc) (keep-same (λ i. bitAt w (suc i)) (bitAt (w / 2)) (upTo k) (λ i h. rw (pow-suc 2 i, mul-comm (2 ^ i) 2, ← div-div-eq-div-mul w 2 (2 ^ i))))
 
 odd : (k w : ℕ) → w % 2 ≡ 1 → setBits (suc k) w ≡ 0 ∷ above k w
 odd k w e = rw (div-one w, e, above-is k w)

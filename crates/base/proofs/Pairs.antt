@@ -116,15 +116,11 @@ module _ (ρ : ℕ → ℕ) where
 
   pub parts-pairs : (l : List ℕ) → Pairwise Less l → (a n : ℕ) → Pairwise PartFirst (eachList (λ r. part ρ r l) (fromOn a n))
   parts-pairs l h a zero = tt
-  parts-pairs l h a (suc n) = pairs-append PartFirst (part ρ a l) (eachList (λ r. part ρ r l) (fromOn (suc a) n)) within (parts-pairs l h (suc a) n) across
-    where
-      of : (r x : ℕ) → In x (part ρ r l) → ρ x ≡ r
-      of r x k = eqb-true (ρ x) r (keep-in (λ i. eqb (ρ i) r) l x k .1)
-
-      within : Pairwise PartFirst (part ρ a l)
-      within = pairs-weaken Less PartFirst (part ρ a l) (λ x y u v k. inr (of a x u ∙ sym (of a y v), k)) (pairs-keep Less (λ i. eqb (ρ i) a) l h)
-
-      across : (x y : ℕ) → In x (part ρ a l) → In y (eachList (λ r. part ρ r l) (fromOn (suc a) n)) → PartFirst x y
-      across x y u v =
-          let s = in-eachList (λ r. part ρ r l) (fromOn (suc a) n) y v in
-          inl (omega (arith, of a x u, of (s .0) y (s .2), in-from (suc a) n (s .0) (s .1)))
+  parts-pairs l h a (suc n) =
+      let of : (r x : ℕ) → In x (part ρ r l) → ρ x ≡ r = λ r x k. eqb-true (ρ x) r (keep-in (λ i. eqb (ρ i) r) l x k .1) in
+      pairs-append PartFirst (part ρ a l) (eachList (λ r. part ρ r l) (fromOn (suc a) n))
+      (pairs-weaken Less PartFirst (part ρ a l) (λ x y u v k. inr (of a x u ∙ sym (of a y v), k)) (pairs-keep Less (λ i. eqb (ρ i) a) l h))
+      (parts-pairs l h (suc a) n)
+      (λ x y u v.
+      let s = in-eachList (λ r. part ρ r l) (fromOn (suc a) n) y v in
+      inl (omega (arith, of a x u, of (s .0) y (s .2), in-from (suc a) n (s .0) (s .1))))

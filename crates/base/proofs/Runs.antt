@@ -3,16 +3,16 @@
 use mathlib.Core.Path.{_≡_, refl, sym, ap, _∙_}
 use mathlib.Core.Logic.{inl, inr, ⊎-elim}
 use mathlib.Core.Bool.{Bool, true}
-use mathlib.Core.List.{List, [], _∷_, _++_}
+use mathlib.Core.List.{List, [], _∷_, _++_, append-nil}
 use Prim.Native.Nat.{ℕ, zero, suc, _+_, _-_, _≤_, _<_}
 use native.Mathlib.Omega.{arith}
 use native.Mathlib.Nat.{add-suc, add-zero, add-comm, zero-add, suc-add, eq-or-lt-of-le}
 use lib.ListN.{length, getD, set, replicate, length-append, List·getD-append}
 use lib.Seq.{getD-append-seam}
 use borrow.Table.Steps.{cases}
-use Rattle.base.specs.Lists.{fromOn, upTo, keep, each, firstOf, In}
+use Rattle.base.specs.Lists.{fromOn, upTo, keep, each, eachList, firstOf, In}
 use Rattle.base.proofs.Tests.{never, refuted, le-or-lt}
-use Rattle.base.proofs.Members.{keep-none, keep-append, keep-each, getD-each, each-each, each-same}
+use Rattle.base.proofs.Members.{keep-none, keep-append, keep-each, getD-each, each-each, each-same, eachList-append}
 
 pub length-from : (a n : ℕ) → length (fromOn a n) ≡ n
 length-from a zero = refl
@@ -60,6 +60,9 @@ upTo-split i n h =
 
 pub upTo-suc : (i : ℕ) → upTo (suc i) ≡ upTo i ++ (i ∷ [])
 upTo-suc i = let z : suc i - suc i ≡ 0 = omega arith in upTo-split i (suc i) (omega arith) ∙ ap (λ (k : ℕ). upTo i ++ (i ∷ fromOn (suc i) k)) z
+
+pub eachList-suc : {B : Type 0} (f : ℕ → List B) (i : ℕ) → eachList f (upTo (suc i)) ≡ eachList f (upTo i) ++ f i
+eachList-suc f i = ap (eachList f) (upTo-suc i) ∙ eachList-append f (upTo i) (i ∷ []) ∙ simp append-nil
 
 pub getD-each-from : {B : Type 0} (g : ℕ → B) (a n k : ℕ) (d : B) → k < n → getD (each g (fromOn a n)) k d ≡ g (a + k)
 getD-each-from g a n k d h = getD-each g (fromOn a n) k 0 d (omega (arith, length-from a n)) ∙ ap g (getD-from a n k 0 h)

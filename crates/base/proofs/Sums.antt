@@ -72,10 +72,7 @@ count-both {A} {B} f (x ∷ l) m =
 
 -- ---- the largest
 
-abbrev larger : ℕ → ℕ → ℕ
-larger a b = cond (ltb a b) b a
-
-larger-max : (a b : ℕ) → larger a b ≡ max a b
+larger-max : (a b : ℕ) → cond (ltb a b) b a ≡ max a b
 larger-max a b = cases (ltb a b) (λ q. rw q (omega (arith, ltb-true a b q))) (λ q. rw q (omega (arith, ltb-false a b q)))
 
 pub largest-last : (l : List ℕ) (x : ℕ) → largest (l ++ (x ∷ [])) ≡ cond (ltb (largest l) x) x (largest l)

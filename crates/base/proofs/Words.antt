@@ -45,9 +45,6 @@ bit-alone false = refl
 drop-even : (x y : ℕ) → (x + y * 2) % 2 ≡ x % 2
 drop-even x y = omega arith
 
-bit-top : (b : Bool) (w n : ℕ) → w < 2 ^ n → (w + bit b * 2 ^ n) / 2 ^ n % 2 ≡ bit b
-bit-top b w n h = rw (add-comm w (bit b * 2 ^ n), high (bit b) n h) (bit-alone b)
-
 bit-under : (b w n i : ℕ) → i < n → (w + b * 2 ^ n) / 2 ^ i % 2 ≡ w / 2 ^ i % 2
 bit-under b w n i h =
     let j = n - suc i in
@@ -60,7 +57,7 @@ unfolding wordOf
 bit-says test base zero i h = absurd (omega arith)
 bit-says test base (suc n) i h =
     ⊎-elim
-    (λ (k : n ≤ i). let e : i ≡ n = omega arith in rw e (bit-top (test (base + n)) _ n (word-less test base n)))
+    (λ (k : n ≤ i). let e : i ≡ n = omega arith in rw (e, add-comm (wordOf test base n), high (bit (test (base + n))) n (word-less test base n)) (bit-alone (test (base + n))))
     (λ (k : i < n). bit-under (bit (test (base + n))) _ n i k ∙ bit-says test base n i k)
     (le-or-lt n i)
 
@@ -81,21 +78,13 @@ words-by op join none bits block f g base (suc n) =
     (add-comm _ _)
 
 pub words-and : (f g : ℕ → Bool) (base n : ℕ) → bitAnd (wordOf f base n) (wordOf g base n) ≡ wordOf (λ k. f k && g k) base n
-words-and = words-by bitAnd _&&_ refl bits and-block
-  where
-    bits : (a b : Bool) → bitAnd (bit a) (bit b) ≡ bit (a && b)
-    bits true true = refl
-    bits true false = refl
-    bits false b = refl
+words-and = words-by bitAnd _&&_ refl (λ a b. cases a (λ p. cases b (λ q. rw (p, q)) (λ q. rw (p, q))) (λ p. rw p)) and-block
 
 pub words-or : (f g : ℕ → Bool) (base n : ℕ) → bitOr (wordOf f base n) (wordOf g base n) ≡ wordOf (λ k. f k || g k) base n
-words-or = words-by bitOr _||_ refl bits or-block
-  where
-    bits : (a b : Bool) → bitOr (bit a) (bit b) ≡ bit (a || b)
-    bits true true = refl
-    bits true false = refl
-    bits false true = refl
-    bits false false = refl
+words-or =
+    words-by bitOr _||_ refl
+    (λ a b. cases a (λ p. cases b (λ q. rw (p, q)) (λ q. rw (p, q))) (λ p. cases b (λ q. rw (p, q)) (λ q. rw (p, q))))
+    or-block
 
 -- tests that agree have one word
 pub word-same : (f g : ℕ → Bool) (a b n : ℕ) → ((k : ℕ) → k < n → f (a + k) ≡ g (b + k)) → wordOf f a n ≡ wordOf g b n
@@ -203,23 +192,17 @@ word-next : (test : ℕ → Bool) (n : ℕ) → wordOf test 0 (suc n) ≡ wordOf
 unfolding wordOf
 word-next test n = ap (λ (k : ℕ). wordOf test 0 n + bit (test k) * 2 ^ n) (zero-add n)
 
-top-set : (test : ℕ → Bool) (n i : ℕ) → 2 ^ i ≤ wordOf test 0 (suc n) → wordOf test 0 (suc n) < 2 ^ suc i → test n ≡ true → TopBit test (suc n) i
-top-set test n i h k q =
+pub top-bit : (test : ℕ → Bool) (n i : ℕ) → 2 ^ i ≤ wordOf test 0 n → wordOf test 0 n < 2 ^ suc i → TopBit test n i
+top-bit test zero i h k = absurd (omega (arith, word-less test 0 0, pow-pos i))
+top-bit test (suc n) i h k =
+    cases (test n)
+    (λ q.
     let w : wordOf test 0 (suc n) ≡ wordOf test 0 n + 2 ^ n = word-next test n ∙ rw q (omega arith) in
     let low : n ≤ i = ⊎-elim (λ l. l) (λ l. absurd (omega (arith, pow-mono {i = suc i} {j = n} l))) (le-or-lt n i) in
     let high : i ≤ n = ⊎-elim (λ u. u) (λ u. absurd (omega (arith, word-less test 0 (suc n), pow-mono {i = suc n} {j = i} u))) (le-or-lt i n) in
     let same : i ≡ n = omega arith in
-    record {
-      inside = omega arith;
-      set = ap test same ∙ q;
-      rest = rw (same, w) (omega arith);
-      above = λ k l u. absurd (omega arith);
-    }
-
-pub top-bit : (test : ℕ → Bool) (n i : ℕ) → 2 ^ i ≤ wordOf test 0 n → wordOf test 0 n < 2 ^ suc i → TopBit test n i
-top-bit test zero i h k = absurd (omega (arith, word-less test 0 0, pow-pos i))
-top-bit test (suc n) i h k =
-    cases (test n) (top-set test n i h k) (λ q.
+    record { inside = omega arith; set = ap test same ∙ q; rest = rw (same, w) (omega arith); above = λ k l u. absurd (omega arith) })
+    (λ q.
     let w : wordOf test 0 (suc n) ≡ wordOf test 0 n = word-next test n ∙ rw q (omega arith) in
     let t = top-bit test n i (omega arith) (omega arith) in
     record {

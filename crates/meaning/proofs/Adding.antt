@@ -3,7 +3,7 @@
 use mathlib.Core.Path.{_≡_, refl, sym, ap, _∙_, subst₂}
 use mathlib.Core.Logic.{⊎-elim}
 use mathlib.Core.Bool.{true, false}
-use mathlib.Core.List.{List, [], _∷_, _++_, append-nil}
+use mathlib.Core.List.{List, [], _∷_, _++_}
 use Prim.Native.Nat.{ℕ, zero, suc, _+_, _-_, _≤_, _<_}
 use native.Mathlib.Omega.{arith}
 use native.Mathlib.Nat.{add-zero}
@@ -13,7 +13,7 @@ use lib.Seq.{length-take-le, getD-append-add, take-length, take-take, take-suc}
 use Rattle.base.specs.Lists.{fromOn, upTo, each, eachList, firstOf, begins}
 use Rattle.base.proofs.Tests.{never, le-or-lt}
 use Rattle.base.proofs.Members.{length-each, eachList-append}
-use Rattle.base.proofs.Runs.{length-from, upTo-split, upTo-suc, getD-each-from}
+use Rattle.base.proofs.Runs.{length-from, upTo-split, eachList-suc, getD-each-from}
 use Rattle.base.proofs.Begins.{begins-trans, take-begins, shared-begins, past-shared, sharedLength-sym}
 use Rattle.rules.specs.Tables.{Table, stands, nameOf, Ordered}
 use Rattle.rules.specs.Questions.{under}
@@ -39,12 +39,6 @@ module _ (t : Table) where
   new-length : (i : ℕ) → length (newAt t i) ≡ length (nameOf t i) - sharedAt t i
   new-length i = ap length (new-takes i) ∙ simp (length-each, length-from)
 
-  new-suc : (i : ℕ) → eachList (newAt t) (upTo (suc i)) ≡ eachList (newAt t) (upTo i) ++ newAt t i
-  new-suc i =
-      ap (eachList (newAt t)) (upTo-suc i)
-      ∙ eachList-append (newAt t) (upTo i) (i ∷ [])
-      ∙ ap (λ (u : List (List ℕ)). eachList (newAt t) (upTo i) ++ u) (append-nil (newAt t i))
-
   new-split : (i : ℕ) → i < stands t → beginnings t ≡ ([] ∷ eachList (newAt t) (upTo i)) ++ (newAt t i ++ eachList (newAt t) (fromOn (suc i) (stands t - suc i)))
   unfolding beginnings
   new-split i h =
@@ -52,7 +46,7 @@ module _ (t : Table) where
       (ap (eachList (newAt t)) (upTo-split i (stands t) h) ∙ eachList-append (newAt t) (upTo i) (i ∷ fromOn (suc i) (stands t - suc i)))
 
   pub nodes-step : (i : ℕ) → nodesBefore t (suc i) ≡ nodesBefore t i + (length (nameOf t i) - sharedAt t i)
-  nodes-step i = omega (arith, ap length (new-suc i), length-append (eachList (newAt t) (upTo i)) (newAt t i), new-length i)
+  nodes-step i = omega (arith, ap length (eachList-suc (newAt t) i), length-append (eachList (newAt t) (upTo i)) (newAt t i), new-length i)
 
   pub nodes-all : nodesBefore t (stands t) ≡ nodeCount t
   unfolding beginnings

@@ -9,7 +9,7 @@ use native.Mathlib.Omega.{arith}
 use native.Mathlib.Nat.{eq-or-lt-of-le}
 use lib.ListN.{length, take, getD, length-append}
 use lib.Seq.{length-take-le, take-all, take-suc}
-use Rattle.base.specs.Lists.{upTo, keep, begins, In}
+use Rattle.base.specs.Lists.{keep, begins, In}
 use Rattle.base.proofs.Tests.{never, le-or-lt}
 use Rattle.base.proofs.Members.{getD-in, in-at, keep-each, length-each}
 use Rattle.base.proofs.Runs.{each-getD}
@@ -26,9 +26,7 @@ use Rattle.meaning.proofs.Tree.{sorted-at, sorted-once, number-in, numb
 
 length-block : (B : List (List ℕ)) (p : List ℕ) → length (keep (begins p) B) ≡ length (blockOf (λ i. getD B i []) (length B) p)
 length-block B p =
-    ap (λ (l : List (List ℕ)). length (keep (begins p) l)) (each-getD [] B)
-    ∙ ap length (keep-each (begins p) (λ i. getD B i []) (upTo (length B)))
-    ∙ length-each (λ i. getD B i []) (keep (λ i. begins p (getD B i [])) (upTo (length B)))
+    ap (λ (l : List (List ℕ)). length (keep (begins p) l)) (each-getD [] B) ∙ simp (keep-each, length-each)
 
 module _ (B : List (List ℕ)) (s : Sorted B) (j : ℕ) (lt : j < length B) where
   -- what begins with j's text is in the run from j to its past
@@ -149,9 +147,6 @@ begins-snoc p q h l =
     let b = ap lastByte e ∙ last-snoc p (getD q (length p) 0) in
     e ∙ rw b
 
-length-snoc : (p : List ℕ) (b : ℕ) → length (p ++ (b ∷ [])) ≡ suc (length p)
-length-snoc p b = rw (length-append p (b ∷ [])) (omega arith)
-
 module _ (B : List (List ℕ)) (t : Tree B) (j : ℕ) (lt : j < length B) where
   pub child-text : (c : ℕ) → Child B j c → getD B c [] ≡ getD B j [] ++ (lastByte (getD B c []) ∷ [])
   child-text c x = begins-snoc (getD B j []) (getD B c []) (x .under) (x .longer)
@@ -161,7 +156,7 @@ module _ (B : List (List ℕ)) (t : Tree B) (j : ℕ) (lt : j < length B) where
   member-child b h =
       let p = getD B j [] in
       let s = in-at [] (p ++ (b ∷ [])) B h in
-      (s .0, record { inside = s .1; longer = rw (s .2) (length-snoc p b); under = rw (s .2) (begins-append p (b ∷ [])) }, rw (s .2) (last-snoc p b))
+      (s .0, record { inside = s .1; longer = rw (s .2, length-append p (b ∷ [])) (omega arith); under = rw (s .2) (begins-append p (b ∷ [])) }, rw (s .2) (last-snoc p b))
 
   -- the children's bytes rise
   pub child-bytes : (c k : ℕ) → Child B j c → Child B j k → c < k → lastByte (getD B c []) < lastByte (getD B k [])

@@ -38,15 +38,12 @@ module _ (ρ : ℕ → ℕ) (n m : ℕ) where
     after : List ℕ
     after = part ρ r (fromOn (f + c) (n - (f + c))) ++ eachList (λ r. part ρ r (upTo n)) (fromOn (suc r) (m - suc r))
 
-    thirds : upTo n ≡ upTo f ++ (fromOn f c ++ fromOn (f + c) (n - (f + c)))
-    thirds =
-        let e : n ≡ f + (c + (n - (f + c))) = omega arith in
-        ap upTo e ∙ from-split 0 f (c + (n - (f + c))) ∙ rw (zero-add f, from-split f c (n - (f + c)))
-
     part-thirds : part ρ r (upTo n) ≡ part ρ r (upTo f) ++ (part ρ r (fromOn f c) ++ part ρ r (fromOn (f + c) (n - (f + c))))
     part-thirds =
-        ap (part ρ r) thirds
-        ∙ rw (keep-append (λ i. eqb (ρ i) r) (upTo f) (fromOn f c ++ fromOn (f + c) (n - (f + c))), keep-append (λ i. eqb (ρ i) r) (fromOn f c) (fromOn (f + c) (n - (f + c))))
+        let rest = n - (f + c) in
+        let e : n ≡ f + (c + rest) = omega arith in
+        ap (λ k. part ρ r (upTo k)) e
+        ∙ rw (from-split 0 f (c + rest), zero-add f, from-split f c rest, keep-append (λ i. eqb (ρ i) r) (upTo f), keep-append (λ i. eqb (ρ i) r) (fromOn f c))
 
     split : ordered ≡ before ++ (part ρ r (fromOn f c) ++ after)
     unfolding before after
