@@ -4,7 +4,7 @@
 use mathlib.Core.Path.{_≡_, sym, ap, _∙_}
 use mathlib.Core.Logic.{⊎-elim}
 use mathlib.Core.Bool.{true, false}
-use mathlib.Core.List.{List, [], _∷_}
+use mathlib.Core.List.{List, []}
 use Prim.Native.Nat.{ℕ, zero, suc, _+_, _-_, _*_, _≤_, _<_}
 use native.Mathlib.Omega.{arith}
 use native.Mathlib.Numerals.{add-one}
@@ -71,46 +71,28 @@ module _ (t : Table) (g : Grid) (l : LawfulTable t g) where
   begun-all : (i : ℕ) → i ≤ stands t → total (each begun (upTo i)) ≡ startOf t i + i
   begun-all zero h = omega (arith, l .shaped .first)
   begun-all (suc i) h =
-      omega (
-        arith,
-        ap (λ (s : List ℕ). total (each begun s)) (upTo-suc i) ∙ ap total (each-append begun (upTo i) (i ∷ [])) ∙ total-append (each begun (upTo i)) (begun i ∷ []),
-        begun-all i (omega arith),
-        start-next i (omega arith),
-      )
+      let more = simp (each-append, total-append) at (ap (λ (s : List ℕ). total (each begun s)) (upTo-suc i)) in
+      omega (arith, begun-all i (omega arith), start-next i (omega arith))
 
   names-short : length (t .text) ≤ 24 * stands t
   names-short =
-      omega (
-        arith,
-        total-most begun 25 (upTo (stands t)) (λ i h. omega (arith, l .short i (omega (arith, in-from 0 (stands t) i h)))),
-        begun-all (stands t) (omega arith),
-        l .shaped .last,
-        length-from 0 (stands t),
-      )
+      let most = total-most begun 25 (upTo (stands t)) (λ i h. omega (arith, l .short i (omega (arith, in-from 0 (stands t) i h)))) in
+      omega (arith, begun-all (stands t) (omega arith), l .shaped .last, length-from 0 (stands t))
 
   -- no more regions than stands
   regions-few : (p : List ℕ) → length (regionsUnder t g p) ≤ length (under t p)
   regions-few p =
       let of : ℕ → List ℕ = λ r. keep (inRegion g t r) (under t p) in
-      omega (
-        arith,
-        count-less (occupied t g p) (λ r. length (of r)) (upTo regions) (λ r q. some-length (of r) q),
-        length-parts of (upTo regions),
-        shuffle-length (by-region-shuffle t g l (under t p) (λ i h. in-under t p i h .0)),
-      )
+      let all = shuffle-length (by-region-shuffle t g l (under t p) (λ i h. in-under t p i h .0)) in
+      omega (arith, count-less (occupied t g p) (λ r. length (of r)) (upTo regions) (λ r q. some-length (of r) q), length-parts of (upTo regions))
 
   -- the pairs of a node and a stand under it
   pairs-few : total (each (λ p. length (under t p)) (beginnings t)) ≤ length (t .text) + stands t
   unfolding under
   pairs-few =
-      omega (
-        arith,
-        count-both (λ p i. begins p (nameOf t i)) (beginnings t) (upTo (stands t)),
-        total-less (λ i. length (keep (λ p. begins p (nameOf t i)) (beginnings t))) begun (upTo (stands t))
-            (λ i h. beginnings-few (nameOf t i) (beginnings t) (beginnings-tree t (l .ordered) .sorted)),
-        begun-all (stands t) (omega arith),
-        l .shaped .last,
-      )
+      let B = beginnings t in
+      let few = total-less (λ i. length (keep (λ p. begins p (nameOf t i)) B)) begun (upTo (stands t)) (λ i h. beginnings-few (nameOf t i) B (beginnings-tree t (l .ordered) .sorted)) in
+      omega (arith, count-both (λ p i. begins p (nameOf t i)) B (upTo (stands t)), begun-all (stands t) (omega arith), l .shaped .last)
 
   pub sizes-by-text : SizesByText t g
   sizes-by-text =

@@ -113,9 +113,7 @@ order-whole [] b e = refl
 order-whole (x ∷ a) [] e = absurd (omega arith)
 order-whole (x ∷ a) (y ∷ b) e =
     cases (eqb x y)
-    (λ q.
-    let h : sharedLength a b ≡ length a = omega (arith, rw q at e) in
-    cases (ltb x y) (λ l. rw l) (λ l. rw (l, q) (order-whole a b h)))
+    (λ q. order-same x y a b (eqb-true x y q) (order-whole a b (omega (arith, rw q at e))))
     (λ q. absurd (omega (arith, rw q at e)))
 
 pub order-longer : (a b : List ℕ) → (sharedLength a b ≡ length a → ⊥) → sharedLength a b ≡ length b → inOrder a b ≡ false
@@ -123,10 +121,7 @@ order-longer [] b n e = absurd (n refl)
 order-longer (x ∷ a) [] n e = refl
 order-longer (x ∷ a) (y ∷ b) n e =
     cases (eqb x y)
-    (λ q.
-    let h : sharedLength a b ≡ length b = omega (arith, rw q at e) in
-    let m : sharedLength a b ≡ length a → ⊥ = λ z. n (rw q (ap suc z)) in
-    rw (q, order-longer a b m h, le-ltb x y (omega (arith, eqb-true x y q))))
+    (λ q. rw (q, order-longer a b (λ z. n (rw q (ap suc z))) (omega (arith, rw q at e)), le-ltb x y (omega (arith, eqb-true x y q))))
     (λ q. absurd (omega (arith, rw q at e)))
 
 pub order-byte : (a b : List ℕ) → (sharedLength a b ≡ length a → ⊥) → (sharedLength a b ≡ length b → ⊥)

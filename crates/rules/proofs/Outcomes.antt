@@ -2,7 +2,7 @@
 -- Assumes nothing.
 use mathlib.Core.Path.{_≡_, refl, sym, ap, _∙_}
 use mathlib.Core.Logic.{inr}
-use mathlib.Core.Bool.{Bool, true, false, not, cond}
+use mathlib.Core.Bool.{Bool, true, false, cond}
 use mathlib.Core.List.{List, []}
 use Prim.Native.Nat.{ℕ, zero, suc}
 use native.Mathlib.Omega.{arith}
@@ -39,14 +39,12 @@ refused-kept Lawful comesTo meant rooms n h = record { exact = λ law. sym (h me
 
 -- ---- never 7
 
-first-but-7 : (long byte : Bool) (n : ℕ) → (n ≡ 7 → ⊥) → firstGiven (cond long 9 (cond byte 8 0)) n ≡ 7 → ⊥
-first-but-7 true byte n h e = omega arith
-first-but-7 false true n h e = omega arith
-first-but-7 false false n h e = h e
-
 text-but-7 : (p : List ℕ) (n : ℕ) → (n ≡ 7 → ⊥) → firstGiven (textRefusal p) n ≡ 7 → ⊥
 unfolding textRefusal
-text-but-7 p n h = first-but-7 (ltb 24 (length p)) (not (all allowed p)) n h
+text-but-7 p n h =
+    cases (ltb 24 (length p))
+    (λ q. rw q (λ e. omega arith))
+    (λ q. cases (all allowed p) (λ r. rw (q, r) h) (λ r. rw (q, r) (λ e. omega arith)))
 
 limit-but-7 : (fine : Bool) (n : ℕ) → (n ≡ 7 → ⊥) → cond fine 0 n ≡ 7 → ⊥
 limit-but-7 true n h e = omega arith
