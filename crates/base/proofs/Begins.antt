@@ -9,7 +9,7 @@ use native.Mathlib.Numerals.{add-one}
 use native.Mathlib.Omega.{arith}
 use lib.Dec.{eqb, eqb·zero-suc, eqb·suc-suc}
 use lib.ListN.{length, take, drop, getD, drop-of-length-le, length-take, take-append-drop}
-use lib.Seq.{drop-cons, take-take, take-all, getD-take, length-take-le, ext-getD}
+use lib.Seq.{drop-cons, take-take, take-all, take-length, getD-take, length-take-le, ext-getD}
 use borrow.Table.Steps.{cases}
 use borrow.Author.Tests.{eqb-true, eqb-false, eq-eqb, ne-eqb}
 use Rattle.base.specs.Lists.{begins, sameList, sharedLength, In}
@@ -38,7 +38,7 @@ is-begun : (p n : List ℕ) → p ≡ take (length p) n → begins p n ≡ true
 is-begun p n e = rw e (take-begins (length p) n)
 
 pub begins-refl : (p : List ℕ) → begins p p ≡ true
-begins-refl p = is-begun p p (sym (take-all (length p) p (omega arith)))
+begins-refl p = is-begun p p (sym (take-length p))
 
 pub begins-length : (p n : List ℕ) → begins p n ≡ true → length p ≤ length n
 begins-length p n h = omega (arith, ap length (begins-is-take p n h) ∙ length-take (length p) n)

@@ -1,12 +1,12 @@
 -- A room after words are written at its start: its length, what lies past them, and one word more.
 -- Assumes nothing.
-use mathlib.Core.Path.{_≡_, refl}
+use mathlib.Core.Path.{_≡_}
 use mathlib.Core.List.{List, [], _∷_, _++_, append-assoc}
 use Prim.Native.Nat.{ℕ, _≤_, _<_}
 use native.Mathlib.Omega.{arith}
 use native.Mathlib.Numerals.{add-one}
 use lib.ListN.{length, drop, set, length-append, length-drop}
-use lib.Seq.{drop-cons, set-at}
+use lib.Seq.{drop-cons, set-append-seam}
 use Rattle.base.specs.Lists.{written}
 
 module _ (words room : List ℕ) where
@@ -14,4 +14,4 @@ module _ (words room : List ℕ) where
   length-written h = omega (arith, length-append words (drop (length words) room), length-drop (length words) room)
 
   pub written-next : (x : ℕ) → length words < length room → set (written words room) (length words) x ≡ written (words ++ (x ∷ [])) room
-  written-next x h = rw (drop-cons room (length words) 0 h, set-at words _ _ x (length words) refl, length-append words (x ∷ []), add-one (length words), append-assoc)
+  written-next x h = rw (drop-cons room (length words) 0 h, set-append-seam, length-append words (x ∷ []), add-one (length words), append-assoc)

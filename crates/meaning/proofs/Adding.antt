@@ -19,22 +19,18 @@ use Rattle.rules.specs.Tables.{Table, stands, nameOf, Ordered}
 use Rattle.rules.specs.Questions.{under}
 use Rattle.rules.specs.Indexes.{newAt, beginnings, nodeCount, numberIn, lastByte, butLast, pastOf}
 use Rattle.rules.proofs.Orders.{order-antisym, begins-order}
-use Rattle.meaning.specs.Trees.{fresh, textOf}
+use Rattle.meaning.specs.Trees.{textOf}
 use Rattle.meaning.specs.Adding.{nameBefore, sharedAt, nodesBefore}
-use Rattle.meaning.proofs.Fresh.{fresh-takes, fresh-all}
+use Rattle.meaning.proofs.Fresh.{fresh-takes}
 use Rattle.meaning.proofs.Tree.{number-in, number-at}
 use Rattle.meaning.proofs.Children.{subtree-in, subtree-only, past-bounds, last-snoc}
-use Rattle.meaning.proofs.Tables.{beginnings-tree, beginnings-of, under-from, under-only}
+use Rattle.meaning.proofs.Tables.{new-fresh, beginnings-tree, beginnings-of, under-from, under-only}
 
 -- ---- the nodes that name i adds: its beginnings longer than what it shares, in a row
 
 module _ (t : Table) where
-  new-fresh : (i : ℕ) → newAt t i ≡ fresh (nameBefore t i) (nameOf t i)
-  new-fresh zero = fresh-all (nameOf t 0)
-  new-fresh (suc i) = refl
-
   pub new-takes : (i : ℕ) → newAt t i ≡ each (λ l. take l (nameOf t i)) (fromOn (suc (sharedAt t i)) (length (nameOf t i) - sharedAt t i))
-  new-takes i = new-fresh i ∙ fresh-takes (nameBefore t i) (nameOf t i)
+  new-takes i = new-fresh t i ∙ fresh-takes (nameBefore t i) (nameOf t i)
 
   new-length : (i : ℕ) → length (newAt t i) ≡ length (nameOf t i) - sharedAt t i
   new-length i = ap length (new-takes i) ∙ simp (length-each, length-from)

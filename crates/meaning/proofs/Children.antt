@@ -6,7 +6,7 @@ use mathlib.Core.Bool.{true, false, true≢false}
 use mathlib.Core.List.{List, [], _∷_, _++_}
 use Prim.Native.Nat.{ℕ, zero, suc, _+_, _-_, _≤_, _<_}
 use native.Mathlib.Omega.{arith}
-use native.Mathlib.Nat.{eq-or-lt-of-le}
+use native.Mathlib.Nat.{eq-or-lt-of-le, lt-of-not-le}
 use lib.ListN.{length, take, getD, length-append}
 use lib.Seq.{length-take-le, take-all, take-suc}
 use Rattle.base.specs.Lists.{keep, begins, In}
@@ -60,17 +60,19 @@ module _ (B : List (List ℕ)) (t : Tree B) (j : ℕ) (lt : j < length B) where
       let w = subtree-in B (t .sorted) j lt (pastOf B c - 1) (v .0) b in
       (u .0, omega arith)
 
+  -- no child lies within another's subtree
+  pub child-gap : (c k : ℕ) → Child B j c → Child B j k → c < k → pastOf B c ≤ k
+  child-gap c k x y h =
+      let no : suc k ≤ pastOf B c → ⊥ = λ q. let e : c ≡ k = child-one c k x y (subtree-only B (t .sorted) c (x .inside) k (omega arith) q .1) in omega arith in
+      omega (arith, lt-of-not-le no)
+
   -- over each node of j's subtree but j itself there is a child of j
   child-over : (i : ℕ) → j < i → i < pastOf B j → (c : ℕ) × Child B j c × (c ≤ i) × (i < pastOf B c)
   child-over i u v =
       let p = getD B j [] in
       let x = getD B i [] in
       let r = subtree-only B (t .sorted) j lt i (omega arith) v in
-      let longer : length p < length x =
-      ⊎-elim
-      (λ q. let e : j ≡ i = sorted-once B (t .sorted) j i lt (r .0) (begins-whole p x (r .1) q) in absurd (omega arith))
-      (λ q. q)
-      (le-or-lt (length x) (length p)) in
+      let longer = lt-of-not-le (λ q. let e : j ≡ i = sorted-once B (t .sorted) j i lt (r .0) (begins-whole p x (r .1) q) in omega arith) in
       let begun = take-begins (suc (length p)) x in
       let size = length-take-le (suc (length p)) x longer in
       let s = in-at [] (take (suc (length p)) x) B (t .closed (take (suc (length p)) x) x (getD-in [] B i (r .0)) begun) in
@@ -92,26 +94,13 @@ module _ (B : List (List ℕ)) (t : Tree B) (j : ℕ) (lt : j < length B) where
       let k = s .0 in
       let y = s .1 in
       ⊎-elim
-      (λ (e : k ≡ pastOf B c). rw e at y)
-      (λ (a : k < pastOf B c).
+      (λ (b : k ≤ c).
       ⊎-elim
-      (λ (b : c ≤ k).
-      let f : pastOf B c ≡ pastOf B k = ap (pastOf B) (child-one c k x y (subtree-only B (t .sorted) c (x .inside) k b a .1)) in
-      absurd (omega (arith, s .3)))
-      (λ (b : k < c).
-      let inner = subtree-only B (t .sorted) k (y .inside) c (omega arith) (omega (arith, child-past c x, s .3)) .1 in
-      let e : k ≡ c = child-one k c y x inner in
-      absurd (omega arith))
-      (le-or-lt c k))
-      (eq-or-lt-of-le (s .2))
-
-  -- no child lies within another's subtree
-  pub child-gap : (c k : ℕ) → Child B j c → Child B j k → c < k → pastOf B c ≤ k
-  child-gap c k x y h =
-      ⊎-elim
-      (λ (q : pastOf B c ≤ k). q)
-      (λ (q : k < pastOf B c). let e : c ≡ k = child-one c k x y (subtree-only B (t .sorted) c (x .inside) k (omega arith) q .1) in absurd (omega arith))
-      (le-or-lt (pastOf B c) k)
+      (λ (e : k ≡ c). absurd (omega (arith, ap (pastOf B) e, s .3)))
+      (λ (d : k < c). absurd (omega (arith, child-gap k c y x d, child-past c x, s .3)))
+      (eq-or-lt-of-le b))
+      (λ (b : c < k). let e : k ≡ pastOf B c = omega (arith, child-gap c k x y b, s .2) in rw e at y)
+      (le-or-lt k c)
 
 -- ---- the way along the children meets each child, and nothing else
 
@@ -167,7 +156,7 @@ module _ (B : List (List ℕ)) (t : Tree B) (j : ℕ) (lt : j < length B) where
       sym (order-append (getD B j []) (b ∷ []) (a ∷ []))
       ∙ ap₂ inOrder (sym (child-text k y)) (sym (child-text c x))
       ∙ sorted-at B (t .sorted) c k h (y .inside) in
-      ⊎-elim (λ u. never _ (order-by b a [] [] u (λ e. refl)) strict) (λ u. u) (le-or-lt b a)
+      lt-of-not-le (λ u. never _ (order-by b a [] [] u (λ e. refl)) strict)
 
 -- ---- parents
 

@@ -1,14 +1,15 @@
 -- The beginnings of a name that are no beginnings of the name before: they are the ones longer than what the two share.
 -- Assumes nothing.
-use mathlib.Core.Path.{_≡_, refl, sym, ap, _∙_}
+use mathlib.Core.Path.{_≡_, sym, ap, _∙_}
 use mathlib.Core.Bool.{Bool, true, false, not}
-use mathlib.Core.List.{List, [], _∷_}
+use mathlib.Core.List.{List, []}
 use Prim.Native.Nat.{ℕ, suc, _+_, _-_, _≤_}
 use native.Mathlib.Numerals.{one-add}
 use native.Mathlib.Omega.{arith}
 use lib.ListN.{length, take, length-take}
 use borrow.Author.Tests.{not-true}
 use Rattle.base.specs.Lists.{fromOn, keep, each, begins, sharedLength, In}
+use Rattle.base.proofs.Tests.{refuted}
 use Rattle.base.proofs.Members.{in-keep, keep-in, keep-none, keep-every, keep-append, keep-each, in-each, each-in}
 use Rattle.base.proofs.Runs.{in-from, from-in, from-split}
 use Rattle.base.proofs.Begins.{begins-length, take-begins, begins-is-take, shared-le-other, shared-begins, past-shared}
@@ -52,8 +53,6 @@ fresh-in m n p h k l = in-keep (λ p. not (begins p m)) (beginningsOf n) p (begi
 
 -- after no name every beginning is new
 pub fresh-all : (n : List ℕ) → beginningsOf n ≡ fresh [] n
-fresh-all n = sym (keep-every (λ p. not (begins p [])) (beginningsOf n) (λ x h. new x (in-beginnings n x h .1)))
-  where
-    new : (x : List ℕ) → 1 ≤ length x → not (begins x []) ≡ true
-    new [] l = absurd (omega arith)
-    new (a ∷ x) l = refl
+fresh-all n =
+    sym (keep-every (λ p. not (begins p [])) (beginningsOf n) (λ x h.
+    let some = in-beginnings n x h .1 in rw (refuted (begins x []) (λ b. omega (arith, begins-length x [] b)))))

@@ -2,16 +2,16 @@
 -- so at most 24 nodes and 25 entries for each stand. Entries are counted against the pairs of a node and a stand under it, and those by
 -- stands. Assumes nothing.
 use mathlib.Core.Path.{_≡_, sym, ap, _∙_}
-use mathlib.Core.Logic.{⊎-elim}
 use mathlib.Core.Bool.{true, false}
 use mathlib.Core.List.{List, []}
 use Prim.Native.Nat.{ℕ, zero, suc, _+_, _-_, _*_, _≤_, _<_}
 use native.Mathlib.Omega.{arith}
+use native.Mathlib.Nat.{lt-of-not-le}
 use native.Mathlib.Numerals.{add-one}
 use lib.ListN.{length, drop, length-drop}
 use lib.Seq.{length-take-le}
 use Rattle.base.specs.Lists.{upTo, keep, each, total, begins, In}
-use Rattle.base.proofs.Tests.{never, le-or-lt}
+use Rattle.base.proofs.Tests.{never}
 use Rattle.base.proofs.Members.{keep-in, length-each, in-each, each-append, some-length}
 use Rattle.base.proofs.Runs.{in-from, length-from, upTo-suc}
 use Rattle.base.proofs.Begins.{begins-length, begins-both}
@@ -41,7 +41,7 @@ beginnings-few n B s =
     let chosen = keep (λ p. begins p n) B in
     let begun : (p : List ℕ) → In p chosen → begins p n ≡ true = λ p h. keep-in (λ p. begins p n) B p h .1 in
     let less : (p q : List ℕ) → In p chosen → In q chosen → inOrder q p ≡ false → length p < length q = λ p q u v h.
-    ⊎-elim (λ k. never _ (begins-order q p (begins-both q p n (begun q v) (begun p u) k)) h) (λ k. k) (le-or-lt (length q) (length p)) in
+    lt-of-not-le (λ k. never _ (begins-order q p (begins-both q p n (begun q v) (begun p u) k)) h) in
     let strict = pairs-keep (λ p q. inOrder q p ≡ false) (λ p. begins p n) B s in
     rw (sym (length-each length chosen))
     (less-few (each length chosen) 0 (suc (length n)) (pairs-each Less length chosen (pairs-weaken _ (λ p q. length p < length q) chosen less strict)) (λ x h.
