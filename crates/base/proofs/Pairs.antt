@@ -94,6 +94,11 @@ pub less-from : (a n : ℕ) → Pairwise Less (fromOn a n)
 less-from a zero = tt
 less-from a (suc n) = ((λ y k. in-from (suc a) n y k .0), less-from (suc a) n)
 
+-- what is made of numbers that rise, where each number can be told from what is made of it
+pub distinct-less : {A : Type 0} (key : A → ℕ) (f : ℕ → A) (l : List ℕ) → ((x : ℕ) → key (f x) ≡ x) → Pairwise Less l → Distinct key (each f l)
+distinct-less key f l back h =
+    pairs-each (λ x y. key x ≡ key y → ⊥) f l (pairs-weaken Less (λ x y. key (f x) ≡ key (f y) → ⊥) l (λ x y u v k e. omega (arith, back x, back y)) h)
+
 -- the first of numbers that rise is the least
 pub less-first : (l : List ℕ) → Pairwise Less l → (x : ℕ) → In x l → firstOf l ≤ x
 less-first [] h x k = absurd k

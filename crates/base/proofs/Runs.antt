@@ -2,7 +2,7 @@
 -- Assumes nothing.
 use mathlib.Core.Path.{_≡_, refl, sym, ap, _∙_}
 use mathlib.Core.Logic.{inl, inr, ⊎-elim}
-use mathlib.Core.Bool.{Bool, true}
+use mathlib.Core.Bool.{Bool, true, false}
 use mathlib.Core.List.{List, [], _∷_, _++_, append-nil}
 use Prim.Native.Nat.{ℕ, zero, suc, _+_, _-_, _≤_, _<_}
 use native.Mathlib.Omega.{arith}
@@ -95,11 +95,10 @@ module _ (f : ℕ → Bool) (e : ℕ) where
   keep-down a (suc n) q down =
       cases (f a)
       (λ r. rw r (ap (λ (l : List ℕ). a ∷ l) (keep-down (suc a) n (omega arith) (λ i k u. down i k (omega arith)))))
-      (λ r. rw (
-        r,
-        keep-none f (fromOn (suc a) n) (λ x h.
-            let t = in-from (suc a) n x h in refuted _ (λ s. never _ (down a x (omega arith) (omega arith) (omega arith) s) r)),
-      ))
+      (λ r.
+      let off : (x : ℕ) → In x (fromOn (suc a) n) → f x ≡ false = λ x h.
+      let t = in-from (suc a) n x h in refuted _ (λ s. never _ (down a x (omega arith) (omega arith) (omega arith) s) r) in
+      rw (r, keep-none f (fromOn (suc a) n) off))
 
   -- what a convex test keeps of a run is a run
   pub keep-run : (a n : ℕ) → a + n ≡ e → ((i j k : ℕ) → i ≤ j → j ≤ k → k < e → f i ≡ true → f k ≡ true → f j ≡ true) → Run (keep f (fromOn a n))

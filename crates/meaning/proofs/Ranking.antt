@@ -1,16 +1,15 @@
 -- A ranked answer means what the rules say: the best k stands under the text, best first.
 -- Assumes nothing.
-use mathlib.Core.Path.{_≡_, sym, ap, _∙_, subst}
+use mathlib.Core.Path.{_≡_, refl, sym, ap, _∙_, subst}
 use mathlib.Core.Logic.{⊎-elim}
 use mathlib.Core.List.{List}
 use Prim.Native.Nat.{ℕ, min}
-use native.Mathlib.Omega.{arith}
 use lib.ListN.{take, drop, length-take, take-append-drop}
 use Rattle.base.specs.Lists.{each, sortBy, In, Pairwise}
 use Rattle.base.proofs.Members.{in-either, length-each, in-each, each-in, in-take}
 use Rattle.base.proofs.Shuffles.{shuffle-sym, shuffle-in, sort-shuffle}
 use Rattle.base.proofs.Sorts.{length-sort, sort-wins}
-use Rattle.base.proofs.Pairs.{pairs-seam, pairs-take, pairs-at, pairs-each, pairs-weaken, Distinct, distinct-once, distinct-sort, Less}
+use Rattle.base.proofs.Pairs.{pairs-seam, pairs-take, pairs-at, Distinct, distinct-once, distinct-sort, distinct-less}
 use Rattle.rules.specs.declared.Grid.{Grid}
 use Rattle.rules.specs.declared.Ranking.{Ranking}
 use Rattle.rules.specs.declared.Hit.{Hit}
@@ -28,9 +27,7 @@ module _ (t : Table) (g : Grid) (p : List ℕ) (q : Ranking) where
 
   stands-differ : Distinct (λ h. h .stand) hits
   unfolding hits
-  stands-differ =
-      pairs-each (λ h k. h .stand ≡ k .stand → ⊥) (hitOf t g q) (under t p)
-      (pairs-weaken Less (λ i j. i ≡ j → ⊥) (under t p) (λ i j u v h e. omega arith) (under-rises t p))
+  stands-differ = distinct-less (λ h. h .stand) (hitOf t g q) (under t p) (λ i. refl) (under-rises t p)
 
   hits-turn : Pairwise Better sorted
   unfolding sorted
