@@ -107,17 +107,17 @@ module _ (a b : List ℕ) where
       rw (drop-cons a i 0 h, drop-cons b i 0 k, eq-eqb _ _ e, add-one) in
       record { within = omega arith; within-other = omega arith; rest = omega arith }
 
+  ends : (i : ℕ) → Sharing a b i → sharedLength (drop i a) (drop i b) ≡ 0 → i ≡ sharedLength a b
+  ends i s none = omega (arith, s .rest)
+
   pub differ : (i : ℕ) → i < length a → i < length b → (getD a i 0 ≡ getD b i 0 → ⊥) → Sharing a b i → i ≡ sharedLength a b
-  differ i h k e s =
-      let none : sharedLength (drop i a) (drop i b) ≡ 0 = rw (drop-cons a i 0 h, drop-cons b i 0 k, ne-eqb _ _ e) in
-      omega (arith, s .rest)
+  differ i h k e s = ends i s (rw (drop-cons a i 0 h, drop-cons b i 0 k, ne-eqb _ _ e))
 
   pub ended : (i : ℕ) → length a ≤ i → Sharing a b i → i ≡ sharedLength a b
-  ended i h s = let none : sharedLength (drop i a) (drop i b) ≡ 0 = rw (drop-of-length-le a h) in omega (arith, s .rest)
+  ended i h s = ends i s (rw (drop-of-length-le a h))
 
   pub ended-other : (i : ℕ) → i < length a → length b ≤ i → Sharing a b i → i ≡ sharedLength a b
-  ended-other i h k s =
-      let none : sharedLength (drop i a) (drop i b) ≡ 0 = rw (drop-cons a i 0 h, drop-of-length-le b k) in omega (arith, s .rest)
+  ended-other i h k s = ends i s (rw (drop-cons a i 0 h, drop-of-length-le b k))
 
 -- a list begins with p where all of p is shared
 pub begins-shared : (p n : List ℕ) → begins p n ≡ eqb (sharedLength p n) (length p)

@@ -154,13 +154,6 @@ module _ (t : Table) (o : Ordered t) where
         let last : (numberIn p B ≤ made - 1) × (made - 1 < past) =
         subtree-in B (tree .sorted) (numberIn p B) (at .0) (made - 1) (omega (arith, nodes-fit t i h))
         (subst₂ (λ (x y : List ℕ). begins x y ≡ true) (sym (at .1)) (sym (last-node i h)) (take-begins l (nameOf t i))) in
-        -- the next node would be of the next name, whose path p is not on
-        let next : made < past → suc i < stands t → sharedAt t (suc i) < length (nameOf t (suc i)) → ⊥ = λ q k f.
-        let m = suc (sharedAt t (suc i)) + 0 in
-        let b = subtree-only B (tree .sorted) (numberIn p B) (at .0) made (omega arith) q .1 in
-        let x : getD B made [] ≡ take m (nameOf t (suc i)) = rw add-zero at (node-text t (suc i) 0 k (omega arith)) in
-        let y : begins p (take m (nameOf t (suc i))) ≡ true = subst₂ (λ (x y : List ℕ). begins x y ≡ true) (at .1) x b in
-        never _ (begins-trans p (take m (nameOf t (suc i))) (nameOf t (suc i)) y (take-begins m (nameOf t (suc i)))) (off-next i l (c k) v) in
         ⊎-elim
         (λ (q : past ≤ made). omega arith)
         (λ (q : made < past).
@@ -172,7 +165,13 @@ module _ (t : Table) (o : Ordered t) where
         (λ (k : suc i < stands t).
         ⊎-elim
         (λ (f : length (nameOf t (suc i)) ≤ sharedAt t (suc i)). absurd (omega (arith, ap length (adds-none i k f), c k)))
-        (λ (f : sharedAt t (suc i) < length (nameOf t (suc i))). absurd (next q k f))
+        -- the next node is of the next name, whose path p is not on
+        (λ (f : sharedAt t (suc i) < length (nameOf t (suc i))).
+        let m = suc (sharedAt t (suc i)) + 0 in
+        let x : getD B made [] ≡ take m (nameOf t (suc i)) = rw add-zero at (node-text t (suc i) 0 k (omega arith)) in
+        let b = subtree-only B (tree .sorted) (numberIn p B) (at .0) made (omega arith) q .1 in
+        let y = subst₂ (λ (x y : List ℕ). begins x y ≡ true) (at .1) x b in
+        never _ (begins-trans p (take m (nameOf t (suc i))) (nameOf t (suc i)) y (take-begins m (nameOf t (suc i)))) (off-next i l (c k) v))
         (le-or-lt (length (nameOf t (suc i))) (sharedAt t (suc i))))
         (le-or-lt (stands t) (suc i)))
         (le-or-lt past made)
