@@ -8,11 +8,12 @@ use Prim.Native.Nat.{ℕ, zero, suc, _+_, _≤_, _<_}
 use native.Mathlib.Numerals.{add-one}
 use native.Mathlib.Omega.{arith}
 use lib.Dec.{eqb, eqb·zero-suc, eqb·suc-suc}
-use lib.ListN.{length, take, drop, getD, drop-of-length-le}
-use lib.Seq.{drop-cons, take-take}
+use lib.ListN.{length, take, drop, getD, drop-of-length-le, length-take, take-append-drop}
+use lib.Seq.{drop-cons, take-take, take-all, take-length, getD-take, length-take-le, ext-getD}
+use borrow.Table.Steps.{cases}
 use borrow.Author.Tests.{eqb-true, eqb-false, eq-eqb, ne-eqb}
 use Rattle.base.specs.Lists.{begins, sameList, sharedLength, In}
-use Rattle.base.proofs.Tests.{which, never, and-parts}
+use Rattle.base.proofs.Tests.{never, and-parts}
 
 pub begins-cases : (a b : ℕ) (p n : List ℕ) → begins (a ∷ p) (b ∷ n) ≡ true → (a ≡ b) × (begins p n ≡ true)
 begins-cases a b p n e = let t = and-parts (eqb a b) (begins p n) e in (eqb-true a b (t .0), t .1)
@@ -20,75 +21,54 @@ begins-cases a b p n e = let t = and-parts (eqb a b) (begins p n) e in (eqb-true
 pub begins-same : (a b : ℕ) (p n : List ℕ) → a ≡ b → begins p n ≡ true → begins (a ∷ p) (b ∷ n) ≡ true
 begins-same a b p n e h = rw (eq-eqb a b e, h)
 
-pub begins-refl : (p : List ℕ) → begins p p ≡ true
-begins-refl [] = refl
-begins-refl (a ∷ p) = begins-same a a p p refl (begins-refl p)
+pub begins-append : (p q : List ℕ) → begins p (p ++ q) ≡ true
+begins-append [] q = refl
+begins-append (a ∷ p) q = begins-same a a p (p ++ q) refl (begins-append p q)
 
-pub begins-trans : (p q n : List ℕ) → begins p q ≡ true → begins q n ≡ true → begins p n ≡ true
-begins-trans [] q n h k = refl
-begins-trans (a ∷ p) [] n h k = absurd (false≢true h)
-begins-trans (a ∷ p) (b ∷ q) [] h k = absurd (false≢true k)
-begins-trans (a ∷ p) (b ∷ q) (c ∷ n) h k =
-    let s = begins-cases a b p q h in
-    let t = begins-cases b c q n k in
-    begins-same a c p n (s .0 ∙ t .0) (begins-trans p q n (s .1) (t .1))
-
-pub begins-length : (p n : List ℕ) → begins p n ≡ true → length p ≤ length n
-begins-length [] n h = omega arith
-begins-length (a ∷ p) [] h = absurd (false≢true h)
-begins-length (a ∷ p) (b ∷ n) h = let t = begins-length p n (begins-cases a b p n h .1) in omega arith
-
--- of two beginnings of one list the shorter begins the longer
-pub begins-both : (p q n : List ℕ) → begins p n ≡ true → begins q n ≡ true → length p ≤ length q → begins p q ≡ true
-begins-both [] q n h k l = refl
-begins-both (a ∷ p) [] n h k l = absurd (omega arith)
-begins-both (a ∷ p) (b ∷ q) [] h k l = absurd (false≢true h)
-begins-both (a ∷ p) (b ∷ q) (c ∷ n) h k l =
-    let s = begins-cases a c p n h in
-    let t = begins-cases b c q n k in
-    begins-same a b p q (s .0 ∙ sym (t .0)) (begins-both p q n (s .1) (t .1) (omega arith))
-
--- a beginning as long as the whole is the whole
-pub begins-whole : (p q : List ℕ) → begins p q ≡ true → length q ≤ length p → p ≡ q
-begins-whole [] [] h l = refl
-begins-whole [] (b ∷ q) h l = absurd (omega arith)
-begins-whole (a ∷ p) [] h l = absurd (false≢true h)
-begins-whole (a ∷ p) (b ∷ q) h l = let s = begins-cases a b p q h in cc (s .0, begins-whole p q (s .1) (omega arith))
-
-pub take-begins : (l : ℕ) (n : List ℕ) → begins (take l n) n ≡ true
-take-begins zero n = refl
-take-begins (suc l) [] = refl
-take-begins (suc l) (b ∷ n) = begins-same b b (take l n) n refl (take-begins l n)
-
+-- a beginning is as many of the first elements as it has, and back: most of what follows is known of `take`
 pub begins-is-take : (p n : List ℕ) → begins p n ≡ true → p ≡ take (length p) n
 begins-is-take [] n h = refl
 begins-is-take (a ∷ p) [] h = absurd (false≢true h)
 begins-is-take (a ∷ p) (b ∷ n) h = let t = begins-cases a b p n h in cc (t .0, begins-is-take p n (t .1))
 
--- element by element, and back
-pub begins-at : (p n : List ℕ) (i d : ℕ) → begins p n ≡ true → i < length p → getD n i d ≡ getD p i d
-begins-at [] n i d h l = absurd (omega arith)
-begins-at (a ∷ p) [] i d h l = absurd (false≢true h)
-begins-at (a ∷ p) (b ∷ n) zero d h l = sym (begins-cases a b p n h .0)
-begins-at (a ∷ p) (b ∷ n) (suc i) d h l = begins-at p n i d (begins-cases a b p n h .1) (omega arith)
+pub take-begins : (l : ℕ) (n : List ℕ) → begins (take l n) n ≡ true
+take-begins l n = rw take-append-drop at (begins-append (take l n) (drop l n))
 
-pub begins-of : (p n : List ℕ) → length p ≤ length n → ((i : ℕ) → i < length p → getD p i 0 ≡ getD n i 0) → begins p n ≡ true
-begins-of [] n h e = refl
-begins-of (a ∷ p) [] h e = absurd (omega arith)
-begins-of (a ∷ p) (b ∷ n) h e = begins-same a b p n (e 0 (omega arith)) (begins-of p n (omega arith) (λ i l. e (suc i) (omega arith)))
+is-begun : (p n : List ℕ) → p ≡ take (length p) n → begins p n ≡ true
+is-begun p n e = rw e (take-begins (length p) n)
+
+pub begins-refl : (p : List ℕ) → begins p p ≡ true
+begins-refl p = is-begun p p (sym (take-length p))
+
+pub begins-length : (p n : List ℕ) → begins p n ≡ true → length p ≤ length n
+begins-length p n h = omega (arith, ap length (begins-is-take p n h) ∙ length-take (length p) n)
 
 pub begins-part : (p n : List ℕ) (k : ℕ) → begins p n ≡ true → k ≤ length p → take k n ≡ take k p
 begins-part p n k h l = sym (ap (take k) (begins-is-take p n h) ∙ take-take k (length p) n l)
 
-pub begins-append : (p q : List ℕ) → begins p (p ++ q) ≡ true
-begins-append [] q = refl
-begins-append (a ∷ p) q = begins-same a a p (p ++ q) refl (begins-append p q)
+pub begins-trans : (p q n : List ℕ) → begins p q ≡ true → begins q n ≡ true → begins p n ≡ true
+begins-trans p q n h k = is-begun p n (begins-is-take p q h ∙ sym (begins-part q n (length p) k (begins-length p q h)))
+
+-- of two beginnings of one list the shorter begins the longer
+pub begins-both : (p q n : List ℕ) → begins p n ≡ true → begins q n ≡ true → length p ≤ length q → begins p q ≡ true
+begins-both p q n h k l = is-begun p q (begins-is-take p n h ∙ begins-part q n (length p) k l)
+
+-- a beginning as long as the whole is the whole
+pub begins-whole : (p q : List ℕ) → begins p q ≡ true → length q ≤ length p → p ≡ q
+begins-whole p q h l = begins-is-take p q h ∙ take-all (length p) q l
+
+-- element by element, and back
+pub begins-at : (p n : List ℕ) (i d : ℕ) → begins p n ≡ true → i < length p → getD n i d ≡ getD p i d
+begins-at p n i d h l = sym (ap (λ m. getD m i d) (begins-is-take p n h) ∙ getD-take (length p) n i d l)
+
+pub begins-of : (p n : List ℕ) → length p ≤ length n → ((i : ℕ) → i < length p → getD p i 0 ≡ getD n i 0) → begins p n ≡ true
+begins-of p n h e = is-begun p n (ext-getD 0 p _ (sym (length-take-le (length p) n h)) (λ i l. e i l ∙ sym (getD-take (length p) n i 0 l)))
 
 -- a list that begins with two lists, one after the other
 pub begins-parts : (p q n : List ℕ) → begins (p ++ q) n ≡ begins p n && begins q (drop (length p) n)
 begins-parts [] q n = refl
 begins-parts (a ∷ p) q [] = refl
-begins-parts (a ∷ p) q (b ∷ n) = ⊎-elim (λ (e : eqb a b ≡ true). rw e (begins-parts p q n)) (λ (e : eqb a b ≡ false). rw e) (which (eqb a b))
+begins-parts (a ∷ p) q (b ∷ n) = cases (eqb a b) (λ e. rw e (begins-parts p q n)) (λ e. rw e)
 
 -- ---- the same list, by a test
 
@@ -105,16 +85,10 @@ same-refl (a ∷ p) = rw (eq-eqb a a refl, same-refl p)
 -- a list is a member of a list of lists, or it is not
 pub in-or-out : (p : List ℕ) (B : List (List ℕ)) → In p B ⊎ (In p B → ⊥)
 in-or-out p [] = inr (λ h. h)
-in-or-out p (q ∷ B) = step (which (sameList p q)) (in-or-out p B)
-  where
-    neither : sameList p q ≡ false → (In p B → ⊥) → In p (q ∷ B) → ⊥
-    neither e h (inl s) = never (sameList p q) (rw s (same-refl q)) e
-    neither e h (inr k) = h k
-
-    step : (sameList p q ≡ true) ⊎ (sameList p q ≡ false) → In p B ⊎ (In p B → ⊥) → In p (q ∷ B) ⊎ (In p (q ∷ B) → ⊥)
-    step (inl e) r = inl (inl (same-true p q e))
-    step (inr e) (inl k) = inl (inr k)
-    step (inr e) (inr h) = inr (neither e h)
+in-or-out p (q ∷ B) =
+    cases (sameList p q)
+    (λ e. inl (inl (same-true p q e)))
+    (λ e. ⊎-elim (λ k. inl (inr k)) (λ h. inr (⊎-elim (λ s. never _ (rw s (same-refl q)) e) h)) (in-or-out p B))
 
 -- ---- the length that two lists share
 
@@ -133,40 +107,39 @@ module _ (a b : List ℕ) where
       rw (drop-cons a i 0 h, drop-cons b i 0 k, eq-eqb _ _ e, add-one) in
       record { within = omega arith; within-other = omega arith; rest = omega arith }
 
+  ends : (i : ℕ) → Sharing a b i → sharedLength (drop i a) (drop i b) ≡ 0 → i ≡ sharedLength a b
+  ends i s none = omega (arith, s .rest)
+
   pub differ : (i : ℕ) → i < length a → i < length b → (getD a i 0 ≡ getD b i 0 → ⊥) → Sharing a b i → i ≡ sharedLength a b
-  differ i h k e s =
-      let none : sharedLength (drop i a) (drop i b) ≡ 0 = rw (drop-cons a i 0 h, drop-cons b i 0 k, ne-eqb _ _ e) in
-      omega (arith, s .rest)
+  differ i h k e s = ends i s (rw (drop-cons a i 0 h, drop-cons b i 0 k, ne-eqb _ _ e))
 
   pub ended : (i : ℕ) → length a ≤ i → Sharing a b i → i ≡ sharedLength a b
-  ended i h s = let none : sharedLength (drop i a) (drop i b) ≡ 0 = rw (drop-of-length-le a h) in omega (arith, s .rest)
+  ended i h s = ends i s (rw (drop-of-length-le a h))
 
   pub ended-other : (i : ℕ) → i < length a → length b ≤ i → Sharing a b i → i ≡ sharedLength a b
-  ended-other i h k s =
-      let none : sharedLength (drop i a) (drop i b) ≡ 0 = rw (drop-cons a i 0 h, drop-of-length-le b k) in omega (arith, s .rest)
+  ended-other i h k s = ends i s (rw (drop-cons a i 0 h, drop-of-length-le b k))
 
 -- a list begins with p where all of p is shared
 pub begins-shared : (p n : List ℕ) → begins p n ≡ eqb (sharedLength p n) (length p)
 begins-shared [] n = refl
 begins-shared (x ∷ p) [] = sym (eqb·zero-suc (length p))
 begins-shared (x ∷ p) (y ∷ n) =
-    ⊎-elim (λ e. rw e (begins-shared p n ∙ sym (eqb·suc-suc (sharedLength p n) (length p)))) (λ e. rw e (sym (eqb·zero-suc (length p)))) (which (eqb x y))
+    cases (eqb x y) (λ e. rw e (begins-shared p n ∙ sym (eqb·suc-suc (sharedLength p n) (length p)))) (λ e. rw e (sym (eqb·zero-suc (length p))))
 
 pub sharedLength-sym : (m n : List ℕ) → sharedLength m n ≡ sharedLength n m
 sharedLength-sym [] [] = refl
 sharedLength-sym [] (b ∷ n) = refl
 sharedLength-sym (a ∷ m) [] = refl
 sharedLength-sym (a ∷ m) (b ∷ n) =
-    ⊎-elim
-    (λ (q : eqb a b ≡ true). rw (q, eq-eqb b a (sym (eqb-true a b q)), sharedLength-sym m n))
-    (λ (q : eqb a b ≡ false). rw (q, ne-eqb b a (λ e. eqb-false a b q (sym e))))
-    (which (eqb a b))
+    cases (eqb a b)
+    (λ q. rw (q, eq-eqb b a (sym (eqb-true a b q)), sharedLength-sym m n))
+    (λ q. rw (q, ne-eqb b a (λ e. eqb-false a b q (sym e))))
 
 pub shared-le : (a b : List ℕ) → sharedLength a b ≤ length a
 shared-le [] b = omega arith
 shared-le (x ∷ a) [] = omega arith
 shared-le (x ∷ a) (y ∷ b) =
-    ⊎-elim (λ e. rw e (omega (arith, shared-le a b))) (λ e. rw e (omega arith)) (which (eqb x y))
+    cases (eqb x y) (λ e. rw e (omega (arith, shared-le a b))) (λ e. rw e (omega arith))
 
 pub shared-le-other : (a b : List ℕ) → sharedLength a b ≤ length b
 shared-le-other a b = rw (sharedLength-sym a b) (shared-le b a)
@@ -177,10 +150,9 @@ sharedLength-take m n zero h = refl
 sharedLength-take [] n (suc l) h = absurd (omega arith)
 sharedLength-take (a ∷ m) [] (suc l) h = absurd (omega arith)
 sharedLength-take (a ∷ m) (b ∷ n) (suc l) h =
-    ⊎-elim
-    (λ (q : eqb a b ≡ true). cc (eqb-true a b q, sharedLength-take m n l (omega (arith, rw q at h))))
-    (λ (q : eqb a b ≡ false). absurd (omega (arith, rw q at h)))
-    (which (eqb a b))
+    cases (eqb a b)
+    (λ q. cc (eqb-true a b q, sharedLength-take m n l (omega (arith, rw q at h))))
+    (λ q. absurd (omega (arith, rw q at h)))
 
 -- so a beginning of n begins m as far as the two share it
 pub shared-begins : (m n : List ℕ) (l : ℕ) → l ≤ sharedLength m n → begins (take l n) m ≡ true
@@ -192,7 +164,6 @@ past-shared m n zero h k = absurd (omega arith)
 past-shared m [] (suc l) h k = absurd (omega arith)
 past-shared [] (b ∷ n) (suc l) h k = refl
 past-shared (a ∷ m) (b ∷ n) (suc l) h k =
-    ⊎-elim
-    (λ (q : eqb a b ≡ true). rw (eq-eqb b a (sym (eqb-true a b q))) (past-shared m n l (omega (arith, rw q at h)) (omega arith)))
-    (λ (q : eqb a b ≡ false). rw (ne-eqb b a (λ e. eqb-false a b q (sym e))))
-    (which (eqb a b))
+    cases (eqb a b)
+    (λ q. rw (eq-eqb b a (sym (eqb-true a b q))) (past-shared m n l (omega (arith, rw q at h)) (omega arith)))
+    (λ q. rw (ne-eqb b a (λ e. eqb-false a b q (sym e))))

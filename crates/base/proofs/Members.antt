@@ -5,12 +5,13 @@ use mathlib.Core.Logic.{_⊎_, inl, inr, ⊎-elim}
 use mathlib.Core.Bool.{Bool, true, false, not, _&&_, and-comm, true≢false, false≢true}
 use mathlib.Core.List.{List, [], _∷_, _++_, append-assoc}
 use Prim.Native.Nat.{ℕ, zero, suc, _≤_, _<_, _+_, _-_}
+use native.Mathlib.Nat.{sub-zero, zero-sub, suc-sub-suc}
 use native.Mathlib.Omega.{arith}
 use lib.ListN.{length, take, drop, getD, length-drop, set, replicate}
 use lib.Seq.{drop-cons, take-nil}
+use borrow.Table.Steps.{cases}
 use borrow.Author.Tests.{eq-eqb, ne-eqb}
 use Rattle.base.specs.Lists.{keep, each, eachList, firstOf, isEmpty, positionIn, In}
-use Rattle.base.proofs.Tests.{which}
 
 pub in-left : {A : Type 0} (x : A) (s t : List A) → In x s → In x (s ++ t)
 in-left x [] t h = absurd h
@@ -65,10 +66,10 @@ replicate-at (suc n) (suc r) d = replicate-at n r d
 
 -- a part of a beginning
 pub drop-take : {A : Type 0} (k n : ℕ) (l : List A) → drop k (take n l) ≡ take (n - k) (drop k l)
-drop-take zero n l = let e : n - 0 ≡ n = omega arith in rw e
-drop-take (suc k) zero l = let e : 0 - suc k ≡ 0 = omega arith in rw e
+drop-take zero n l = rw (sub-zero n)
+drop-take (suc k) zero l = rw (zero-sub (suc k))
 drop-take (suc k) (suc n) [] = sym (take-nil (suc n - suc k))
-drop-take (suc k) (suc n) (x ∷ l) = let e : suc n - suc k ≡ n - k = omega arith in rw e (drop-take k n l)
+drop-take (suc k) (suc n) (x ∷ l) = rw (suc-sub-suc n k) (drop-take k n l)
 
 -- what is left of a list from place j on begins with what stands there
 pub drop-head : {A : Type 0} (d x : A) (l m : List A) (j : ℕ) → drop j l ≡ x ∷ m → (j < length l) × (getD l j d ≡ x) × (drop (suc j) l ≡ m)
@@ -106,19 +107,14 @@ module _ {A : Type 0} (f : A → Bool) where
   pub in-keep : (l : List A) (x : A) → In x l → f x ≡ true → In x (keep f l)
   in-keep [] x h t = h
   in-keep (y ∷ l) x (inl e) t = rw (rw e at t) (inl e)
-  in-keep (y ∷ l) x (inr h) t = ⊎-elim (λ (q : f y ≡ true). rw q (inr (in-keep l x h t))) (λ (q : f y ≡ false). rw q (in-keep l x h t)) (which (f y))
+  in-keep (y ∷ l) x (inr h) t = cases (f y) (λ q. rw q (inr (in-keep l x h t))) (λ q. rw q (in-keep l x h t))
 
   pub keep-in : (l : List A) (x : A) → In x (keep f l) → In x l × (f x ≡ true)
   keep-in [] x h = absurd h
-  keep-in (y ∷ l) x h = step (keep-in l x) (which (f y))
-    where
-      first : f y ≡ true → (In x (keep f l) → In x l × (f x ≡ true)) → (x ≡ y) ⊎ In x (keep f l) → In x (y ∷ l) × (f x ≡ true)
-      first q below (inl e) = (inl e, ap f e ∙ q)
-      first q below (inr r) = (inr (below r .0), below r .1)
-
-      step : (In x (keep f l) → In x l × (f x ≡ true)) → (f y ≡ true) ⊎ (f y ≡ false) → In x (y ∷ l) × (f x ≡ true)
-      step below (inl q) = first q below (rw q at h)
-      step below (inr q) = let r = below (rw q at h) in (inr (r .0), r .1)
+  keep-in (y ∷ l) x h =
+      cases (f y)
+      (λ q. ⊎-elim (λ e. (inl e, ap f e ∙ q)) (λ k. let r = keep-in l x k in (inr (r .0), r .1)) (rw q at h))
+      (λ q. let r = keep-in l x (rw q at h) in (inr (r .0), r .1))
 
   pub keep-none : (l : List A) → ((x : A) → In x l → f x ≡ false) → keep f l ≡ []
   keep-none [] h = refl
@@ -130,11 +126,11 @@ module _ {A : Type 0} (f : A → Bool) where
 
   pub keep-append : (s t : List A) → keep f (s ++ t) ≡ keep f s ++ keep f t
   keep-append [] t = refl
-  keep-append (y ∷ s) t = let r = keep-append s t in ⊎-elim (λ (q : f y ≡ true). rw (q, r)) (λ (q : f y ≡ false). rw (q, r)) (which (f y))
+  keep-append (y ∷ s) t = let r = keep-append s t in cases (f y) (λ q. rw (q, r)) (λ q. rw (q, r))
 
   pub length-keep : (l : List A) → length (keep f l) ≤ length l
   length-keep [] = omega arith
-  length-keep (y ∷ l) = let r = length-keep l in ⊎-elim (λ (q : f y ≡ true). rw q (omega arith)) (λ (q : f y ≡ false). rw q (omega arith)) (which (f y))
+  length-keep (y ∷ l) = let r = length-keep l in cases (f y) (λ q. rw q (omega arith)) (λ q. rw q (omega arith))
 
 -- tests that agree on the members keep the same
 pub keep-same : {A : Type 0} (f g : A → Bool) (l : List A) → ((x : A) → In x l → f x ≡ g x) → keep f l ≡ keep g l
@@ -143,7 +139,7 @@ keep-same f g (x ∷ l) h = rw (h x (inl refl), keep-same f g l (λ y k. h y (in
 
 pub keep-both : {A : Type 0} (f g : A → Bool) (l : List A) → keep (λ x. f x && g x) l ≡ keep g (keep f l)
 keep-both f g [] = refl
-keep-both f g (x ∷ l) = let r = keep-both f g l in ⊎-elim (λ (q : f x ≡ true). simp (q, r)) (λ (q : f x ≡ false). simp (q, r)) (which (f x))
+keep-both f g (x ∷ l) = let r = keep-both f g l in cases (f x) (λ q. simp (q, r)) (λ q. simp (q, r))
 
 pub keep-comm : {A : Type 0} (f g : A → Bool) (l : List A) → keep f (keep g l) ≡ keep g (keep f l)
 keep-comm f g l = sym (keep-both g f l) ∙ keep-same (λ x. g x && f x) (λ x. f x && g x) l (λ x h. and-comm (g x) (f x)) ∙ keep-both f g l
@@ -153,14 +149,13 @@ pub keep-apart : {A : Type 0} (f g : A → Bool) (l : List A) → ((x : A) → f
 keep-apart f g [] h = omega arith
 keep-apart f g (y ∷ l) h =
     let r = keep-apart f g l h in
-    ⊎-elim
-    (λ (a : f y ≡ true). rw (a, h y a) (omega arith))
-    (λ (a : f y ≡ false). ⊎-elim (λ (b : g y ≡ true). rw (a, b) (omega arith)) (λ (b : g y ≡ false). rw (a, b) (omega arith)) (which (g y)))
-    (which (f y))
+    cases (f y)
+    (λ a. rw (a, h y a) (omega arith))
+    (λ a. cases (g y) (λ b. rw (a, b) (omega arith)) (λ b. rw (a, b) (omega arith)))
 
 pub keep-each : {A B : Type 0} (f : B → Bool) (g : A → B) (l : List A) → keep f (each g l) ≡ each g (keep (λ x. f (g x)) l)
 keep-each f g [] = refl
-keep-each f g (x ∷ l) = let r = keep-each f g l in ⊎-elim (λ (q : f (g x) ≡ true). rw (q, r)) (λ (q : f (g x) ≡ false). rw (q, r)) (which (f (g x)))
+keep-each f g (x ∷ l) = let r = keep-each f g l in cases (f (g x)) (λ q. rw (q, r)) (λ q. rw (q, r))
 
 -- ---- each
 
@@ -233,4 +228,4 @@ pub eachList-keep : {A B : Type 0} (f : A → List B) (g : A → Bool) (l : List
 eachList-keep f g [] h = refl
 eachList-keep f g (x ∷ l) h =
     let r = eachList-keep f g l h in
-    ⊎-elim (λ (q : g x ≡ true). simp (q, r)) (λ (q : g x ≡ false). simp (q, h x q, r)) (which (g x))
+    cases (g x) (λ q. simp (q, r)) (λ q. simp (q, h x q, r))

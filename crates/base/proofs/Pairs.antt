@@ -2,15 +2,16 @@
 -- Rising numbers, and a list put part by part, are such lists. Assumes nothing.
 use mathlib.Core.Path.{_≡_, refl, sym, _∙_}
 use mathlib.Core.Logic.{_⊎_, inl, inr, ⊎-elim}
-use mathlib.Core.Bool.{Bool, true, false}
+use mathlib.Core.Bool.{Bool}
 use mathlib.Core.List.{List, [], _∷_, _++_}
 use Prim.Native.Nat.{ℕ, zero, suc, _+_, _≤_, _<_}
 use native.Mathlib.Omega.{arith}
 use lib.Dec.{eqb}
 use lib.ListN.{length, take, getD}
+use borrow.Table.Steps.{cases}
 use borrow.Author.Tests.{eqb-true}
 use Rattle.base.specs.Lists.{fromOn, keep, each, eachList, firstOf, sortBy, In, Pairwise}
-use Rattle.base.proofs.Tests.{which, le-or-lt}
+use Rattle.base.proofs.Tests.{le-or-lt}
 use Rattle.base.proofs.Members.{in-right, in-either, getD-in, keep-in, in-take, in-each, in-eachList}
 use Rattle.base.proofs.Runs.{in-from}
 use Rattle.base.proofs.Shuffles.{Shuffle, shuffle-sym, shuffle-in, sort-shuffle, part}
@@ -19,10 +20,7 @@ use Rattle.base.proofs.Shuffles as shuffles
 module _ {A : Type 0} (R : A → A → Type 0) where
   pub pairs-append : (s t : List A) → Pairwise R s → Pairwise R t → ((x y : A) → In x s → In y t → R x y) → Pairwise R (s ++ t)
   pairs-append [] t hs ht h = ht
-  pairs-append (x ∷ s) t hs ht h = (first, pairs-append s t (hs .1) ht (λ u v k. h u v (inr k)))
-    where
-      first : (y : A) → In y (s ++ t) → R x y
-      first y k = ⊎-elim (λ u. hs .0 y u) (λ u. h x y (inl refl) u) (in-either y s t k)
+  pairs-append (x ∷ s) t hs ht h = ((λ y k. ⊎-elim (hs .0 y) (h x y (inl refl)) (in-either y s t k)), pairs-append s t (hs .1) ht (λ u v k. h u v (inr k)))
 
   -- what stands before a seam, to what stands behind it
   pub pairs-seam : (s t : List A) → Pairwise R (s ++ t) → (x y : A) → In x s → In y t → R x y
@@ -34,7 +32,7 @@ module _ {A : Type 0} (R : A → A → Type 0) where
   pairs-keep f [] h = tt
   pairs-keep f (x ∷ l) h =
       let r = pairs-keep f l (h .1) in
-      ⊎-elim (λ (q : f x ≡ true). rw q ((λ y k. h .0 y (keep-in f l y k .0)), r)) (λ (q : f x ≡ false). rw q r) (which (f x))
+      cases (f x) (λ q. rw q ((λ y k. h .0 y (keep-in f l y k .0)), r)) (λ q. rw q r)
 
   pub pairs-take : (k : ℕ) (l : List A) → Pairwise R l → Pairwise R (take k l)
   pairs-take zero l h = tt
@@ -45,11 +43,8 @@ module _ {A : Type 0} (R : A → A → Type 0) where
   pairs-shuffle : ((x y : A) → R x y → R y x) → {l m : List A} → Shuffle l m → Pairwise R l → Pairwise R m
   pairs-shuffle both (shuffles.same l) h = h
   pairs-shuffle both (shuffles.below x p) h = ((λ y k. h .0 y (shuffle-in (shuffle-sym p) y k)), pairs-shuffle both p (h .1))
-  pairs-shuffle both (shuffles.swap x y l) h = (first, ((λ z k. h .0 z (inr k)), h .1 .1))
-    where
-      first : (z : A) → (z ≡ x) ⊎ In z l → R y z
-      first z (inl e) = rw e (both x y (h .0 y (inl refl)))
-      first z (inr k) = h .1 .0 z k
+  pairs-shuffle both (shuffles.swap x y l) h =
+      ((λ z. ⊎-elim (λ e. rw e (both x y (h .0 y (inl refl)))) (h .1 .0 z)), ((λ z k. h .0 z (inr k)), h .1 .1))
   pairs-shuffle both (shuffles.next p q) h = pairs-shuffle both q (pairs-shuffle both p h)
 
   -- by places
@@ -61,10 +56,7 @@ module _ {A : Type 0} (R : A → A → Type 0) where
 
 pub pairs-each : {A B : Type 0} (R : B → B → Type 0) (f : A → B) (l : List A) → Pairwise (λ x y. R (f x) (f y)) l → Pairwise R (each f l)
 pairs-each R f [] h = tt
-pairs-each {A} {B} R f (x ∷ l) h = (first, pairs-each R f l (h .1))
-  where
-    first : (y : B) → In y (each f l) → R (f x) y
-    first y k = let s = in-each f l y k in rw (s .2) (h .0 (s .0) (s .1))
+pairs-each R f (x ∷ l) h = ((λ y k. let s = in-each f l y k in rw (s .2) (h .0 (s .0) (s .1))), pairs-each R f l (h .1))
 
 -- what follows of two relations for each pair
 pub pairs-join : {A : Type 0} (R S T : A → A → Type 0) (l : List A) → ((x y : A) → In x l → In y l → R x y → S x y → T x y)
@@ -84,12 +76,11 @@ Distinct key l = Pairwise (λ x y. key x ≡ key y → ⊥) l
 -- two places with one key are one place
 pub distinct-once : {A B : Type 0} (key : A → B) (d : A) (l : List A) → Distinct key l
     → (i k : ℕ) → i < length l → k < length l → key (getD l i d) ≡ key (getD l k d) → i ≡ k
-distinct-once key d l h i k u v e = step (le-or-lt k i) (le-or-lt i k)
-  where
-    step : (k ≤ i) ⊎ (i < k) → (i ≤ k) ⊎ (k < i) → i ≡ k
-    step (inr a) b = absurd (pairs-at (λ x y. key x ≡ key y → ⊥) d l h i k a v e)
-    step (inl a) (inr b) = absurd (pairs-at (λ x y. key x ≡ key y → ⊥) d l h k i b u (sym e))
-    step (inl a) (inl b) = omega arith
+distinct-once key d l h i k u v e =
+    ⊎-elim
+    (λ (a : k ≤ i). ⊎-elim (λ (b : i ≤ k). omega arith) (λ b. absurd (pairs-at _ d l h k i b u (sym e))) (le-or-lt i k))
+    (λ a. absurd (pairs-at _ d l h i k a v e))
+    (le-or-lt k i)
 
 pub distinct-sort : {A B : Type 0} (key : A → B) (before : A → A → Bool) (l : List A) → Distinct key l → Distinct key (sortBy before l)
 distinct-sort key before l h = pairs-shuffle (λ x y. key x ≡ key y → ⊥) (λ x y n e. n (sym e)) (shuffle-sym (sort-shuffle before l)) h
@@ -102,6 +93,11 @@ Less x y = x < y
 pub less-from : (a n : ℕ) → Pairwise Less (fromOn a n)
 less-from a zero = tt
 less-from a (suc n) = ((λ y k. in-from (suc a) n y k .0), less-from (suc a) n)
+
+-- what is made of numbers that rise, where each number can be told from what is made of it
+pub distinct-less : {A : Type 0} (key : A → ℕ) (f : ℕ → A) (l : List ℕ) → ((x : ℕ) → key (f x) ≡ x) → Pairwise Less l → Distinct key (each f l)
+distinct-less key f l back h =
+    pairs-each (λ x y. key x ≡ key y → ⊥) f l (pairs-weaken Less (λ x y. key (f x) ≡ key (f y) → ⊥) l (λ x y u v k e. omega (arith, back x, back y)) h)
 
 -- the first of numbers that rise is the least
 pub less-first : (l : List ℕ) → Pairwise Less l → (x : ℕ) → In x l → firstOf l ≤ x
@@ -125,15 +121,11 @@ module _ (ρ : ℕ → ℕ) where
 
   pub parts-pairs : (l : List ℕ) → Pairwise Less l → (a n : ℕ) → Pairwise PartFirst (eachList (λ r. part ρ r l) (fromOn a n))
   parts-pairs l h a zero = tt
-  parts-pairs l h a (suc n) = pairs-append PartFirst (part ρ a l) (eachList (λ r. part ρ r l) (fromOn (suc a) n)) within (parts-pairs l h (suc a) n) across
-    where
-      of : (r x : ℕ) → In x (part ρ r l) → ρ x ≡ r
-      of r x k = eqb-true (ρ x) r (keep-in (λ i. eqb (ρ i) r) l x k .1)
-
-      within : Pairwise PartFirst (part ρ a l)
-      within = pairs-weaken Less PartFirst (part ρ a l) (λ x y u v k. inr (of a x u ∙ sym (of a y v), k)) (pairs-keep Less (λ i. eqb (ρ i) a) l h)
-
-      across : (x y : ℕ) → In x (part ρ a l) → In y (eachList (λ r. part ρ r l) (fromOn (suc a) n)) → PartFirst x y
-      across x y u v =
-          let s = in-eachList (λ r. part ρ r l) (fromOn (suc a) n) y v in
-          inl (omega (arith, of a x u, of (s .0) y (s .2), in-from (suc a) n (s .0) (s .1)))
+  parts-pairs l h a (suc n) =
+      let of : (r x : ℕ) → In x (part ρ r l) → ρ x ≡ r = λ r x k. eqb-true (ρ x) r (keep-in (λ i. eqb (ρ i) r) l x k .1) in
+      pairs-append PartFirst (part ρ a l) (eachList (λ r. part ρ r l) (fromOn (suc a) n))
+      (pairs-weaken Less PartFirst (part ρ a l) (λ x y u v k. inr (of a x u ∙ sym (of a y v), k)) (pairs-keep Less (λ i. eqb (ρ i) a) l h))
+      (parts-pairs l h (suc a) n)
+      (λ x y u v.
+      let s = in-eachList (λ r. part ρ r l) (fromOn (suc a) n) y v in
+      inl (omega (arith, of a x u, of (s .0) y (s .2), in-from (suc a) n (s .0) (s .1))))

@@ -1,10 +1,10 @@
 -- Lists put together from parts, by place: parts of any lengths by the sum of the lengths before, rows of one width by their number.
 -- Assumes nothing.
 use mathlib.Core.Path.{_≡_, refl, ap, _∙_}
-use mathlib.Core.List.{List, [], _∷_, _++_}
+use mathlib.Core.List.{List, [], _∷_}
 use Prim.Native.Nat.{ℕ, zero, suc, _+_, _*_, _<_}
 use native.Mathlib.Omega.{arith}
-use native.Mathlib.Nat.{suc-mul}
+use native.Mathlib.Nat.{suc-mul, zero-add, add-assoc}
 use lib.ListN.{length, take, getD, length-append, List·getD-append}
 use lib.Seq.{length-take-le, getD-append-add}
 use Rattle.base.specs.Lists.{each, eachList, total}
@@ -17,15 +17,8 @@ module _ {A B : Type 0} (f : A → List B) where
   pub getD-parts : (d : A) (z : B) (l : List A) (j k : ℕ) → j < length l → k < length (f (getD l j d))
       → getD (eachList f l) (total (each (λ x. length (f x)) (take j l)) + k) z ≡ getD (f (getD l j d)) k z
   getD-parts d z [] j k h u = absurd (omega arith)
-  getD-parts d z (x ∷ l) zero k h u =
-      let e : 0 + k ≡ k = omega arith in
-      ap (λ (m : ℕ). getD (f x ++ eachList f l) m z) e ∙ List·getD-append (f x) (eachList f l) z k u
-  getD-parts d z (x ∷ l) (suc j) k h u =
-      let s = total (each (λ x. length (f x)) (take j l)) in
-      let e : length (f x) + s + k ≡ length (f x) + (s + k) = omega arith in
-      ap (λ (m : ℕ). getD (f x ++ eachList f l) m z) e
-      ∙ getD-append-add (f x) (eachList f l) (s + k) z
-      ∙ getD-parts d z l j k (omega arith) u
+  getD-parts d z (x ∷ l) zero k h u = rw zero-add (List·getD-append (f x) (eachList f l) z k u)
+  getD-parts d z (x ∷ l) (suc j) k h u = rw (add-assoc, getD-append-add) (getD-parts d z l j k (omega arith) u)
 
   module _ (w : ℕ) (wide : (x : A) → length (f x) ≡ w) where
     total-rows : (l : List A) → total (each (λ x. length (f x)) l) ≡ length l * w

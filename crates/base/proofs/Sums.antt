@@ -1,18 +1,18 @@
 -- Sums over a list, how many of it pass a test, and the largest of it: put together, with one more, and bounded.
 -- Counting goes by rows or by columns: how many pass for each of one list, or for each of the other. Assumes nothing.
 use mathlib.Core.Path.{_≡_, refl, sym, ap, _∙_}
-use mathlib.Core.Logic.{inl, inr, ⊎-elim}
-use mathlib.Core.Bool.{Bool, true, false, cond, not, false≢true}
+use mathlib.Core.Logic.{inl, inr}
+use mathlib.Core.Bool.{Bool, true, cond, not, false≢true}
 use mathlib.Core.List.{List, [], _∷_, _++_}
 use Prim.Native.Nat.{ℕ, zero, suc, _+_, _*_, _≤_, _<_, max}
 use native.Mathlib.Omega.{arith}
 use native.Mathlib.Nat.{mul-suc}
 use lib.Dec.{ltb}
 use lib.ListN.{length, take, getD}
+use borrow.Table.Steps.{cases}
 use borrow.Author.Tests.{ltb-true, ltb-false}
 use Rattle.base.specs.Lists.{keep, each, total, largest, isEmpty, In}
 use Rattle.base.specs.Bits.{bit}
-use Rattle.base.proofs.Tests.{which}
 use Rattle.base.proofs.Members.{each-same}
 
 -- ---- sums
@@ -51,7 +51,7 @@ module _ {A : Type 0} (f g : A → ℕ) where
 
 module _ {A : Type 0} (f : A → Bool) where
   count-cons : (x : A) (l : List A) → length (keep f (x ∷ l)) ≡ bit (f x) + length (keep f l)
-  count-cons x l = ⊎-elim (λ (q : f x ≡ true). rw q (omega arith)) (λ (q : f x ≡ false). rw q (omega arith)) (which (f x))
+  count-cons x l = cases (f x) (λ q. rw q (omega arith)) (λ q. rw q (omega arith))
 
   count-bits : (l : List A) → total (each (λ x. bit (f x)) l) ≡ length (keep f l)
   count-bits [] = refl
@@ -59,10 +59,7 @@ module _ {A : Type 0} (f : A → Bool) where
 
   -- no more pass than the sum of numbers that are at least 1 for each that passes
   pub count-less : (g : A → ℕ) (l : List A) → ((x : A) → f x ≡ true → 1 ≤ g x) → length (keep f l) ≤ total (each g l)
-  count-less g l h = rw (sym (count-bits l)) (total-less (λ x. bit (f x)) g l (λ x k. one x))
-    where
-      one : (x : A) → bit (f x) ≤ g x
-      one x = ⊎-elim (λ (q : f x ≡ true). rw q (h x q)) (λ (q : f x ≡ false). rw q (omega arith)) (which (f x))
+  count-less g l h = rw (sym (count-bits l)) (total-less (λ x. bit (f x)) g l (λ x k. cases (f x) (λ q. rw q (h x q)) (λ q. rw q (omega arith))))
 
 -- the pairs that pass, counted by the one list or by the other
 pub count-both : {A B : Type 0} (f : A → B → Bool) (l : List A) (m : List B)
@@ -70,21 +67,13 @@ pub count-both : {A B : Type 0} (f : A → B → Bool) (l : List A) (m : List B)
 count-both f [] m = omega (arith, total-most (λ y. 0) 0 m (λ y k. omega arith))
 count-both {A} {B} f (x ∷ l) m =
     let rest : B → ℕ = λ y. length (keep (λ x. f x y) l) in
-    let more : total (each (λ y. length (keep (λ x. f x y) (x ∷ l))) m) ≡ total (each (λ y. bit (f x y) + rest y) m) =
-    ap total (each-same (λ y. length (keep (λ x. f x y) (x ∷ l))) (λ y. bit (f x y) + rest y) m (λ y k. count-cons (λ x. f x y) x l)) in
+    let more = ap total (each-same (λ y. length (keep (λ x. f x y) (x ∷ l))) (λ y. bit (f x y) + rest y) m (λ y k. count-cons (λ x. f x y) x l)) in
     omega (arith, count-both f l m, count-bits (f x) m, total-add (λ y. bit (f x y)) rest m)
 
 -- ---- the largest
 
-abbrev larger : ℕ → ℕ → ℕ
-larger a b = cond (ltb a b) b a
-
-larger-max : (a b : ℕ) → larger a b ≡ max a b
-larger-max a b =
-    ⊎-elim
-    (λ q. rw q (omega (arith, ltb-true a b q)))
-    (λ q. rw q (omega (arith, ltb-false a b q)))
-    (which (ltb a b))
+larger-max : (a b : ℕ) → cond (ltb a b) b a ≡ max a b
+larger-max a b = cases (ltb a b) (λ q. rw q (omega (arith, ltb-true a b q))) (λ q. rw q (omega (arith, ltb-false a b q)))
 
 pub largest-last : (l : List ℕ) (x : ℕ) → largest (l ++ (x ∷ [])) ≡ cond (ltb (largest l) x) x (largest l)
 largest-last [] x = larger-max x 0 ∙ omega (arith, larger-max 0 x)
@@ -99,6 +88,4 @@ in-largest (y ∷ l) x (inr h) = omega (arith, larger-max y (largest l), in-larg
 pub largest-in : (l : List ℕ) → not (isEmpty l) ≡ true → In (largest l) l
 largest-in [] h = absurd (false≢true h)
 largest-in (y ∷ []) h = inl (larger-max y 0 ∙ omega arith)
-largest-in (y ∷ z ∷ l) h =
-    let m = largest (z ∷ l) in
-    ⊎-elim (λ (q : ltb y m ≡ true). rw q (inr (largest-in (z ∷ l) refl))) (λ (q : ltb y m ≡ false). rw q (inl refl)) (which (ltb y m))
+largest-in (y ∷ z ∷ l) h = cases (ltb y (largest (z ∷ l))) (λ q. rw q (inr (largest-in (z ∷ l) refl))) (λ q. rw q (inl refl))

@@ -1,12 +1,13 @@
 -- Bools: the two cases of one, the parts of `&&` and `||`, tests in a row; and what an `if` of the code says of a definition.
 -- Assumes nothing.
 use mathlib.Core.Path.{_≡_, refl, sym, _∙_}
-use mathlib.Core.Logic.{_⊎_, inl, inr, ⊎-elim}
-use mathlib.Core.Bool.{Bool, true, false, not, _&&_, _||_, true≢false, false≢true, and-false}
+use mathlib.Core.Logic.{_⊎_, inl, inr}
+use mathlib.Core.Bool.{Bool, true, false, cond, not, _&&_, _||_, true≢false, false≢true, and-false}
 use mathlib.Core.List.{List, [], _∷_}
 use Prim.Native.Nat.{ℕ, zero, suc, _<_, _≤_}
 use lib.Dec.{leb}
 use lib.ListN.{getD}
+use borrow.Table.Steps.{cases}
 use borrow.Author.Tests.{leb-true, leb-false, not-true, not-false}
 use Rattle.base.specs.Lists.{every}
 
@@ -23,7 +24,7 @@ refuted true h = absurd (h refl)
 refuted false h = refl
 
 pub le-or-lt : (a b : ℕ) → (a ≤ b) ⊎ (b < a)
-le-or-lt a b = ⊎-elim (λ e. inl (leb-true a b e)) (λ e. inr (leb-false a b e)) (which (leb a b))
+le-or-lt a b = cases (leb a b) (λ e. inl (leb-true a b e)) (λ e. inr (leb-false a b e))
 
 pub and-left : (a b : Bool) → (a && b) ≡ true → a ≡ true
 and-left true b e = refl
@@ -50,6 +51,15 @@ breaks r d e t = sym e ∙ not-true r t
 
 pub holds : (r d : Bool) → r ≡ d → not r ≡ false → d ≡ true
 holds r d e t = sym e ∙ not-false r t
+
+-- what is not what a failed test gives came through the test, and what is not what a passed one gives did not
+pub tested : {A : Type 0} (b : Bool) {x y no : A} → (no ≡ y → ⊥) → cond b x no ≡ y → (b ≡ true) × (x ≡ y)
+tested true n e = (refl, e)
+tested false n e = absurd (n e)
+
+pub missed : {A : Type 0} (b : Bool) {x y no : A} → (x ≡ y → ⊥) → cond b x no ≡ y → (b ≡ false) × (no ≡ y)
+missed true n e = absurd (n e)
+missed false n e = (refl, e)
 
 -- of tests in a row that all hold, each holds
 pub every-at : (bs : List Bool) (k : ℕ) → every bs ≡ true → getD bs k true ≡ true

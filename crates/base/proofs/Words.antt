@@ -1,23 +1,28 @@
 -- A word of bits: its size, what one more bit adds, what each bit says, the words of tests put together, of parts and of an interval.
 -- Assumes nothing.
-use mathlib.Core.Path.{_≡_, refl, ap, _∙_}
+use mathlib.Core.Path.{_≡_, refl, sym, ap, _∙_}
 use mathlib.Core.Bool.{Bool, true, false, _&&_, _||_, and-true, and-false}
 use mathlib.Core.Logic.{_⊎_, inl, inr, ⊎-elim}
-use mathlib.Core.List.{[], _∷_, _++_}
+use mathlib.Core.List.{[], _∷_}
 use Prim.Native.Nat.{ℕ, zero, suc, _+_, _-_, _*_, _/_, _%_, _^_, _<_, _≤_}
 use native.Mathlib.Nat.{pow-suc, mod-eq-of-lt, one-mul, add-comm, add-assoc, add-mul, mul-assoc, add-mul-div-right, zero-add, add-zero, add-suc}
+use native.Mathlib.Numerals.{add-one}
 use native.Mathlib.Omega.{arith}
 use lib.Dec.{eqb, leb, ltb}
 use lib.Bits.{bitAnd, bitOr, and-block, or-block}
 use lib.Count.{ones, ones-cat}
 use lib.ListN.{length, length-append}
 use lib.Pow.{pow-lt, pow-mono, pow-pos, pow-add, high, mod-pow-add}
+use borrow.Table.Steps.{cases}
 use borrow.Author.Tests.{eq-eqb, ne-eqb, lt-ltb, le-ltb, le-leb, lt-leb}
 use Rattle.base.specs.Lists.{fromOn, keep}
 use Rattle.base.specs.Bits.{bit, wordOf, bitAt}
-use Rattle.base.proofs.Tests.{le-or-lt, which}
+use Rattle.base.proofs.Tests.{le-or-lt}
 use Rattle.base.proofs.Members.{keep-append}
 use Rattle.base.proofs.Runs.{from-split}
+
+pub parity : (w : ℕ) → (w % 2 ≡ 0) ⊎ (w % 2 ≡ 1)
+parity w = ⊎-elim (λ (h : w % 2 ≤ 0). inl (omega arith)) (λ (h : 0 < w % 2). inr (omega arith)) (le-or-lt (w % 2) 0)
 
 bit-most : (b : Bool) (n : ℕ) → bit b * n ≤ n
 bit-most true n = omega arith
@@ -40,9 +45,6 @@ bit-alone false = refl
 drop-even : (x y : ℕ) → (x + y * 2) % 2 ≡ x % 2
 drop-even x y = omega arith
 
-bit-top : (b : Bool) (w n : ℕ) → w < 2 ^ n → (w + bit b * 2 ^ n) / 2 ^ n % 2 ≡ bit b
-bit-top b w n h = rw (add-comm w (bit b * 2 ^ n), high (bit b) n h) (bit-alone b)
-
 bit-under : (b w n i : ℕ) → i < n → (w + b * 2 ^ n) / 2 ^ i % 2 ≡ w / 2 ^ i % 2
 bit-under b w n i h =
     let j = n - suc i in
@@ -55,7 +57,7 @@ unfolding wordOf
 bit-says test base zero i h = absurd (omega arith)
 bit-says test base (suc n) i h =
     ⊎-elim
-    (λ (k : n ≤ i). let e : i ≡ n = omega arith in rw e (bit-top (test (base + n)) _ n (word-less test base n)))
+    (λ (k : n ≤ i). let e : i ≡ n = omega arith in rw (e, add-comm (wordOf test base n), high (bit (test (base + n))) n (word-less test base n)) (bit-alone (test (base + n))))
     (λ (k : i < n). bit-under (bit (test (base + n))) _ n i k ∙ bit-says test base n i k)
     (le-or-lt n i)
 
@@ -76,21 +78,13 @@ words-by op join none bits block f g base (suc n) =
     (add-comm _ _)
 
 pub words-and : (f g : ℕ → Bool) (base n : ℕ) → bitAnd (wordOf f base n) (wordOf g base n) ≡ wordOf (λ k. f k && g k) base n
-words-and = words-by bitAnd _&&_ refl bits and-block
-  where
-    bits : (a b : Bool) → bitAnd (bit a) (bit b) ≡ bit (a && b)
-    bits true true = refl
-    bits true false = refl
-    bits false b = refl
+words-and = words-by bitAnd _&&_ refl (λ a b. cases a (λ p. cases b (λ q. rw (p, q)) (λ q. rw (p, q))) (λ p. rw p)) and-block
 
 pub words-or : (f g : ℕ → Bool) (base n : ℕ) → bitOr (wordOf f base n) (wordOf g base n) ≡ wordOf (λ k. f k || g k) base n
-words-or = words-by bitOr _||_ refl bits or-block
-  where
-    bits : (a b : Bool) → bitOr (bit a) (bit b) ≡ bit (a || b)
-    bits true true = refl
-    bits true false = refl
-    bits false true = refl
-    bits false false = refl
+words-or =
+    words-by bitOr _||_ refl
+    (λ a b. cases a (λ p. cases b (λ q. rw (p, q)) (λ q. rw (p, q))) (λ p. cases b (λ q. rw (p, q)) (λ q. rw (p, q))))
+    or-block
 
 -- tests that agree have one word
 pub word-same : (f g : ℕ → Bool) (a b n : ℕ) → ((k : ℕ) → k < n → f (a + k) ≡ g (b + k)) → wordOf f a n ≡ wordOf g b n
@@ -163,11 +157,7 @@ word-between first past (suc n) h =
 
 -- a number is the word of its own bits
 half-bit : (x : ℕ) → bit (eqb (x % 2) 1) ≡ x % 2
-half-bit x =
-    ⊎-elim
-    (λ (h : x % 2 ≤ 0). let z : x % 2 ≡ 0 = omega arith in rw z)
-    (λ (h : 0 < x % 2). let z : x % 2 ≡ 1 = omega arith in rw z)
-    (le-or-lt (x % 2) 0)
+half-bit x = ⊎-elim (λ (e : x % 2 ≡ 0). rw e) (λ (e : x % 2 ≡ 1). rw e) (parity x)
 
 bits-below : (w n : ℕ) → wordOf (bitAt w) 0 n ≡ w % 2 ^ n
 unfolding wordOf
@@ -185,16 +175,11 @@ pub ones-word : (test : ℕ → Bool) (base n : ℕ) → ones (wordOf test base 
 unfolding wordOf ones
 ones-word test base zero = refl
 ones-word test base (suc n) =
-    let e : suc n ≡ n + 1 = omega arith in
-    let k : keep test (fromOn base (suc n)) ≡ keep test (fromOn base n) ++ keep test ((base + n) ∷ []) =
-    ap (λ (m : ℕ). keep test (fromOn base m)) e ∙ ap (keep test) (from-split base n 1) ∙ keep-append test (fromOn base n) ((base + n) ∷ []) in
+    let k = ap (keep test) (ap (fromOn base) (sym (add-one n)) ∙ from-split base n 1) ∙ keep-append test (fromOn base n) ((base + n) ∷ []) in
+    let one : ones (bit (test (base + n))) ≡ length (keep test ((base + n) ∷ [])) = cases (test (base + n)) (λ q. rw q) (λ q. rw q) in
     ap ones (add-comm (wordOf test base n) (bit (test (base + n)) * 2 ^ n))
     ∙ ones-cat n (bit (test (base + n))) (wordOf test base n) (word-less test base n)
-    ∙ omega (arith, ones-word test base n, one (which (test (base + n))), ap length k ∙ length-append (keep test (fromOn base n)) (keep test ((base + n) ∷ [])))
-  where
-    one : (test (base + n) ≡ true) ⊎ (test (base + n) ≡ false) → ones (bit (test (base + n))) ≡ length (keep test ((base + n) ∷ []))
-    one (inl q) = rw q
-    one (inr q) = rw q
+    ∙ omega (arith, ones-word test base n, ap length k ∙ length-append (keep test (fromOn base n)) (keep test ((base + n) ∷ [])))
 
 -- the highest bit of a word that is 1: the test holds there, and of none above it
 pub record TopBit (test : ℕ → Bool) (n i : ℕ) : Type 0 where
@@ -207,45 +192,26 @@ word-next : (test : ℕ → Bool) (n : ℕ) → wordOf test 0 (suc n) ≡ wordOf
 unfolding wordOf
 word-next test n = ap (λ (k : ℕ). wordOf test 0 n + bit (test k) * 2 ^ n) (zero-add n)
 
-top-set : (test : ℕ → Bool) (n i : ℕ) → 2 ^ i ≤ wordOf test 0 (suc n) → wordOf test 0 (suc n) < 2 ^ suc i → test n ≡ true → TopBit test (suc n) i
-top-set test n i h k q =
-    let w : wordOf test 0 (suc n) ≡ wordOf test 0 n + 2 ^ n = word-next test n ∙ rw q (omega arith) in
-    let same : i ≡ n =
-    ⊎-elim
-    (λ (l : n ≤ i).
-    ⊎-elim
-    (λ (u : i ≤ n). omega arith)
-    (λ (u : n < i). absurd (omega (arith, word-less test 0 (suc n), pow-mono {i = suc n} {j = i} u)))
-    (le-or-lt i n))
-    (λ (l : i < n). absurd (omega (arith, pow-mono {i = suc i} {j = n} l)))
-    (le-or-lt n i) in
-    record {
-      inside = omega arith;
-      set = ap test same ∙ q;
-      rest = rw (same, w) (omega arith);
-      above = λ k l u. absurd (omega arith);
-    }
-
 pub top-bit : (test : ℕ → Bool) (n i : ℕ) → 2 ^ i ≤ wordOf test 0 n → wordOf test 0 n < 2 ^ suc i → TopBit test n i
 top-bit test zero i h k = absurd (omega (arith, word-less test 0 0, pow-pos i))
-top-bit test (suc n) i h k = step (which (test n)) (top-bit test n i)
-  where
-    lower : test n ≡ false → TopBit test n i → TopBit test (suc n) i
-    lower q t =
-        let w : wordOf test 0 (suc n) ≡ wordOf test 0 n = word-next test n ∙ rw q (omega arith) in
-        record {
-          inside = omega (arith, t .inside);
-          set = t .set;
-          rest = rw w (t .rest);
-          above = λ m l u.
-              ⊎-elim
-              (λ (v : n ≤ m). let e : m ≡ n = omega arith in ap test e ∙ q)
-              (λ (v : m < n). t .above m l v)
-              (le-or-lt n m);
-        }
-
-    step : (test n ≡ true) ⊎ (test n ≡ false) → (2 ^ i ≤ wordOf test 0 n → wordOf test 0 n < 2 ^ suc i → TopBit test n i) → TopBit test (suc n) i
-    step (inl q) below = top-set test n i h k q
-    step (inr q) below =
-        let w : wordOf test 0 (suc n) ≡ wordOf test 0 n = word-next test n ∙ rw q (omega arith) in
-        lower q (below (omega (arith, w)) (omega (arith, w)))
+top-bit test (suc n) i h k =
+    cases (test n)
+    (λ q.
+    let w : wordOf test 0 (suc n) ≡ wordOf test 0 n + 2 ^ n = word-next test n ∙ rw q (omega arith) in
+    let low : n ≤ i = ⊎-elim (λ l. l) (λ l. absurd (omega (arith, pow-mono {i = suc i} {j = n} l))) (le-or-lt n i) in
+    let high : i ≤ n = ⊎-elim (λ u. u) (λ u. absurd (omega (arith, word-less test 0 (suc n), pow-mono {i = suc n} {j = i} u))) (le-or-lt i n) in
+    let same : i ≡ n = omega arith in
+    record { inside = omega arith; set = ap test same ∙ q; rest = rw (same, w) (omega arith); above = λ k l u. absurd (omega arith) })
+    (λ q.
+    let w : wordOf test 0 (suc n) ≡ wordOf test 0 n = word-next test n ∙ rw q (omega arith) in
+    let t = top-bit test n i (omega arith) (omega arith) in
+    record {
+      inside = omega (arith, t .inside);
+      set = t .set;
+      rest = rw w (t .rest);
+      above = λ m l u.
+          ⊎-elim
+          (λ (v : n ≤ m). let e : m ≡ n = omega arith in ap test e ∙ q)
+          (λ (v : m < n). t .above m l v)
+          (le-or-lt n m);
+    })

@@ -12,7 +12,7 @@ use borrow.Author.Tests.{le-leb, leb-true, ne-eqb, eqb-true, eqb-false}
 use Rattle.base.specs.Lists.{upTo, each, eachList, written}
 use Rattle.base.proofs.Members.{getD-in, length-each, getD-each, eachList-each, eachList-same}
 use Rattle.base.proofs.Runs.{each-getD, in-from}
-use Rattle.base.proofs.Tests.{every-at}
+use Rattle.base.proofs.Tests.{tested, every-at}
 use Rattle.rules.specs.declared.Grid.{Grid}
 use Rattle.rules.specs.declared.Ranking.{Ranking}
 use Rattle.rules.specs.declared.Hit.{Hit}
@@ -32,7 +32,6 @@ use Rattle.meaning.specs.Meaning.{noHit}
 use Rattle.meaning.proofs.Meaning.{table-means}
 use Rattle.rules.proofs.Refusals.{first-none}
 use Rattle.lines.specs.Writing.{ascii, decimalOf, line}
-use Rattle.lines.proofs.Decimals.{tested}
 use Rattle.desk_form.specs.Printed.{printedRefusal, printedHit, printedHits, replyTo}
 use Rattle.desk_answer.specs.Printing.{hitLines, hitsTo, foundLines, NamesListed}
 

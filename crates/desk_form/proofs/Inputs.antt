@@ -15,7 +15,7 @@ use Rattle.desk_form.specs.Form.{StandLines, Input, gridText, standText,
 use Rattle.lines.specs.Reads.{got, onward}
 use Rattle.desk_form.specs.Reads.{gridLines, standBy, standLines, allStands, questionLines, ended, inputOf, allLines, readInput}
 use Rattle.lines.specs.Back.{ReadBack}
-use Rattle.lines.proofs.Decimals.{tested}
+use Rattle.base.proofs.Tests.{tested}
 use Rattle.lines.proofs.Lines.{lost, as-got, in-a-row, past-line, read-back}
 
 abbrev GridOk : Grid × ℕ → Type 0

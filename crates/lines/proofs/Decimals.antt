@@ -2,7 +2,7 @@
 -- A number's digits grow at the end, as reading goes. Assumes nothing.
 use mathlib.Core.Path.{_≡_, refl, sym, ap, _∙_}
 use mathlib.Core.Logic.{inl, inr, ⊎-elim}
-use mathlib.Core.Bool.{Bool, true, false, true≢false, cond}
+use mathlib.Core.Bool.{true, false, true≢false}
 use mathlib.Core.List.{List, [], _∷_, _++_, append-assoc, append-nil}
 use mathlib.Core.Option.{Option, none, some, Option·none-ne-some}
 use Prim.Native.Nat.{ℕ, zero, suc, _+_, _-_, _*_, _/_, _%_, _≤_, _<_}
@@ -15,15 +15,10 @@ use borrow.Author.Tests.{lt-ltb, le-ltb, le-leb, leb-true, ne-eqb, eqb-false, no
 use Rattle.base.specs.Lists.{begins}
 use Rattle.base.proofs.Begins.{begins-cases}
 use Rattle.base.proofs.Members.{in-either}
-use Rattle.base.proofs.Tests.{le-or-lt, every-at, every-of}
+use Rattle.base.proofs.Tests.{tested, le-or-lt, every-at, every-of}
 use Rattle.lines.specs.Writing.{ascii, digitsOf, decimalOf, signedOf, Signed32, OneLine}
 use Rattle.lines.specs.Reads.{grown, digitFits, grownBy, wellLed, decimalIn, negated, positive, signedIn}
 use Rattle.lines.specs.Back.{ValueBack}
-
--- what is not what a failed test gives came through the test
-pub tested : {A : Type 0} (b : Bool) {x y no : A} → (no ≡ y → ⊥) → cond b x no ≡ y → (b ≡ true) × (x ≡ y)
-tested true n e = (refl, e)
-tested false n e = absurd (n e)
 
 -- room enough is as good as more
 enough : (r r′ n : ℕ) → n < r → n < r′ → digitsOf (ltb n 10) r n ≡ digitsOf (ltb n 10) r′ n

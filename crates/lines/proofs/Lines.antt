@@ -13,12 +13,13 @@ use lib.Seq.{take-append-seam, drop-append-seam, drop-append-add}
 use borrow.Table.Steps.{cases}
 use borrow.Author.Tests.{lt-ltb, ltb-true, eqb-true, eqb-false}
 use Rattle.base.specs.Lists.{In, positionIn}
+use Rattle.base.proofs.Tests.{tested}
 use Rattle.base.proofs.Begins.{begins-append, begins-is-take}
 use Rattle.base.proofs.Members.{position-seam}
 use Rattle.lines.specs.Writing.{line, OneLine}
 use Rattle.lines.specs.Reads.{Got, got, nothing, Reader, onward, toFeed, bytesLine, valued, valueLine}
 use Rattle.lines.specs.Back.{ValueBack, ReadBack, WrittenReadBack}
-use Rattle.lines.proofs.Decimals.{tested, decimal-law, decimal-line, signed-law, signed-line}
+use Rattle.lines.proofs.Decimals.{decimal-law, decimal-line, signed-law, signed-line}
 
 pub lost : {A X : Type 0} {a : A} {rest : List ℕ} → nothing ≡ got a rest → X
 lost e = let z : _≡_ {A = ℕ} 0 1 = cc in absurd (omega arith)

@@ -1,48 +1,39 @@
 -- For a pass over the names in turn: which nodes a name adds, their numbers, their stands, and where their subtrees end.
 -- Assumes nothing.
-use mathlib.Core.Path.{_≡_, refl, sym, ap, _∙_, subst, subst₂}
-use mathlib.Core.Logic.{_⊎_, inl, inr, ⊎-elim}
-use mathlib.Core.Bool.{true}
-use mathlib.Core.List.{List, [], _∷_, _++_, append-nil}
+use mathlib.Core.Path.{_≡_, refl, sym, ap, _∙_, subst₂}
+use mathlib.Core.Logic.{⊎-elim}
+use mathlib.Core.Bool.{true, false}
+use mathlib.Core.List.{List, [], _∷_, _++_}
 use Prim.Native.Nat.{ℕ, zero, suc, _+_, _-_, _≤_, _<_}
 use native.Mathlib.Omega.{arith}
+use native.Mathlib.Nat.{add-zero}
 use native.Mathlib.Numerals.{add-one}
 use lib.ListN.{length, take, getD, length-append, List·getD-append}
 use lib.Seq.{length-take-le, getD-append-add, take-length, take-take, take-suc}
 use Rattle.base.specs.Lists.{fromOn, upTo, each, eachList, firstOf, begins}
 use Rattle.base.proofs.Tests.{never, le-or-lt}
 use Rattle.base.proofs.Members.{length-each, eachList-append}
-use Rattle.base.proofs.Runs.{length-from, upTo-split, upTo-suc, getD-each-from}
+use Rattle.base.proofs.Runs.{length-from, upTo-split, eachList-suc, getD-each-from}
 use Rattle.base.proofs.Begins.{begins-trans, take-begins, shared-begins, past-shared, sharedLength-sym}
 use Rattle.rules.specs.Tables.{Table, stands, nameOf, Ordered}
 use Rattle.rules.specs.Questions.{under}
 use Rattle.rules.specs.Indexes.{newAt, beginnings, nodeCount, numberIn, lastByte, butLast, pastOf}
 use Rattle.rules.proofs.Orders.{order-antisym, begins-order}
-use Rattle.meaning.specs.Trees.{Tree, fresh, textOf}
+use Rattle.meaning.specs.Trees.{textOf}
 use Rattle.meaning.specs.Adding.{nameBefore, sharedAt, nodesBefore}
-use Rattle.meaning.proofs.Fresh.{fresh-takes, fresh-all}
+use Rattle.meaning.proofs.Fresh.{fresh-takes}
 use Rattle.meaning.proofs.Tree.{number-in, number-at}
 use Rattle.meaning.proofs.Children.{subtree-in, subtree-only, past-bounds, last-snoc}
-use Rattle.meaning.proofs.Tables.{beginnings-tree, beginnings-of, under-from, under-only}
+use Rattle.meaning.proofs.Tables.{new-fresh, beginnings-tree, beginnings-of, under-from, under-only}
 
 -- ---- the nodes that name i adds: its beginnings longer than what it shares, in a row
 
 module _ (t : Table) where
-  new-fresh : (i : ℕ) → newAt t i ≡ fresh (nameBefore t i) (nameOf t i)
-  new-fresh zero = fresh-all (nameOf t 0)
-  new-fresh (suc i) = refl
-
   pub new-takes : (i : ℕ) → newAt t i ≡ each (λ l. take l (nameOf t i)) (fromOn (suc (sharedAt t i)) (length (nameOf t i) - sharedAt t i))
-  new-takes i = new-fresh i ∙ fresh-takes (nameBefore t i) (nameOf t i)
+  new-takes i = new-fresh t i ∙ fresh-takes (nameBefore t i) (nameOf t i)
 
   new-length : (i : ℕ) → length (newAt t i) ≡ length (nameOf t i) - sharedAt t i
   new-length i = ap length (new-takes i) ∙ simp (length-each, length-from)
-
-  new-suc : (i : ℕ) → eachList (newAt t) (upTo (suc i)) ≡ eachList (newAt t) (upTo i) ++ newAt t i
-  new-suc i =
-      ap (eachList (newAt t)) (upTo-suc i)
-      ∙ eachList-append (newAt t) (upTo i) (i ∷ [])
-      ∙ ap (λ (u : List (List ℕ)). eachList (newAt t) (upTo i) ++ u) (append-nil (newAt t i))
 
   new-split : (i : ℕ) → i < stands t → beginnings t ≡ ([] ∷ eachList (newAt t) (upTo i)) ++ (newAt t i ++ eachList (newAt t) (fromOn (suc i) (stands t - suc i)))
   unfolding beginnings
@@ -51,7 +42,7 @@ module _ (t : Table) where
       (ap (eachList (newAt t)) (upTo-split i (stands t) h) ∙ eachList-append (newAt t) (upTo i) (i ∷ fromOn (suc i) (stands t - suc i)))
 
   pub nodes-step : (i : ℕ) → nodesBefore t (suc i) ≡ nodesBefore t i + (length (nameOf t i) - sharedAt t i)
-  nodes-step i = omega (arith, ap length (new-suc i), length-append (eachList (newAt t) (upTo i)) (newAt t i), new-length i)
+  nodes-step i = omega (arith, ap length (eachList-suc (newAt t) i), length-append (eachList (newAt t) (upTo i)) (newAt t i), new-length i)
 
   pub nodes-all : nodesBefore t (stands t) ≡ nodeCount t
   unfolding beginnings
@@ -97,41 +88,30 @@ module _ (t : Table) (o : Ordered t) where
 
   -- the first is i, where name i adds the node
   pub first-stand : (i l : ℕ) → i < stands t → sharedAt t i < l → l ≤ length (nameOf t i) → firstOf (under t (take l (nameOf t i))) ≡ i
-  first-stand i l h u v = go i h u v (under-from t o (take l (nameOf t i)) i h (take-begins l (nameOf t i)))
-    where
-      go : (i : ℕ) → i < stands t → sharedAt t i < l → l ≤ length (nameOf t i)
-          → (firstOf (under t (take l (nameOf t i))) ≤ i) × (i < firstOf (under t (take l (nameOf t i))) + length (under t (take l (nameOf t i))))
-          → firstOf (under t (take l (nameOf t i))) ≡ i
-      go zero h u v r = omega arith
-      go (suc i) h u v r = step (le-or-lt f i)
-        where
-          f : ℕ
-          f = firstOf (under t (take l (nameOf t (suc i))))
+  first-stand zero l h u v = omega (arith, under-from t o (take l (nameOf t 0)) 0 h (take-begins l (nameOf t 0)))
+  first-stand (suc i) l h u v =
+      let p = take l (nameOf t (suc i)) in
+      let r = under-from t o p (suc i) h (take-begins l (nameOf t (suc i))) in
+      ⊎-elim
+      (λ (q : firstOf (under t p) ≤ i). never _ (under-only t o p i q (omega arith) .1) (past-shared (nameOf t i) (nameOf t (suc i)) l u v))
+      (λ (q : i < firstOf (under t p)). omega arith)
+      (le-or-lt (firstOf (under t p)) i)
 
-          step : (f ≤ i) ⊎ (i < f) → f ≡ suc i
-          step (inl q) = never _ (under-only t o (take l (nameOf t (suc i))) i q (omega arith) .1) (past-shared (nameOf t i) (nameOf t (suc i)) l u v)
-          step (inr q) = omega arith
+  -- a node of name i's path that the next name does not share is not on the next name's path
+  off-next : (i l : ℕ) → sharedAt t (suc i) < l → l ≤ length (nameOf t i) → begins (take l (nameOf t i)) (nameOf t (suc i)) ≡ false
+  off-next i l h v = past-shared (nameOf t (suc i)) (nameOf t i) l (omega (arith, sharedLength-sym (nameOf t i) (nameOf t (suc i)))) v
 
   -- the last is i, where the next name does not go through the node
   pub past-stand : (i l : ℕ) → i < stands t → l ≤ length (nameOf t i) → (suc i < stands t → sharedAt t (suc i) < l)
       → firstOf (under t (take l (nameOf t i))) + length (under t (take l (nameOf t i))) ≡ suc i
-  past-stand i l h v c = step (le-or-lt past (suc i))
-    where
-      p : List ℕ
-      p = take l (nameOf t i)
-
-      past : ℕ
-      past = firstOf (under t p) + length (under t p)
-
-      r : (firstOf (under t p) ≤ i) × (i < past)
-      r = under-from t o p i h (take-begins l (nameOf t i))
-
-      step : (past ≤ suc i) ⊎ (suc i < past) → past ≡ suc i
-      step (inl q) = omega (arith, r)
-      step (inr q) =
-          let s = under-only t o p (suc i) (omega (arith, r)) q in
-          let apart = past-shared (nameOf t (suc i)) (nameOf t i) l (omega (arith, c (s .0), sharedLength-sym (nameOf t i) (nameOf t (suc i)))) v in
-          never _ (s .1) apart
+  past-stand i l h v c =
+      let p = take l (nameOf t i) in
+      let past = firstOf (under t p) + length (under t p) in
+      let r = under-from t o p i h (take-begins l (nameOf t i)) in
+      ⊎-elim
+      (λ (q : past ≤ suc i). omega arith)
+      (λ (q : suc i < past). let s = under-only t o p (suc i) (omega arith) q in never _ (s .1) (off-next i l (c (s .0)) v))
+      (le-or-lt past (suc i))
 
   -- ---- where the nodes' subtrees end
 
@@ -139,8 +119,7 @@ module _ (t : Table) (o : Ordered t) where
     -- a name that adds nothing is the name before
     adds-none : (i : ℕ) → suc i < stands t → length (nameOf t (suc i)) ≤ sharedAt t (suc i) → nameOf t (suc i) ≡ nameOf t i
     adds-none i h u =
-        let b = shared-begins (nameOf t i) (nameOf t (suc i)) (length (nameOf t (suc i))) u in
-        let w : begins (nameOf t (suc i)) (nameOf t i) ≡ true = subst (λ (p : List ℕ). begins p (nameOf t i) ≡ true) (take-length (nameOf t (suc i))) b in
+        let w = rw (take-length (nameOf t (suc i))) at (shared-begins (nameOf t i) (nameOf t (suc i)) (length (nameOf t (suc i))) u) in
         order-antisym (nameOf t (suc i)) (nameOf t i) (begins-order (nameOf t (suc i)) (nameOf t i) w) (rw add-one at (o i (omega arith)))
 
     last-added : (i : ℕ) → i < stands t → sharedAt t i < length (nameOf t i) → textOf t (nodesBefore t (suc i) - 1) ≡ nameOf t i
@@ -148,10 +127,7 @@ module _ (t : Table) (o : Ordered t) where
         let k = length (nameOf t i) - sharedAt t i - 1 in
         let x : nodesBefore t (suc i) - 1 ≡ nodesBefore t i + k = omega (arith, nodes-step t i) in
         let y : suc (sharedAt t i) + k ≡ length (nameOf t i) = omega arith in
-        ap (λ (m : ℕ). textOf t m) x
-        ∙ node-text t i k h (omega arith)
-        ∙ ap (λ (l : ℕ). take l (nameOf t i)) y
-        ∙ take-length (nameOf t i)
+        ap (λ (m : ℕ). textOf t m) x ∙ node-text t i k h (omega arith) ∙ rw (y, take-length (nameOf t i))
 
     -- the last of the nodes of the names up to i is name i
     last-node : (i : ℕ) → i < stands t → textOf t (nodesBefore t (suc i) - 1) ≡ nameOf t i
@@ -167,52 +143,35 @@ module _ (t : Table) (o : Ordered t) where
     -- a node of name i's path that is not on the path of the next name ends with the nodes of the names up to i
     pub past-node : (i l : ℕ) → i < stands t → l ≤ length (nameOf t i) → (suc i < stands t → sharedAt t (suc i) < l)
         → pastOf (beginnings t) (numberIn (take l (nameOf t i)) (beginnings t)) ≡ nodesBefore t (suc i)
-    past-node i l h v c = step (le-or-lt past made)
-      where
-        B : List (List ℕ)
-        B = beginnings t
-
-        tree : Tree (beginnings t)
-        tree = beginnings-tree t o
-
-        p : List ℕ
-        p = take l (nameOf t i)
-
-        at : (numberIn p B < length B) × (getD B (numberIn p B) [] ≡ p)
-        at = number-in p B (beginnings-of t i p h (take-begins l (nameOf t i)))
-
+    past-node i l h v c =
+        let B = beginnings t in
+        let tree = beginnings-tree t o in
+        let p = take l (nameOf t i) in
+        let at = number-in p B (beginnings-of t i p h (take-begins l (nameOf t i))) in
         -- the nodes of the names up to i
-        made : ℕ
-        made = nodesBefore t (suc i)
-
-        past : ℕ
-        past = pastOf B (numberIn p B)
-
-        last : (numberIn p B ≤ made - 1) × (made - 1 < past)
-        last =
-            subtree-in B (tree .sorted) (numberIn p B) (at .0) (made - 1) (omega (arith, nodes-fit t i h))
-            (subst₂ (λ (x y : List ℕ). begins x y ≡ true) (sym (at .1)) (sym (last-node i h)) (take-begins l (nameOf t i)))
-
+        let made = nodesBefore t (suc i) in
+        let past = pastOf B (numberIn p B) in
+        let last : (numberIn p B ≤ made - 1) × (made - 1 < past) =
+        subtree-in B (tree .sorted) (numberIn p B) (at .0) (made - 1) (omega (arith, nodes-fit t i h))
+        (subst₂ (λ (x y : List ℕ). begins x y ≡ true) (sym (at .1)) (sym (last-node i h)) (take-begins l (nameOf t i))) in
+        ⊎-elim
+        (λ (q : past ≤ made). omega arith)
+        (λ (q : made < past).
+        ⊎-elim
+        (λ (k : stands t ≤ suc i).
+        let s : stands t ≡ suc i = omega arith in
+        let r : length B ≡ made = sym (nodes-all t) ∙ ap (nodesBefore t) s in
+        absurd (omega (arith, past-bounds B (tree .sorted) (numberIn p B) (at .0))))
+        (λ (k : suc i < stands t).
+        ⊎-elim
+        (λ (f : length (nameOf t (suc i)) ≤ sharedAt t (suc i)). absurd (omega (arith, ap length (adds-none i k f), c k)))
         -- the next node is of the next name, whose path p is not on
-        next : made < past → (suc i < stands t) → sharedAt t (suc i) < length (nameOf t (suc i)) → ⊥
-        next q k f =
-            let m = suc (sharedAt t (suc i)) + 0 in
-            let z : made + 0 ≡ made = omega arith in
-            let b = subtree-only B (tree .sorted) (numberIn p B) (at .0) made (omega (arith, last)) q .1 in
-            let x : getD B made [] ≡ take m (nameOf t (suc i)) = ap (λ (m : ℕ). getD B m []) (sym z) ∙ node-text t (suc i) 0 k (omega arith) in
-            let y : begins p (take m (nameOf t (suc i))) ≡ true = subst₂ (λ (x y : List ℕ). begins x y ≡ true) (at .1) x b in
-            let through = begins-trans p (take m (nameOf t (suc i))) (nameOf t (suc i)) y (take-begins m (nameOf t (suc i))) in
-            let apart = past-shared (nameOf t (suc i)) (nameOf t i) l (omega (arith, c k, sharedLength-sym (nameOf t i) (nameOf t (suc i)))) v in
-            never _ through apart
-
-        more : made < past → (stands t ≤ suc i) ⊎ (suc i < stands t) → (length (nameOf t (suc i)) ≤ sharedAt t (suc i)) ⊎ (sharedAt t (suc i) < length (nameOf t (suc i))) → ⊥
-        more q (inl k) f =
-            let s : stands t ≡ suc i = omega arith in
-            let r : length B ≡ made = sym (nodes-all t) ∙ ap (nodesBefore t) s in
-            omega (arith, past-bounds B (tree .sorted) (numberIn p B) (at .0))
-        more q (inr k) (inl f) = omega (arith, ap length (adds-none i k f), c k)
-        more q (inr k) (inr f) = next q k f
-
-        step : (past ≤ made) ⊎ (made < past) → past ≡ made
-        step (inl q) = omega (arith, last)
-        step (inr q) = absurd (more q (le-or-lt (stands t) (suc i)) (le-or-lt (length (nameOf t (suc i))) (sharedAt t (suc i))))
+        (λ (f : sharedAt t (suc i) < length (nameOf t (suc i))).
+        let m = suc (sharedAt t (suc i)) + 0 in
+        let x : getD B made [] ≡ take m (nameOf t (suc i)) = rw add-zero at (node-text t (suc i) 0 k (omega arith)) in
+        let b = subtree-only B (tree .sorted) (numberIn p B) (at .0) made (omega arith) q .1 in
+        let y = subst₂ (λ (x y : List ℕ). begins x y ≡ true) (at .1) x b in
+        never _ (begins-trans p (take m (nameOf t (suc i))) (nameOf t (suc i)) y (take-begins m (nameOf t (suc i)))) (off-next i l (c k) v))
+        (le-or-lt (length (nameOf t (suc i))) (sharedAt t (suc i))))
+        (le-or-lt (stands t) (suc i)))
+        (le-or-lt past made)

@@ -35,19 +35,14 @@ module _ (g : ℕ → List ℕ) (n : ℕ) (up : Rising g n) (p : List ℕ) where
 -- the block of the j-th name of names that rise strictly
 module _ (g : ℕ → List ℕ) (n : ℕ) (up : StrictlyRising g n) (j : ℕ) (lt : j < n) where
   block-first : firstOf (blockOf g n (g j)) ≡ j
-  block-first = ⊎-elim (λ e. e) (λ h. absurd (smaller h)) (eq-or-lt-of-le (here .0))
-    where
-      first : ℕ
-      first = firstOf (blockOf g n (g j))
-
-      here : (firstOf (blockOf g n (g j)) ≤ j) × (j < firstOf (blockOf g n (g j)) + length (blockOf g n (g j)))
-      here = block-in g n (strict-rising g n up) (g j) j lt (begins-refl (g j))
-
+  block-first =
+      let first = firstOf (blockOf g n (g j)) in
+      let here = block-in g n (strict-rising g n up) (g j) j lt (begins-refl (g j)) in
       -- a smaller one would begin with g j and still come strictly before it
-      smaller : first < j → ⊥
-      smaller h =
-          let t = block-out g n (strict-rising g n up) (g j) first (omega arith) (omega (arith, here)) in
-          never _ (begins-order (g j) (g first) (t .1)) (up first j h lt)
+      ⊎-elim
+      (λ e. e)
+      (λ h. never _ (begins-order (g j) (g first) (block-out g n (strict-rising g n up) (g j) first (omega arith) (omega arith) .1)) (up first j h lt))
+      (eq-or-lt-of-le (here .0))
 
   pub block-from : (i : ℕ) → i < n → begins (g j) (g i) ≡ true → (j ≤ i) × (i < j + length (blockOf g n (g j)))
   block-from i h b = let t = block-in g n (strict-rising g n up) (g j) i h b in (omega (arith, block-first), omega (arith, block-first))

@@ -12,7 +12,7 @@ use Rattle.base.proofs.Runs.{in-from, from-in}
 use Rattle.base.proofs.Sums.{in-largest, largest-in}
 use Rattle.base.proofs.Shuffles.{shuffle-sym, shuffle-in, sort-shuffle}
 use Rattle.base.proofs.Sorts.{Wins, sort-wins}
-use Rattle.base.proofs.Pairs.{pairs-keep, pairs-at, pairs-each, pairs-weaken, Distinct, distinct-once, distinct-sort, Less, less-from}
+use Rattle.base.proofs.Pairs.{pairs-keep, pairs-at, Distinct, distinct-once, distinct-sort, Less, less-from, distinct-less}
 use Rattle.rules.specs.declared.Grid.{Grid}
 use Rattle.rules.specs.Places.{regions}
 use Rattle.rules.specs.Tables.{Table, stands, scoreOf, LawfulTable}
@@ -57,9 +57,7 @@ module _ (t : Table) (g : Grid) (l : LawfulTable t g) (p : List ℕ) where
 
   regions-differ : Distinct (λ e. e .region) unsorted
   regions-differ =
-      pairs-each (λ e f. e .region ≡ f .region → ⊥) (entryOf t g p) (regionsUnder t g p)
-      (pairs-weaken Less (λ r s. r ≡ s → ⊥) (regionsUnder t g p) (λ r s u v h e. omega arith)
-      (pairs-keep Less (occupied t g p) (upTo regions) (less-from 0 regions)))
+      distinct-less (λ e. e .region) (entryOf t g p) (regionsUnder t g p) (λ r. refl) (pairs-keep Less (occupied t g p) (upTo regions) (less-from 0 regions))
 
   -- ---- what is in the entry of region r
 

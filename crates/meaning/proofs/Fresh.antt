@@ -1,13 +1,15 @@
 -- The beginnings of a name that are no beginnings of the name before: they are the ones longer than what the two share.
 -- Assumes nothing.
-use mathlib.Core.Path.{_≡_, refl, sym, ap, _∙_}
+use mathlib.Core.Path.{_≡_, sym, ap, _∙_}
 use mathlib.Core.Bool.{Bool, true, false, not}
-use mathlib.Core.List.{List, [], _∷_, _++_}
+use mathlib.Core.List.{List, []}
 use Prim.Native.Nat.{ℕ, suc, _+_, _-_, _≤_}
+use native.Mathlib.Numerals.{one-add}
 use native.Mathlib.Omega.{arith}
 use lib.ListN.{length, take, length-take}
 use borrow.Author.Tests.{not-true}
 use Rattle.base.specs.Lists.{fromOn, keep, each, begins, sharedLength, In}
+use Rattle.base.proofs.Tests.{refuted}
 use Rattle.base.proofs.Members.{in-keep, keep-in, keep-none, keep-every, keep-append, keep-each, in-each, each-in}
 use Rattle.base.proofs.Runs.{in-from, from-in, from-split}
 use Rattle.base.proofs.Begins.{begins-length, take-begins, begins-is-take, shared-le-other, shared-begins, past-shared}
@@ -15,37 +17,18 @@ use Rattle.rules.specs.Indexes.{beginningsOf}
 use Rattle.meaning.specs.Trees.{fresh}
 
 pub fresh-takes : (m n : List ℕ) → fresh m n ≡ each (λ l. take l n) (fromOn (suc (sharedLength m n)) (length n - sharedLength m n))
-fresh-takes m n = keep-each (λ p. not (begins p m)) (λ l. take l n) (fromOn 1 (length n)) ∙ ap (each (λ l. take l n)) lengths
-  where
-    new : ℕ → Bool
-    new l = not (begins (take l n) m)
-
-    shared : ℕ
-    shared = sharedLength m n
-
+fresh-takes m n =
+    let new : ℕ → Bool = λ l. not (begins (take l n) m) in
+    let shared = sharedLength m n in
+    let few = shared-le-other m n in
     -- the lengths up to what is shared, and the longer ones
-    split : fromOn 1 (length n) ≡ fromOn 1 shared ++ fromOn (suc shared) (length n - shared)
-    split =
-        let e : length n ≡ shared + (length n - shared) = omega (arith, shared-le-other m n) in
-        let o : 1 + shared ≡ suc shared = omega arith in
-        ap (fromOn 1) e ∙ from-split 1 shared (length n - shared) ∙ ap (λ k. fromOn 1 shared ++ fromOn k (length n - shared)) o
-
-    old : (x : ℕ) → In x (fromOn 1 shared) → new x ≡ false
-    old x h = rw (shared-begins m n x (omega (arith, in-from 1 shared x h)))
-
-    longer : (x : ℕ) → In x (fromOn (suc shared) (length n - shared)) → new x ≡ true
-    longer x h =
-        let r = in-from (suc shared) (length n - shared) x h in
-        rw (past-shared m n x (omega arith) (omega (arith, shared-le-other m n)))
-
-    lengths : keep (λ l. not (begins (take l n) m)) (fromOn 1 (length n)) ≡ fromOn (suc (sharedLength m n)) (length n - sharedLength m n)
-    lengths =
-        rw (
-          split,
-          keep-append new (fromOn 1 shared) (fromOn (suc shared) (length n - shared)),
-          keep-none new (fromOn 1 shared) old,
-          keep-every new (fromOn (suc shared) (length n - shared)) longer,
-        )
+    let e : length n ≡ shared + (length n - shared) = omega arith in
+    let old = keep-none new (fromOn 1 shared) (λ x h. rw (shared-begins m n x (omega (arith, in-from 1 shared x h)))) in
+    let longer = keep-every new (fromOn (1 + shared) (length n - shared)) (λ x h.
+    let r = in-from (1 + shared) (length n - shared) x h in rw (past-shared m n x (omega arith) (omega arith))) in
+    keep-each (λ p. not (begins p m)) (λ l. take l n) (fromOn 1 (length n))
+    ∙ ap (λ k. each (λ l. take l n) (keep new (fromOn 1 k))) e
+    ∙ rw (from-split 1 shared (length n - shared), keep-append new (fromOn 1 shared) (fromOn (1 + shared) (length n - shared)), old, longer, one-add shared)
 
 in-beginnings : (n p : List ℕ) → In p (beginningsOf n) → (begins p n ≡ true) × (1 ≤ length p)
 in-beginnings n p h =
@@ -70,8 +53,6 @@ fresh-in m n p h k l = in-keep (λ p. not (begins p m)) (beginningsOf n) p (begi
 
 -- after no name every beginning is new
 pub fresh-all : (n : List ℕ) → beginningsOf n ≡ fresh [] n
-fresh-all n = sym (keep-every (λ p. not (begins p [])) (beginningsOf n) (λ x h. new x (in-beginnings n x h .1)))
-  where
-    new : (x : List ℕ) → 1 ≤ length x → not (begins x []) ≡ true
-    new [] l = absurd (omega arith)
-    new (a ∷ x) l = refl
+fresh-all n =
+    sym (keep-every (λ p. not (begins p [])) (beginningsOf n) (λ x h.
+    let some = in-beginnings n x h .1 in rw (refuted (begins x []) (λ b. omega (arith, begins-length x [] b)))))

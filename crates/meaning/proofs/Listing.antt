@@ -1,7 +1,7 @@
 -- The stands under a text, and stands listed by region, then by number: the stand order and a range are such lists.
 -- Assumes nothing.
 use mathlib.Core.Path.{_≡_, ap, _∙_}
-use mathlib.Core.Logic.{inl, inr}
+use mathlib.Core.Logic.{⊎-elim}
 use mathlib.Core.Bool.{Bool, true}
 use mathlib.Core.List.{List}
 use Prim.Native.Nat.{ℕ, _<_}
@@ -45,40 +45,30 @@ module _ (t : Table) (g : Grid) (l : LawfulTable t g) where
   listed : (s : List ℕ) (wanted : ℕ → Type 0) → Pairwise Less s → ((i : ℕ) → In i s → i < stands t)
       → ((i : ℕ) → wanted i → In i s) → ((i : ℕ) → In i s → wanted i) → ListedByRegion g t wanted (byRegion g t s)
   listed s wanted up small to from =
+      let turned : Pairwise (RegionFirst g t) (byRegion g t s) = parts-pairs (regionOfStand g t) s up 0 regions in
+      let apart : (x y : ℕ) → RegionFirst g t x y → x ≡ y → ⊥ = λ x y. ⊎-elim (λ h e. omega (arith, ap (regionOfStand g t) e)) (λ h e. omega arith) in
       record {
         every = λ i w. shuffle-in (shuffle-sym (by-region-shuffle t g l s small)) i (to i w);
         only = λ i h. from i (shuffle-in (by-region-shuffle t g l s small) i h);
         once = distinct-once (λ x. x) 0 (byRegion g t s) (pairs-weaken (RegionFirst g t) (λ x y. x ≡ y → ⊥) (byRegion g t s) (λ x y u v. apart x y) turned);
         inTurn = pairs-at (RegionFirst g t) 0 (byRegion g t s) turned;
       }
-    where
-      turned : Pairwise (RegionFirst g t) (byRegion g t s)
-      turned = parts-pairs (regionOfStand g t) s up 0 regions
-
-      apart : (x y : ℕ) → RegionFirst g t x y → x ≡ y → ⊥
-      apart x y (inl h) e = omega (arith, ap (regionOfStand g t) e)
-      apart x y (inr h) e = omega arith
 
   pub order-means : OrderMeans t g
   order-means =
+      let below : (i : ℕ) → In i (upTo (stands t)) → i < stands t = λ i h. omega (arith, in-from 0 (stands t) i h) in
       record {
         listed = listed (upTo (stands t)) (λ i. i < stands t) (less-from 0 (stands t)) below (λ i h. from-in 0 (stands t) i (omega arith) (omega arith)) below;
         whole = shuffle-length (by-region-shuffle t g l (upTo (stands t)) below) ∙ length-from 0 (stands t);
       }
-    where
-      below : (i : ℕ) → In i (upTo (stands t)) → i < stands t
-      below i h = omega (arith, in-from 0 (stands t) i h)
 
   pub range-means : (p : List ℕ) (r : Rect) → RangeMeans t g p r
   range-means p r =
+      let inside : ℕ → Bool = λ i. inRect r (placeOf t i) in
+      let from : (i : ℕ) → In i (keep inside (under t p)) → StandUnder t p i × (inRect r (placeOf t i) ≡ true) =
+      λ i h. let s = keep-in inside (under t p) i h in (stand-under t p i (s .0), s .1) in
       listed (keep inside (under t p)) (λ i. StandUnder t p i × (inRect r (placeOf t i) ≡ true)) (pairs-keep Less inside (under t p) (under-rises t p))
       (λ i h. from i h .0 .stand) (λ i w. in-keep inside (under t p) i (under-stand t p i (w .0)) (w .1)) from
-    where
-      inside : ℕ → Bool
-      inside i = inRect r (placeOf t i)
-
-      from : (i : ℕ) → In i (keep inside (under t p)) → StandUnder t p i × (inRect r (placeOf t i) ≡ true)
-      from i h = let s = keep-in inside (under t p) i h in (stand-under t p i (s .0), s .1)
 
 -- ---- the stands of one region under a text
 

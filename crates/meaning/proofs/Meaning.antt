@@ -1,17 +1,16 @@
 -- The theorem that the definitions of the rules mean what their words say; the statements are in specs/Meaning.
 -- Assumes nothing.
 use mathlib.Core.Path.{_≡_, ap}
-use mathlib.Core.Logic.{_⊎_, inl, inr, ⊎-elim}
-use mathlib.Core.Bool.{true}
+use mathlib.Core.Logic.{inl, inr, ⊎-elim}
 use mathlib.Core.List.{List, []}
 use Prim.Native.Nat.{ℕ, _-_, _<_}
 use native.Mathlib.Omega.{arith}
 use lib.ListN.{length}
-use Rattle.base.specs.Lists.{begins, In}
+use Rattle.base.specs.Lists.{In}
 use Rattle.base.proofs.Members.{getD-in}
 use Rattle.base.proofs.Begins.{take-begins}
 use Rattle.rules.specs.declared.Grid.{Grid}
-use Rattle.rules.specs.Tables.{Table, stands, nameOf, Ordered, tableRefusal}
+use Rattle.rules.specs.Tables.{Table, Ordered, tableRefusal}
 use Rattle.rules.specs.Indexes.{beginnings, nodeCount, butLast}
 use Rattle.rules.specs.Sessions.{nodeOr0}
 use Rattle.rules.proofs.Lawful.{lawful}
@@ -61,11 +60,7 @@ module _ (t : Table) (p : List ℕ) where
   found h = let s = number-in p (beginnings t) h in rw (node-in t p h) s
 
   none : 0 < length p → ((i : ℕ) → StandUnder t p i → ⊥) → In p (beginnings t) → ⊥
-  none some lack h = step (beginnings-from t p h)
-    where
-      step : (p ≡ []) ⊎ ((i : ℕ) × (i < stands t) × (begins p (nameOf t i) ≡ true)) → ⊥
-      step (inl e) = omega (arith, ap length e)
-      step (inr (i, u, v)) = lack i (record { stand = u; named = v })
+  none some lack h = ⊎-elim (λ e. omega (arith, ap length e)) (λ s. lack (s .0) (record { stand = s .1; named = s .2 })) (beginnings-from t p h)
 
   pub node-means : NodeMeans t p
   node-means = record { found = λ i u. found (beginnings-of t i p (u .stand) (u .named)); missing = λ some lack. node-out t p (none some lack) }

@@ -1,10 +1,11 @@
 -- The stands of one region under a text are a run of the stand order, and a range is gathered region by region.
 -- Assumes nothing.
 use mathlib.Core.Path.{_≡_, refl, sym, ap, _∙_, subst}
-use mathlib.Core.Logic.{_⊎_, inl, inr}
+use mathlib.Core.Logic.{inl, ⊎-elim}
 use mathlib.Core.Bool.{Bool, true}
 use mathlib.Core.List.{List, _∷_, _++_, append-assoc}
 use Prim.Native.Nat.{ℕ, suc, _+_, _-_, _≤_, _<_}
+use native.Mathlib.Nat.{zero-add}
 use native.Mathlib.Omega.{arith}
 use lib.Dec.{eqb}
 use lib.ListN.{length, take, drop}
@@ -37,20 +38,12 @@ module _ (ρ : ℕ → ℕ) (n m : ℕ) where
     after : List ℕ
     after = part ρ r (fromOn (f + c) (n - (f + c))) ++ eachList (λ r. part ρ r (upTo n)) (fromOn (suc r) (m - suc r))
 
-    thirds : upTo n ≡ upTo f ++ (fromOn f c ++ fromOn (f + c) (n - (f + c)))
-    thirds =
-        let e : n ≡ f + (c + (n - (f + c))) = omega arith in
-        let z : 0 + f ≡ f = omega arith in
-        ap upTo e
-        ∙ from-split 0 f (c + (n - (f + c)))
-        ∙ ap (λ (k : ℕ). upTo f ++ fromOn k (c + (n - (f + c)))) z
-        ∙ ap (λ (l : List ℕ). upTo f ++ l) (from-split f c (n - (f + c)))
-
     part-thirds : part ρ r (upTo n) ≡ part ρ r (upTo f) ++ (part ρ r (fromOn f c) ++ part ρ r (fromOn (f + c) (n - (f + c))))
     part-thirds =
-        ap (part ρ r) thirds
-        ∙ keep-append (λ i. eqb (ρ i) r) (upTo f) (fromOn f c ++ fromOn (f + c) (n - (f + c)))
-        ∙ ap (λ (l : List ℕ). part ρ r (upTo f) ++ l) (keep-append (λ i. eqb (ρ i) r) (fromOn f c) (fromOn (f + c) (n - (f + c))))
+        let rest = n - (f + c) in
+        let e : n ≡ f + (c + rest) = omega arith in
+        ap (λ k. part ρ r (upTo k)) e
+        ∙ rw (from-split 0 f (c + rest), zero-add f, from-split f c rest, keep-append (λ i. eqb (ρ i) r) (upTo f), keep-append (λ i. eqb (ρ i) r) (fromOn f c))
 
     split : ordered ≡ before ++ (part ρ r (fromOn f c) ++ after)
     unfolding before after
@@ -63,14 +56,14 @@ module _ (ρ : ℕ → ℕ) (n m : ℕ) where
     -- none of region r from f on stands before
     none-before : (x : ℕ) → eqb (ρ x) r ≡ true → f ≤ x → In x before → ⊥
     unfolding before
-    none-before x q h k = step (in-either x (eachList (λ r. part ρ r (upTo n)) (upTo r)) (part ρ r (upTo f)) k)
-      where
-        step : In x (eachList (λ r. part ρ r (upTo n)) (upTo r)) ⊎ In x (part ρ r (upTo f)) → ⊥
-        step (inl u) =
-            let w = in-eachList (λ r. part ρ r (upTo n)) (upTo r) x u in
-            let v = keep-in (λ i. eqb (ρ i) (w .0)) (upTo n) x (w .2) in
-            omega (arith, in-from 0 r (w .0) (w .1), eqb-true (ρ x) (w .0) (v .1), eqb-true (ρ x) r q)
-        step (inr u) = omega (arith, in-from 0 f x (keep-in (λ i. eqb (ρ i) r) (upTo f) x u .0))
+    none-before x q h k =
+        ⊎-elim
+        (λ u.
+        let w = in-eachList (λ r. part ρ r (upTo n)) (upTo r) x u in
+        let v = keep-in (λ i. eqb (ρ i) (w .0)) (upTo n) x (w .2) in
+        omega (arith, in-from 0 r (w .0) (w .1), eqb-true (ρ x) (w .0) (v .1), eqb-true (ρ x) r q))
+        (λ u. omega (arith, in-from 0 f x (keep-in (λ i. eqb (ρ i) r) (upTo f) x u .0)))
+        (in-either x (eachList (λ r. part ρ r (upTo n)) (upTo r)) (part ρ r (upTo f)) k)
 
     -- so they are a run of the order that starts where the first of them stands
     pub region-place : (x : ℕ) (s : List ℕ) → part ρ r (fromOn f c) ≡ x ∷ s → positionIn x ordered ≡ length before
@@ -81,10 +74,10 @@ module _ (ρ : ℕ → ℕ) (n m : ℕ) where
 
     region-slice : (x : ℕ) (s : List ℕ) → part ρ r (fromOn f c) ≡ x ∷ s → take (length (part ρ r (fromOn f c))) (drop (positionIn x ordered) ordered) ≡ part ρ r (fromOn f c)
     region-slice x s e =
-        ap (λ (k : ℕ). take (length (part ρ r (fromOn f c))) (drop k ordered)) (region-place x s e)
-        ∙ ap (λ (l : List ℕ). take (length (part ρ r (fromOn f c))) (drop (length before) l)) split
-        ∙ ap (take (length (part ρ r (fromOn f c)))) (drop-append-seam before (part ρ r (fromOn f c) ++ after))
-        ∙ take-append-seam (part ρ r (fromOn f c)) after
+        let here = part ρ r (fromOn f c) in
+        ap (λ (k : ℕ). take (length here) (drop k ordered)) (region-place x s e)
+        ∙ ap (λ (l : List ℕ). take (length here) (drop (length before) l)) split
+        ∙ rw (drop-append-seam before (here ++ after), take-append-seam here after)
 
 -- ---- at a table
 
@@ -93,37 +86,22 @@ module _ (t : Table) (g : Grid) (o : Ordered t) (p : List ℕ) where
   pub entry-slice : (r : ℕ) → r < regions → occupied t g p r ≡ true
       → take (entryOf t g p r .past - entryOf t g p r .first) (drop (entryOf t g p r .first) (orderWords t g)) ≡ keep (inRegion g t r) (under t p)
   entry-slice r h q =
-      ap (λ (n : ℕ). take n (drop at order)) size
-      ∙ subst (λ (l : List ℕ). take (length l) (drop at order) ≡ l) (sym run)
-      (region-slice (regionOfStand g t) (stands t) regions (firstOf (under t p)) (length (under t p)) r (under-fits t o p) h (firstOf here) (drop 1 here) (sym run ∙ parts))
-    where
-      order : List ℕ
-      order = orderWords t g
-
-      here : List ℕ
-      here = keep (inRegion g t r) (under t p)
-
-      at : ℕ
-      at = positionIn (firstOf here) order
-
-      size : at + length here - at ≡ length here
-      size = omega arith
-
-      parts : here ≡ firstOf here ∷ drop 1 here
-      parts = first-rest here (not-true (isEmpty here) q) .0
-
-      run : here ≡ keep (inRegion g t r) (fromOn (firstOf (under t p)) (length (under t p)))
-      run = ap (keep (inRegion g t r)) (under-run t o p)
+      let here = keep (inRegion g t r) (under t p) in
+      let at = positionIn (firstOf here) (orderWords t g) in
+      let size : at + length here - at ≡ length here = omega arith in
+      let run : here ≡ keep (inRegion g t r) (fromOn (firstOf (under t p)) (length (under t p))) = ap (keep (inRegion g t r)) (under-run t o p) in
+      let parts = sym run ∙ first-rest here (not-true (isEmpty here) q) .0 in
+      ap (λ (n : ℕ). take n (drop at (orderWords t g))) size
+      ∙ subst (λ (l : List ℕ). take (length l) (drop at (orderWords t g)) ≡ l) (sym run)
+      (region-slice (regionOfStand g t) (stands t) regions (firstOf (under t p)) (length (under t p)) r (under-fits t o p) h (firstOf here) (drop 1 here) parts)
 
   pub range-regions : (b : Rect) → rangeList t g p b ≡ eachList (λ r. keep (λ i. inRect b (placeOf t i)) (keep (inRegion g t r) (under t p))) (regionsUnder t g p)
   range-regions b =
+      let inside : ℕ → Bool = λ i. inRect b (placeOf t i) in
       eachList-same (λ r. keep (inRegion g t r) (keep inside (under t p))) (λ r. keep inside (keep (inRegion g t r) (under t p))) (upTo regions)
       (λ r h. keep-comm (inRegion g t r) inside (under t p))
       ∙ eachList-keep (λ r. keep inside (keep (inRegion g t r) (under t p))) (occupied t g p) (upTo regions)
       (λ r q. ap (keep inside) (empty-of (keep (inRegion g t r) (under t p)) q))
-    where
-      inside : ℕ → Bool
-      inside i = inRect b (placeOf t i)
 
 -- ---- at a lawful table, whose stands are all in one of the regions
 

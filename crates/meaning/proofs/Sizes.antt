@@ -2,16 +2,16 @@
 -- so at most 24 nodes and 25 entries for each stand. Entries are counted against the pairs of a node and a stand under it, and those by
 -- stands. Assumes nothing.
 use mathlib.Core.Path.{_≡_, sym, ap, _∙_}
-use mathlib.Core.Logic.{⊎-elim}
 use mathlib.Core.Bool.{true, false}
-use mathlib.Core.List.{List, [], _∷_}
+use mathlib.Core.List.{List, []}
 use Prim.Native.Nat.{ℕ, zero, suc, _+_, _-_, _*_, _≤_, _<_}
 use native.Mathlib.Omega.{arith}
+use native.Mathlib.Nat.{lt-of-not-le}
 use native.Mathlib.Numerals.{add-one}
 use lib.ListN.{length, drop, length-drop}
 use lib.Seq.{length-take-le}
-use Rattle.base.specs.Lists.{upTo, keep, each, total, begins, In, Pairwise}
-use Rattle.base.proofs.Tests.{never, le-or-lt}
+use Rattle.base.specs.Lists.{upTo, keep, each, total, begins, In}
+use Rattle.base.proofs.Tests.{never}
 use Rattle.base.proofs.Members.{keep-in, length-each, in-each, each-append, some-length}
 use Rattle.base.proofs.Runs.{in-from, length-from, upTo-suc}
 use Rattle.base.proofs.Begins.{begins-length, begins-both}
@@ -37,27 +37,17 @@ use Rattle.meaning.proofs.Regions.{by-region-shuffle}
 
 -- texts strictly in order that begin one name: each is longer than those before, so they are at most one for each length
 beginnings-few : (n : List ℕ) (B : List (List ℕ)) → Sorted B → length (keep (λ p. begins p n) B) ≤ suc (length n)
-beginnings-few n B s = rw (sym (length-each length chosen)) (less-few (each length chosen) 0 (suc (length n)) longer bounded)
-  where
-    chosen : List (List ℕ)
-    chosen = keep (λ p. begins p n) B
-
-    begun : (p : List ℕ) → In p chosen → begins p n ≡ true
-    begun p h = keep-in (λ p. begins p n) B p h .1
-
-    less : (p q : List ℕ) → In p chosen → In q chosen → inOrder q p ≡ false → length p < length q
-    less p q u v h = ⊎-elim (λ k. never _ (begins-order q p (begins-both q p n (begun q v) (begun p u) k)) h) (λ k. k) (le-or-lt (length q) (length p))
-
-    longer : Pairwise Less (each length chosen)
-    longer =
-        pairs-each Less length chosen
-        (pairs-weaken (λ p q. inOrder q p ≡ false) (λ p q. length p < length q) chosen less (pairs-keep (λ p q. inOrder q p ≡ false) (λ p. begins p n) B s))
-
-    bounded : (x : ℕ) → In x (each length chosen) → (0 ≤ x) × (x < 0 + suc (length n))
-    bounded x h =
-        let r = in-each length chosen x h in
-        let b = begins-length (r .0) n (begun (r .0) (r .1)) in
-        (omega arith, omega (arith, r .2))
+beginnings-few n B s =
+    let chosen = keep (λ p. begins p n) B in
+    let begun : (p : List ℕ) → In p chosen → begins p n ≡ true = λ p h. keep-in (λ p. begins p n) B p h .1 in
+    let less : (p q : List ℕ) → In p chosen → In q chosen → inOrder q p ≡ false → length p < length q = λ p q u v h.
+    lt-of-not-le (λ k. never _ (begins-order q p (begins-both q p n (begun q v) (begun p u) k)) h) in
+    let strict = pairs-keep (λ p q. inOrder q p ≡ false) (λ p. begins p n) B s in
+    rw (sym (length-each length chosen))
+    (less-few (each length chosen) 0 (suc (length n)) (pairs-each Less length chosen (pairs-weaken _ (λ p q. length p < length q) chosen less strict)) (λ x h.
+    let r = in-each length chosen x h in
+    let b = begins-length (r .0) n (begun (r .0) (r .1)) in
+    (omega arith, omega (arith, r .2))))
 
 module _ (t : Table) (g : Grid) (l : LawfulTable t g) where
   -- a name has the bytes from its start to the next one's
@@ -81,46 +71,28 @@ module _ (t : Table) (g : Grid) (l : LawfulTable t g) where
   begun-all : (i : ℕ) → i ≤ stands t → total (each begun (upTo i)) ≡ startOf t i + i
   begun-all zero h = omega (arith, l .shaped .first)
   begun-all (suc i) h =
-      omega (
-        arith,
-        ap (λ (s : List ℕ). total (each begun s)) (upTo-suc i) ∙ ap total (each-append begun (upTo i) (i ∷ [])) ∙ total-append (each begun (upTo i)) (begun i ∷ []),
-        begun-all i (omega arith),
-        start-next i (omega arith),
-      )
+      let more = simp (each-append, total-append) at (ap (λ (s : List ℕ). total (each begun s)) (upTo-suc i)) in
+      omega (arith, begun-all i (omega arith), start-next i (omega arith))
 
   names-short : length (t .text) ≤ 24 * stands t
   names-short =
-      omega (
-        arith,
-        total-most begun 25 (upTo (stands t)) (λ i h. omega (arith, l .short i (omega (arith, in-from 0 (stands t) i h)))),
-        begun-all (stands t) (omega arith),
-        l .shaped .last,
-        length-from 0 (stands t),
-      )
+      let most = total-most begun 25 (upTo (stands t)) (λ i h. omega (arith, l .short i (omega (arith, in-from 0 (stands t) i h)))) in
+      omega (arith, begun-all (stands t) (omega arith), l .shaped .last, length-from 0 (stands t))
 
   -- no more regions than stands
   regions-few : (p : List ℕ) → length (regionsUnder t g p) ≤ length (under t p)
   regions-few p =
       let of : ℕ → List ℕ = λ r. keep (inRegion g t r) (under t p) in
-      omega (
-        arith,
-        count-less (occupied t g p) (λ r. length (of r)) (upTo regions) (λ r q. some-length (of r) q),
-        length-parts of (upTo regions),
-        shuffle-length (by-region-shuffle t g l (under t p) (λ i h. in-under t p i h .0)),
-      )
+      let all = shuffle-length (by-region-shuffle t g l (under t p) (λ i h. in-under t p i h .0)) in
+      omega (arith, count-less (occupied t g p) (λ r. length (of r)) (upTo regions) (λ r q. some-length (of r) q), length-parts of (upTo regions))
 
   -- the pairs of a node and a stand under it
   pairs-few : total (each (λ p. length (under t p)) (beginnings t)) ≤ length (t .text) + stands t
   unfolding under
   pairs-few =
-      omega (
-        arith,
-        count-both (λ p i. begins p (nameOf t i)) (beginnings t) (upTo (stands t)),
-        total-less (λ i. length (keep (λ p. begins p (nameOf t i)) (beginnings t))) begun (upTo (stands t))
-            (λ i h. beginnings-few (nameOf t i) (beginnings t) (beginnings-tree t (l .ordered) .sorted)),
-        begun-all (stands t) (omega arith),
-        l .shaped .last,
-      )
+      let B = beginnings t in
+      let few = total-less (λ i. length (keep (λ p. begins p (nameOf t i)) B)) begun (upTo (stands t)) (λ i h. beginnings-few (nameOf t i) B (beginnings-tree t (l .ordered) .sorted)) in
+      omega (arith, count-both (λ p i. begins p (nameOf t i)) B (upTo (stands t)), begun-all (stands t) (omega arith), l .shaped .last)
 
   pub sizes-by-text : SizesByText t g
   sizes-by-text =

@@ -16,7 +16,8 @@ use Rattle.rules.specs.Tables.{Table, stands, nameOf, Ordered}
 use Rattle.rules.specs.Questions.{under}
 use Rattle.rules.specs.Indexes.{newAt, beginnings, nodeCount, pastOf}
 use Rattle.rules.proofs.Orders.{rising}
-use Rattle.meaning.specs.Trees.{Tree, textOf, namesOf, trieFrom, trieOf, Chain}
+use Rattle.meaning.specs.Trees.{Tree, textOf, namesOf, fresh, trieFrom, trieOf, Chain}
+use Rattle.meaning.specs.Adding.{nameBefore}
 use Rattle.meaning.proofs.Blocks.{block-run, block-in, block-out}
 use Rattle.meaning.proofs.Fresh.{fresh-all}
 use Rattle.meaning.proofs.Tree.{Beginning, tree-member, tree-every, tree-of}
@@ -24,31 +25,25 @@ use Rattle.meaning.proofs.Tree.{Beginning, tree-member, tree-every, tre
 module _ (t : Table) where
   -- ---- its beginnings
 
-  new-from : (a n : ℕ) → eachList (newAt t) (fromOn (suc a) n) ≡ trieFrom (nameOf t a) (each (nameOf t) (fromOn (suc a) n))
+  pub new-fresh : (i : ℕ) → newAt t i ≡ fresh (nameBefore t i) (nameOf t i)
+  new-fresh zero = fresh-all (nameOf t 0)
+  new-fresh (suc i) = refl
+
+  new-from : (a n : ℕ) → eachList (newAt t) (fromOn a n) ≡ trieFrom (nameBefore t a) (each (nameOf t) (fromOn a n))
   new-from a zero = refl
-  new-from a (suc n) = ap (λ (l : List (List ℕ)). newAt t (suc a) ++ l) (new-from (suc a) n)
+  new-from a (suc n) = ap₂ (λ (u v : List (List ℕ)). u ++ v) (new-fresh a) (new-from (suc a) n)
 
   beginnings-trie : beginnings t ≡ trieOf (namesOf t)
   unfolding beginnings
-  beginnings-trie = ap (λ (l : List (List ℕ)). [] ∷ l) (go (stands t))
-    where
-      go : (n : ℕ) → eachList (newAt t) (fromOn 0 n) ≡ trieFrom [] (each (nameOf t) (fromOn 0 n))
-      go zero = refl
-      go (suc n) = ap₂ (λ (u v : List (List ℕ)). u ++ v) (fresh-all (nameOf t 0)) (new-from 0 n)
+  beginnings-trie = ap (λ (l : List (List ℕ)). [] ∷ l) (new-from 0 (stands t))
 
-  chain-from : (o : Ordered t) (a n : ℕ) → a + n < stands t → Chain (nameOf t a) (each (nameOf t) (fromOn (suc a) n))
-  chain-from o a zero h = tt
-  chain-from o a (suc n) h = (rw add-one at (o a (omega arith)), chain-from o (suc a) n (omega arith))
-
-  names-chain : Ordered t → Chain [] (namesOf t)
-  names-chain o = go (stands t) (omega arith)
-    where
-      go : (n : ℕ) → n ≤ stands t → Chain [] (each (nameOf t) (fromOn 0 n))
-      go zero h = tt
-      go (suc n) h = (refl, chain-from o 0 n (omega arith))
+  names-chain : (o : Ordered t) (a n : ℕ) → a + n ≤ stands t → Chain (nameBefore t a) (each (nameOf t) (fromOn a n))
+  names-chain o a zero h = tt
+  names-chain o zero (suc n) h = (refl, names-chain o 1 n (omega arith))
+  names-chain o (suc a) (suc n) h = (rw add-one at (o a (omega arith)), names-chain o (suc (suc a)) n (omega arith))
 
   pub beginnings-tree : Ordered t → Tree (beginnings t)
-  beginnings-tree o = rw beginnings-trie (tree-of (namesOf t) (names-chain o))
+  beginnings-tree o = rw beginnings-trie (tree-of (namesOf t) (names-chain o 0 (stands t) (omega arith)))
 
   -- a beginning of a stand's name is there
   pub beginnings-of : (i : ℕ) (p : List ℕ) → i < stands t → begins p (nameOf t i) ≡ true → In p (beginnings t)
@@ -109,12 +104,12 @@ module _ (t : Table) where
 
     -- the run ends within the table, also where it is empty
     pub under-fits : firstOf (under t p) + length (under t p) ≤ stands t
-    under-fits = step (le-or-lt (length (under t p)) 0)
+    under-fits =
+        ⊎-elim
+        (none (under t p))
+        (λ (h : 0 < length (under t p)). omega (arith, under-only (firstOf (under t p) + length (under t p) - 1) (omega arith) (omega arith) .0))
+        (le-or-lt (length (under t p)) 0)
       where
         none : (l : List ℕ) → length l ≤ 0 → firstOf l + length l ≤ stands t
         none [] h = omega arith
         none (x ∷ l) h = absurd (omega arith)
-
-        step : (length (under t p) ≤ 0) ⊎ (0 < length (under t p)) → firstOf (under t p) + length (under t p) ≤ stands t
-        step (inl h) = none (under t p) h
-        step (inr h) = omega (arith, under-only (firstOf (under t p) + length (under t p) - 1) (omega arith) (omega arith) .0)

@@ -8,8 +8,9 @@ use Prim.Native.Nat.{ℕ, zero, suc, _+_, _≤_, _<_}
 use native.Mathlib.Omega.{arith}
 use lib.ListN.{length, take, getD, length-take}
 use lib.Seq.{take-take}
+use borrow.Table.Steps.{cases}
 use Rattle.base.specs.Lists.{fromOn, each, begins, sameList, In}
-use Rattle.base.proofs.Tests.{which, never}
+use Rattle.base.proofs.Tests.{never}
 use Rattle.base.proofs.Members.{in-left, in-right, in-either, getD-in, in-each}
 use Rattle.base.proofs.Runs.{in-from}
 use Rattle.base.proofs.Begins.{begins-trans, take-begins, same-true, same-refl}
@@ -37,14 +38,14 @@ sorted-once B s =
 
 sorted-takes : (n : List ℕ) (a k : ℕ) → a + k ≤ suc (length n) → Sorted (each (λ l. take l n) (fromOn a k))
 sorted-takes n a zero h = tt
-sorted-takes n a (suc k) h = (first, sorted-takes n (suc a) k (omega arith))
-  where
-    first : (y : List ℕ) → In y (each (λ l. take l n) (fromOn (suc a) k)) → inOrder y (take a n) ≡ false
-    first y u =
-        let t = in-each (λ l. take l n) (fromOn (suc a) k) y u in
-        let r = in-from (suc a) k (t .0) (t .1) in
-        let b : begins (take a n) (take (t .0) n) ≡ true = rw (take-take a (t .0) n (omega arith)) at (take-begins a (take (t .0) n)) in
-        rw (t .2) (begins-strict (take a n) (take (t .0) n) b (simp length-take (omega arith)))
+sorted-takes n a (suc k) h = (
+  (λ y u.
+      let t = in-each (λ l. take l n) (fromOn (suc a) k) y u in
+      let r = in-from (suc a) k (t .0) (t .1) in
+      let b : begins (take a n) (take (t .0) n) ≡ true = rw (take-take a (t .0) n (omega arith)) at (take-begins a (take (t .0) n)) in
+      rw (t .2) (begins-strict (take a n) (take (t .0) n) b (simp length-take (omega arith)))),
+  sorted-takes n (suc a) k (omega arith),
+)
 
 sorted-fresh : (m n : List ℕ) → Sorted (fresh m n)
 sorted-fresh m n = pairs-keep Before (λ p. not (begins p m)) (beginningsOf n) (sorted-takes n 1 (length n) (omega arith))
@@ -80,19 +81,11 @@ trie-member m (n ∷ ns) p h =
 -- a beginning of one of the names begins m or is a member
 trie-every : (m : List ℕ) (ns : List (List ℕ)) (n p : List ℕ) → In n ns → begins p n ≡ true → 1 ≤ length p → (begins p m ≡ true) ⊎ In p (trieFrom m ns)
 trie-every m [] n p h b l = absurd h
-trie-every m (x ∷ ns) n p h b l = first (λ k. trie-every x ns n p k b l) h
-  where
-    new : begins p x ≡ true → (begins p m ≡ true) ⊎ (begins p m ≡ false) → (begins p m ≡ true) ⊎ In p (trieFrom m (x ∷ ns))
-    new k (inl u) = inl u
-    new k (inr u) = inr (in-left p (fresh m x) (trieFrom x ns) (fresh-in m x p k u l))
-
-    late : (begins p x ≡ true) ⊎ In p (trieFrom x ns) → (begins p m ≡ true) ⊎ In p (trieFrom m (x ∷ ns))
-    late (inl u) = new u (which (begins p m))
-    late (inr u) = inr (in-right p (fresh m x) (trieFrom x ns) u)
-
-    first : (In n ns → (begins p x ≡ true) ⊎ In p (trieFrom x ns)) → In n (x ∷ ns) → (begins p m ≡ true) ⊎ In p (trieFrom m (x ∷ ns))
-    first below (inl e) = new (rw e at b) (which (begins p m))
-    first below (inr k) = late (below k)
+trie-every m (x ∷ ns) n p h b l =
+    cases (begins p m) inl (λ u.
+    let new : begins p x ≡ true → In p (trieFrom m (x ∷ ns)) = λ k. in-left p (fresh m x) (trieFrom x ns) (fresh-in m x p k u l) in
+    let late : In n ns → In p (trieFrom m (x ∷ ns)) = λ k. ⊎-elim new (in-right p (fresh m x) (trieFrom x ns)) (trie-every x ns n p k b l) in
+    inr (⊎-elim (λ e. new (rw e at b)) late h))
 
 -- ---- the whole, with the empty beginning
 
@@ -120,21 +113,17 @@ module _ (ns : List (List ℕ)) where
 
 pub number-in : (p : List ℕ) (B : List (List ℕ)) → In p B → (numberIn p B < length B) × (getD B (numberIn p B) [] ≡ p)
 number-in p [] h = absurd h
-number-in p (x ∷ B) h = first (number-in p B) h (which (sameList p x))
-  where
-    first : (In p B → (numberIn p B < length B) × (getD B (numberIn p B) [] ≡ p)) → In p (x ∷ B) → (sameList p x ≡ true) ⊎ (sameList p x ≡ false)
-        → (numberIn p (x ∷ B) < length (x ∷ B)) × (getD (x ∷ B) (numberIn p (x ∷ B)) [] ≡ p)
-    first below k (inl q) = rw q (omega arith, sym (same-true p x q))
-    first below (inl e) (inr q) = never _ (same-refl x) (rw e at q)
-    first below (inr k) (inr q) = let t = below k in rw q (omega arith, t .1)
+number-in p (x ∷ B) h =
+    cases (sameList p x)
+    (λ q. rw q (omega arith, sym (same-true p x q)))
+    (λ q. ⊎-elim (λ e. never _ (same-refl x) (rw e at q)) (λ k. let t = number-in p B k in rw q (omega arith, t .1)) h)
 
 pub number-out : (p : List ℕ) (B : List (List ℕ)) → (In p B → ⊥) → numberIn p B ≡ length B
 number-out p [] h = refl
 number-out p (x ∷ B) h =
-    ⊎-elim
-    (λ (q : sameList p x ≡ true). absurd (h (inl (same-true p x q))))
-    (λ (q : sameList p x ≡ false). rw (q, number-out p B (λ k. h (inr k))))
-    (which (sameList p x))
+    cases (sameList p x)
+    (λ q. absurd (h (inl (same-true p x q))))
+    (λ q. rw (q, number-out p B (λ k. h (inr k))))
 
 pub number-at : (B : List (List ℕ)) → Sorted B → (j : ℕ) → j < length B → numberIn (getD B j []) B ≡ j
 number-at B s j h = let t = number-in (getD B j []) B (getD-in [] B j h) in sorted-once B s (numberIn (getD B j []) B) j (t .0) h (t .1)

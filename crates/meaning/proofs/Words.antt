@@ -50,13 +50,9 @@ module _ (t : Table) (g : Grid) where
   -- a node's entries end within the entry words
   pub entries-fit : (j : ℕ) → j < nodeCount t → getD (nodeRow t g j) 7 0 + length (entriesOf t g (getD (beginnings t) j [])) ≤ entryCount t g
   entries-fit j h =
-      omega (
-        arith,
-        entries-length (getD (beginnings t) j []),
-        entries-counted (beginnings t),
-        total-suc (λ q. length (regionsUnder t g q)) [] (beginnings t) j h,
-        total-take (λ q. length (regionsUnder t g q)) (beginnings t) (suc j),
-      )
+      let f : List ℕ → ℕ = λ q. length (regionsUnder t g q) in
+      let B = beginnings t in
+      omega (arith, entries-length (getD B j []), entries-counted B, total-suc f [] B j h, total-take f B (suc j))
 
   -- the words of node j's e-th entry stand at (its row's last word + e) * 4
   pub entry-word : (d : Entry) (j e k : ℕ) → j < nodeCount t → e < length (regionsUnder t g (getD (beginnings t) j [])) → k < 4

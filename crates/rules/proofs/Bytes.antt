@@ -1,16 +1,15 @@
 -- The byte rule, range by range; names whose length is allowed, and typed texts that are not refused.
 -- Assumes nothing.
 use mathlib.Core.Path.{_≡_}
-use mathlib.Core.Logic.{_⊎_, inl, inr}
-use mathlib.Core.Bool.{true, false, and-true}
+use mathlib.Core.Bool.{true, false, not, and-true}
 use mathlib.Core.List.{List}
 use Prim.Native.Nat.{ℕ, _≤_, _<_}
 use native.Mathlib.Omega.{arith}
 use lib.Dec.{ltb}
 use lib.ListN.{length}
-use borrow.Author.Tests.{ltb-false, le-ltb, lt-leb, le-leb, ne-eqb}
+use borrow.Author.Tests.{not-false, ltb-false, le-ltb, lt-leb, le-leb, ne-eqb}
 use Rattle.base.specs.Lists.{all, every}
-use Rattle.base.proofs.Tests.{which}
+use Rattle.base.proofs.Tests.{missed}
 use Rattle.rules.specs.Names.{allowed, nameAllowed, textRefusal}
 
 pub name-bytes : (n : List ℕ) → 1 ≤ length n → length n ≤ 24 → nameAllowed n ≡ all allowed n
@@ -21,12 +20,10 @@ name-bytes n h k = rw (le-leb _ _ h, le-leb _ _ k) (and-true (all allowed n))
 module _ (p : List ℕ) where
   pub text-parts : textRefusal p ≡ 0 → (length p ≤ 24) × (all allowed p ≡ true)
   unfolding textRefusal
-  text-parts e = step (which (ltb 24 (length p))) (which (all allowed p))
-    where
-      step : (ltb 24 (length p) ≡ true) ⊎ (ltb 24 (length p) ≡ false) → (all allowed p ≡ true) ⊎ (all allowed p ≡ false) → (length p ≤ 24) × (all allowed p ≡ true)
-      step (inl h) k = let z : _≡_ {A = ℕ} 9 0 = rw h at e in absurd (omega arith)
-      step (inr h) (inl k) = (ltb-false 24 (length p) h, k)
-      step (inr h) (inr k) = let z : _≡_ {A = ℕ} 8 0 = rw (h, k) at e in absurd (omega arith)
+  text-parts e =
+      let a = missed (ltb 24 (length p)) (λ z. omega arith) e in
+      let b = missed (not (all allowed p)) (λ z. omega arith) (a .1) in
+      (ltb-false _ _ (a .0), not-false _ (b .0))
 
   pub text-taken : length p ≤ 24 → all allowed p ≡ true → textRefusal p ≡ 0
   unfolding textRefusal

@@ -1,16 +1,16 @@
 -- What a table and a grid have that no refusal meets, part by part, and each refusal by the first test that fails; what a lawful set has.
 -- Assumes nothing.
 use Prim.Native.Nat.{ℕ, zero, suc, _+_, _-_, _≤_, _<_}
-use mathlib.Core.Path.{_≡_, refl, sym, ap, _∙_}
-use mathlib.Core.Bool.{Bool, true, false, cond, not, and-false}
+use mathlib.Core.Path.{_≡_, sym, ap, _∙_}
+use mathlib.Core.Bool.{true, false, not, and-false}
 use mathlib.Core.List.{List}
 use native.Mathlib.Omega.{arith}
-use lib.Dec.{leb, lit<}
+use lib.Dec.{leb}
 use lib.IntN.{ℤ}
 use lib.ListN.{length, getD, take, drop}
-use borrow.Author.Tests.{leb-true, eqb-true, lt-ltb, lt-leb, le-leb, eq-eqb}
+use borrow.Author.Tests.{not-false, leb-true, eqb-true, lt-ltb, lt-leb, le-leb, eq-eqb}
 use Rattle.base.specs.Lists.{begins}
-use Rattle.base.proofs.Tests.{and-left, and-right, every-at, every-of}
+use Rattle.base.proofs.Tests.{missed, and-left, and-right, every-at, every-of}
 use Rattle.base.proofs.Scans.{all-at, all-of}
 use Rattle.rules.specs.declared.Grid.{Grid}
 use Rattle.rules.specs.declared.Verdict.{Verdict}
@@ -27,11 +27,6 @@ module _ (text starts : List ℕ) (i : ℕ) where
   pub by-starts : i + 1 < length starts → getD starts i 0 ≤ getD starts (i + 1) 0 → getD starts (i + 1) 0 ≤ length text → spanned text starts i ≡ true
   unfolding spanned
   by-starts h f o = every-of _ (lt-ltb _ _ h, (le-leb _ _ f, (le-leb _ _ o, tt)))
-
--- a refusal that is not given: its test is passed, and the next one decides
-unrefused : (lawful : Bool) (number rest : ℕ) → 0 < number → cond (not lawful) number rest ≡ 0 → (lawful ≡ true) × (rest ≡ 0)
-unrefused true number rest h e = (refl, e)
-unrefused false number rest h e = absurd (omega arith)
 
 -- one stand's place and score
 module _ (east north : List ℤ) (score : List ℕ) (g : Grid) (i : ℕ) where
@@ -104,12 +99,12 @@ module _ (t : Table) (g : Grid) where
   pub passed : tableRefusal t g ≡ 0 → Passed t g
   unfolding tableRefusal
   passed e =
-      let a = unrefused (shapeLawful t) 1 _ (lit< tt) e in
-      let b = unrefused (gridLawful g) 2 _ (lit< tt) (a .1) in
-      let c = unrefused (namesAllowed (t .text) (t .starts) (stands t)) 3 _ (lit< tt) (b .1) in
-      let d = unrefused (namesInOrder (t .text) (t .starts) (stands t)) 4 _ (lit< tt) (c .1) in
-      let f = unrefused (standsLawful (t .east) (t .north) (t .score) g) 5 _ (lit< tt) (d .1) in
-      record { shape = a .0; limits = b .0; names = c .0; order = d .0; places = f .0 }
+      let a = missed (not (shapeLawful t)) (λ z. omega arith) e in
+      let b = missed (not (gridLawful g)) (λ z. omega arith) (a .1) in
+      let c = missed (not (namesAllowed (t .text) (t .starts) (stands t))) (λ z. omega arith) (b .1) in
+      let d = missed (not (namesInOrder (t .text) (t .starts) (stands t))) (λ z. omega arith) (c .1) in
+      let f = missed (not (standsLawful (t .east) (t .north) (t .score) g)) (λ z. omega arith) (d .1) in
+      record { shape = not-false _ (a .0); limits = not-false _ (b .0); names = not-false _ (c .0); order = not-false _ (d .0); places = not-false _ (f .0) }
 
   pub lawful : tableRefusal t g ≡ 0 → LawfulTable t g
   unfolding namesAllowed nameAllowed namesInOrder standLawful standsLawful

@@ -1,9 +1,10 @@
 -- No two different answers have the same numbers, so what a call promises of its numbers settles its answer.
--- Each proof reads the answer back from its numbers. Assumes nothing.
-use mathlib.Core.Path.{_≡_, refl, sym, ap, _∙_}
-use mathlib.Core.Bool.{cond, false}
+-- A refusal is read back from its number, which is not 0; the other answers go case by case. Assumes nothing.
+use mathlib.Core.Path.{_≡_, refl, sym, ap, ap₂, _∙_}
+use mathlib.Core.Bool.{false}
 use mathlib.Core.List.{List, [], _∷_}
 use Prim.Native.Nat.{ℕ, _-_}
+use native.Mathlib.Omega.{arith}
 use lib.Dec.{eqb}
 use lib.ListN.{getD}
 use borrow.Author.Tests.{eqb-false}
@@ -66,75 +67,41 @@ refusal-back InputMalformed = (refl, refl)
 pub refusal-some : (r : Refusal) → refusalNumber r ≡ 0 → ⊥
 refusal-some r e = eqb-false (refusalNumber r) 0 (refusal-back r .1) e
 
--- what is read back from its numbers is told apart by them
-told-apart : {A B : Type 0} (numbers : A → B) (back : B → A) → ((a : A) → back (numbers a) ≡ a) → (a b : A) → numbers a ≡ numbers b → a ≡ b
-told-apart numbers back h a b e = sym (h a) ∙ ap back e ∙ h b
-
 pub one-refusal : (a b : Refusal) → refusalNumber a ≡ refusalNumber b → a ≡ b
-one-refusal = told-apart refusalNumber refusalOf (λ r. refusal-back r .0)
-
-verdictOf : ℕ → Verdict
-verdictOf n = cond (eqb n 0) verdict.Passed (verdict.Refused (refusalOf n))
-
-verdict-back : (v : Verdict) → verdictOf (verdictNumber v) ≡ v
-unfolding verdictOf
-verdict-back verdict.Passed = refl
-verdict-back (verdict.Refused r) = let b = refusal-back r in rw (b .1, b .0)
+one-refusal a b e = sym (refusal-back a .0) ∙ ap refusalOf e ∙ refusal-back b .0
 
 pub one-verdict : (v w : Verdict) → verdictNumber v ≡ verdictNumber w → v ≡ w
-one-verdict = told-apart verdictNumber verdictOf verdict-back
-
-locatedOf : Told → Located
-locatedOf n = cond (eqb (n .refusal) 0) (located.In (n .number)) (located.Refused (refusalOf (n .refusal)))
-
-located-back : (l : Located) → locatedOf (locatedNumbers l) ≡ l
-unfolding locatedOf
-located-back (located.In region) = refl
-located-back (located.Refused r) = let b = refusal-back r in rw (b .1, b .0)
+one-verdict verdict.Passed verdict.Passed e = refl
+one-verdict verdict.Passed (verdict.Refused r) e = absurd (refusal-some r (sym e))
+one-verdict (verdict.Refused r) verdict.Passed e = absurd (refusal-some r e)
+one-verdict (verdict.Refused r) (verdict.Refused s) e = ap verdict.Refused (one-refusal r s e)
 
 pub one-located : (l m : Located) → locatedNumbers l ≡ locatedNumbers m → l ≡ m
-one-located = told-apart locatedNumbers locatedOf located-back
-
-builtOf : BuildTold → Built
-builtOf n = cond (eqb (n .refusal) 0) (built.Index (n .nodes) (n .entries)) (built.Refused (refusalOf (n .refusal)))
-
-built-back : (b : Built) → builtOf (builtNumbers b) ≡ b
-unfolding builtOf
-built-back (built.Index nodes entries) = refl
-built-back (built.Refused r) = let b = refusal-back r in rw (b .1, b .0)
+one-located (located.In a) (located.In b) e = ap (λ (n : Told). located.In (n .number)) e
+one-located (located.In a) (located.Refused r) e = absurd (refusal-some r (sym (ap (λ (n : Told). n .refusal) e)))
+one-located (located.Refused r) (located.In a) e = absurd (refusal-some r (ap (λ (n : Told). n .refusal) e))
+one-located (located.Refused r) (located.Refused s) e = ap located.Refused (one-refusal r s (ap (λ (n : Told). n .refusal) e))
 
 pub one-built : (a b : Built) → builtNumbers a ≡ builtNumbers b → a ≡ b
-one-built = told-apart builtNumbers builtOf built-back
-
-checkedOf : CheckTold → Checked
-checkedOf n = cond (eqb (n .lawful) 0) checked.Unlawful (checked.Lawful (n .nodes) (n .entries))
-
-checked-back : (c : Checked) → checkedOf (checkedNumbers c) ≡ c
-unfolding checkedOf
-checked-back (checked.Lawful nodes entries) = refl
-checked-back checked.Unlawful = refl
+one-built (built.Index n e) (built.Index m f) s = ap (λ (n : BuildTold). built.Index (n .nodes) (n .entries)) s
+one-built (built.Index n e) (built.Refused r) s = absurd (refusal-some r (sym (ap (λ (n : BuildTold). n .refusal) s)))
+one-built (built.Refused r) (built.Index n e) s = absurd (refusal-some r (ap (λ (n : BuildTold). n .refusal) s))
+one-built (built.Refused r) (built.Refused q) s = ap built.Refused (one-refusal r q (ap (λ (n : BuildTold). n .refusal) s))
 
 pub one-checked : (c d : Checked) → checkedNumbers c ≡ checkedNumbers d → c ≡ d
-one-checked = told-apart checkedNumbers checkedOf checked-back
-
-rangeOf : Told → RangeAnswer
-rangeOf n = cond (eqb (n .refusal) 0) (range.Found (n .number)) (range.Refused (refusalOf (n .refusal)) (n .number))
-
-range-back : (a : RangeAnswer) → rangeOf (rangeNumbers a) ≡ a
-unfolding rangeOf
-range-back (range.Found n) = refl
-range-back (range.Refused r matches) = let b = refusal-back r in rw (b .1, b .0)
+one-checked (checked.Lawful n e) (checked.Lawful m f) s = ap (λ (n : CheckTold). checked.Lawful (n .nodes) (n .entries)) s
+one-checked (checked.Lawful n e) checked.Unlawful s = absurd (omega (arith, ap (λ (n : CheckTold). n .lawful) s))
+one-checked checked.Unlawful (checked.Lawful n e) s = absurd (omega (arith, ap (λ (n : CheckTold). n .lawful) s))
+one-checked checked.Unlawful checked.Unlawful s = refl
 
 pub one-range : (a b : RangeAnswer) → rangeNumbers a ≡ rangeNumbers b → a ≡ b
-one-range = told-apart rangeNumbers rangeOf range-back
-
-rankedOf : Told → RankedAnswer
-rankedOf n = cond (eqb (n .refusal) 0) (ranked.Found (n .number)) (ranked.Refused (refusalOf (n .refusal)))
-
-ranked-back : (a : RankedAnswer) → rankedOf (rankedNumbers a) ≡ a
-unfolding rankedOf
-ranked-back (ranked.Found n) = refl
-ranked-back (ranked.Refused r) = let b = refusal-back r in rw (b .1, b .0)
+one-range (range.Found n) (range.Found m) e = ap (λ (n : Told). range.Found (n .number)) e
+one-range (range.Found n) (range.Refused r m) e = absurd (refusal-some r (sym (ap (λ (n : Told). n .refusal) e)))
+one-range (range.Refused r m) (range.Found n) e = absurd (refusal-some r (ap (λ (n : Told). n .refusal) e))
+one-range (range.Refused r m) (range.Refused s n) e = ap₂ range.Refused (one-refusal r s (ap (λ (n : Told). n .refusal) e)) (ap (λ (n : Told). n .number) e)
 
 pub one-ranked : (a b : RankedAnswer) → rankedNumbers a ≡ rankedNumbers b → a ≡ b
-one-ranked = told-apart rankedNumbers rankedOf ranked-back
+one-ranked (ranked.Found n) (ranked.Found m) e = ap (λ (n : Told). ranked.Found (n .number)) e
+one-ranked (ranked.Found n) (ranked.Refused r) e = absurd (refusal-some r (sym (ap (λ (n : Told). n .refusal) e)))
+one-ranked (ranked.Refused r) (ranked.Found n) e = absurd (refusal-some r (ap (λ (n : Told). n .refusal) e))
+one-ranked (ranked.Refused r) (ranked.Refused s) e = ap ranked.Refused (one-refusal r s (ap (λ (n : Told). n .refusal) e))

@@ -1,7 +1,7 @@
 -- The byte order of names: a total order, in which the names that begin alike stand together.
 -- Assumes nothing.
-use mathlib.Core.Path.{_≡_, refl, sym, ap, _∙_}
-use mathlib.Core.Logic.{_⊎_, inl, inr, ⊎-elim}
+use mathlib.Core.Path.{_≡_, refl, sym, ap}
+use mathlib.Core.Logic.{⊎-elim}
 use mathlib.Core.Bool.{true, false, _&&_, true≢false, false≢true}
 use mathlib.Core.List.{List, [], _∷_, _++_}
 use Prim.Native.Nat.{ℕ, zero, suc, _+_, _-_, _≤_, _<_}
@@ -9,28 +9,29 @@ use native.Mathlib.Omega.{arith}
 use native.Mathlib.Nat.{add-zero, eq-or-lt-of-le}
 use lib.Dec.{eqb, ltb}
 use lib.ListN.{length, getD}
+use borrow.Table.Steps.{cases}
 use borrow.Author.Tests.{ltb-true, eqb-true, lt-ltb, le-ltb, eq-eqb}
 use Rattle.base.specs.Lists.{begins, sharedLength}
-use Rattle.base.proofs.Tests.{which, never, refuted, le-or-lt, and-parts, or-cases}
+use Rattle.base.proofs.Tests.{never, refuted, le-or-lt, and-parts, or-cases}
 use Rattle.base.proofs.Begins.{begins-cases, begins-same}
 use Rattle.rules.specs.Names.{inOrder}
 
--- two names in order, by their first bytes
-abbrev ByFirst : ℕ → ℕ → List ℕ → List ℕ → Type 0
-ByFirst a b m n = (a < b) ⊎ ((a ≡ b) × (inOrder m n ≡ true))
-
-order-cases : (a b : ℕ) (m n : List ℕ) → inOrder (a ∷ m) (b ∷ n) ≡ true → ByFirst a b m n
-order-cases a b m n e =
+-- two names in order, by their first bytes; and back, as `order-by`
+order-first : (a b : ℕ) (m n : List ℕ) → inOrder (a ∷ m) (b ∷ n) ≡ true → (a ≤ b) × (a ≡ b → inOrder m n ≡ true)
+order-first a b m n e =
     ⊎-elim
-    (λ h. inl (ltb-true a b h))
-    (λ h. let t = and-parts (eqb a b) (inOrder m n) h in inr (eqb-true a b (t .0), t .1))
+    (λ h. let l = ltb-true a b h in (omega arith, λ q. absurd (omega arith)))
+    (λ h. let t = and-parts (eqb a b) (inOrder m n) h in let q = eqb-true a b (t .0) in (omega arith, λ q. t .1))
     (or-cases (ltb a b) (eqb a b && inOrder m n) e)
 
-pub order-less : (a b : ℕ) (m n : List ℕ) → a < b → inOrder (a ∷ m) (b ∷ n) ≡ true
+order-less : (a b : ℕ) (m n : List ℕ) → a < b → inOrder (a ∷ m) (b ∷ n) ≡ true
 order-less a b m n h = rw (lt-ltb a b h)
 
-pub order-same : (a b : ℕ) (m n : List ℕ) → a ≡ b → inOrder m n ≡ true → inOrder (a ∷ m) (b ∷ n) ≡ true
+order-same : (a b : ℕ) (m n : List ℕ) → a ≡ b → inOrder m n ≡ true → inOrder (a ∷ m) (b ∷ n) ≡ true
 order-same a b m n p h = rw (le-ltb a b (omega arith), eq-eqb a b p, h)
+
+pub order-by : (a b : ℕ) (m n : List ℕ) → a ≤ b → (a ≡ b → inOrder m n ≡ true) → inOrder (a ∷ m) (b ∷ n) ≡ true
+order-by a b m n h k = ⊎-elim (λ e. order-same a b m n e (k e)) (order-less a b m n) (eq-or-lt-of-le h)
 
 pub order-refl : (m : List ℕ) → inOrder m m ≡ true
 order-refl [] = refl
@@ -40,36 +41,30 @@ pub order-trans : (x y z : List ℕ) → inOrder x y ≡ true → inOrder y z �
 order-trans [] y z p q = refl
 order-trans (a ∷ x) [] z p q = absurd (false≢true p)
 order-trans (a ∷ x) (b ∷ y) [] p q = absurd (false≢true q)
-order-trans (a ∷ x) (b ∷ y) (c ∷ z) p q = step (order-trans x y z) (order-cases a b x y p) (order-cases b c y z q)
-  where
-    step : (inOrder x y ≡ true → inOrder y z ≡ true → inOrder x z ≡ true) → ByFirst a b x y → ByFirst b c y z → inOrder (a ∷ x) (c ∷ z) ≡ true
-    step below (inl h) (inl k) = order-less a c x z (omega arith)
-    step below (inl h) (inr k) = order-less a c x z (omega arith)
-    step below (inr h) (inl k) = order-less a c x z (omega arith)
-    step below (inr h) (inr k) = order-same a c x z (h .0 ∙ k .0) (below (h .1) (k .1))
+order-trans (a ∷ x) (b ∷ y) (c ∷ z) p q =
+    let s = order-first a b x y p in
+    let t = order-first b c y z q in
+    order-by a c x z (omega arith) (λ e. order-trans x y z (s .1 (omega arith)) (t .1 (omega arith)))
 
 pub order-antisym : (x y : List ℕ) → inOrder x y ≡ true → inOrder y x ≡ true → x ≡ y
 order-antisym [] [] p q = refl
 order-antisym [] (b ∷ y) p q = absurd (false≢true q)
 order-antisym (a ∷ x) [] p q = absurd (false≢true p)
-order-antisym (a ∷ x) (b ∷ y) p q = step (order-antisym x y) (order-cases a b x y p) (order-cases b a y x q)
-  where
-    step : (inOrder x y ≡ true → inOrder y x ≡ true → x ≡ y) → ByFirst a b x y → ByFirst b a y x → a ∷ x ≡ b ∷ y
-    step below (inl h) (inl k) = absurd (omega arith)
-    step below (inl h) (inr k) = absurd (omega arith)
-    step below (inr h) (inl k) = absurd (omega arith)
-    step below (inr h) (inr k) = cc (h .0, below (h .1) (k .1))
+order-antisym (a ∷ x) (b ∷ y) p q =
+    let s = order-first a b x y p in
+    let t = order-first b a y x q in
+    let e : a ≡ b = omega arith in
+    cc (e, order-antisym x y (s .1 e) (t .1 (sym e)))
 
 -- not in order: strictly in order the other way. `inOrder y x ≡ false` is the strict order "x before y" from here on
 pub order-total : (x y : List ℕ) → inOrder y x ≡ false → inOrder x y ≡ true
 order-total [] y p = refl
 order-total (a ∷ x) [] p = absurd (true≢false p)
-order-total (a ∷ x) (b ∷ y) p = step (order-total x y) (le-or-lt b a) (le-or-lt a b)
-  where
-    step : (inOrder y x ≡ false → inOrder x y ≡ true) → (b ≤ a) ⊎ (a < b) → (a ≤ b) ⊎ (b < a) → inOrder (a ∷ x) (b ∷ y) ≡ true
-    step below (inr h) k = order-less a b x y h
-    step below (inl h) (inr k) = never _ (order-less b a y x k) p
-    step below (inl h) (inl k) = let e : a ≡ b = omega arith in order-same a b x y e (below (rw (le-ltb b a k, eq-eqb b a (sym e)) at p))
+order-total (a ∷ x) (b ∷ y) p =
+    ⊎-elim
+    (λ (h : a ≤ b). order-by a b x y h (λ e. order-total x y (rw (le-ltb b a h, eq-eqb b a (sym e)) at p)))
+    (λ h. never _ (order-less b a y x h) p)
+    (le-or-lt a b)
 
 pub begins-order : (p n : List ℕ) → begins p n ≡ true → inOrder p n ≡ true
 begins-order [] n h = refl
@@ -81,14 +76,12 @@ pub begins-between : (p x n : List ℕ) → inOrder p x ≡ true → inOrder x n
 begins-between [] x n h k l = refl
 begins-between (a ∷ p) [] n h k l = h
 begins-between (a ∷ p) (b ∷ x) [] h k l = absurd (false≢true k)
-begins-between (a ∷ p) (b ∷ x) (c ∷ n) h k l = step (begins-between p x n) (begins-cases a c p n l) (order-cases a b p x h) (order-cases b c x n k)
-  where
-    step : (inOrder p x ≡ true → inOrder x n ≡ true → begins p n ≡ true → begins p x ≡ true) → (a ≡ c) × (begins p n ≡ true)
-        → ByFirst a b p x → ByFirst b c x n → begins (a ∷ p) (b ∷ x) ≡ true
-    step below s (inl u) (inl v) = absurd (omega arith)
-    step below s (inl u) (inr v) = absurd (omega arith)
-    step below s (inr u) (inl v) = absurd (omega arith)
-    step below s (inr u) (inr v) = begins-same a b p x (u .0) (below (u .1) (v .1) (s .1))
+begins-between (a ∷ p) (b ∷ x) (c ∷ n) h k l =
+    let r = begins-cases a c p n l in
+    let s = order-first a b p x h in
+    let t = order-first b c x n k in
+    let e : a ≡ b = omega arith in
+    begins-same a b p x e (begins-between p x n (s .1 e) (t .1 (omega arith)) (r .1))
 
 pub begins-interval : (p m x n : List ℕ) → begins p m ≡ true → inOrder m x ≡ true → inOrder x n ≡ true → begins p n ≡ true → begins p x ≡ true
 begins-interval p m x n h u v k = begins-between p x n (order-trans p m x (begins-order p m h) u) v k
@@ -119,34 +112,26 @@ pub order-whole : (a b : List ℕ) → sharedLength a b ≡ length a → inOrder
 order-whole [] b e = refl
 order-whole (x ∷ a) [] e = absurd (omega arith)
 order-whole (x ∷ a) (y ∷ b) e =
-    ⊎-elim
-    (λ (q : eqb x y ≡ true).
-    let h : sharedLength a b ≡ length a = omega (arith, rw q at e) in
-    ⊎-elim (λ (l : ltb x y ≡ true). rw l) (λ (l : ltb x y ≡ false). rw (l, q) (order-whole a b h)) (which (ltb x y)))
+    cases (eqb x y)
+    (λ q. order-same x y a b (eqb-true x y q) (order-whole a b (omega (arith, rw q at e))))
     (λ q. absurd (omega (arith, rw q at e)))
-    (which (eqb x y))
 
 pub order-longer : (a b : List ℕ) → (sharedLength a b ≡ length a → ⊥) → sharedLength a b ≡ length b → inOrder a b ≡ false
 order-longer [] b n e = absurd (n refl)
 order-longer (x ∷ a) [] n e = refl
 order-longer (x ∷ a) (y ∷ b) n e =
-    ⊎-elim
-    (λ q.
-    let h : sharedLength a b ≡ length b = omega (arith, rw q at e) in
-    let m : sharedLength a b ≡ length a → ⊥ = λ z. n (rw q (ap suc z)) in
-    rw (q, order-longer a b m h, le-ltb x y (omega (arith, eqb-true x y q))))
+    cases (eqb x y)
+    (λ q. rw (q, order-longer a b (λ z. n (rw q (ap suc z))) (omega (arith, rw q at e)), le-ltb x y (omega (arith, eqb-true x y q))))
     (λ q. absurd (omega (arith, rw q at e)))
-    (which (eqb x y))
 
 pub order-byte : (a b : List ℕ) → (sharedLength a b ≡ length a → ⊥) → (sharedLength a b ≡ length b → ⊥)
     → inOrder a b ≡ ltb (getD a (sharedLength a b) 0) (getD b (sharedLength a b) 0)
 order-byte [] b n m = absurd (n refl)
 order-byte (x ∷ a) [] n m = absurd (m refl)
 order-byte (x ∷ a) (y ∷ b) n m =
-    ⊎-elim
+    cases (eqb x y)
     (λ q. rw (q, order-byte a b (λ z. n (rw q (ap suc z))) (λ z. m (rw q (ap suc z))), le-ltb x y (omega (arith, eqb-true x y q))))
-    (λ q. rw q (⊎-elim (λ l. rw l) (λ l. rw l) (which (ltb x y))))
-    (which (eqb x y))
+    (λ q. rw q (cases (ltb x y) (λ l. rw l) (λ l. rw l)))
 
 -- ---- names by number
 

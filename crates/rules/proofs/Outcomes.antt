@@ -2,12 +2,13 @@
 -- Assumes nothing.
 use mathlib.Core.Path.{_≡_, refl, sym, ap, _∙_}
 use mathlib.Core.Logic.{inr}
-use mathlib.Core.Bool.{Bool, true, false, not, cond}
+use mathlib.Core.Bool.{Bool, true, false, cond}
 use mathlib.Core.List.{List, []}
 use Prim.Native.Nat.{ℕ, zero, suc}
 use native.Mathlib.Omega.{arith}
 use lib.Dec.{ltb}
 use lib.ListN.{length, getD}
+use borrow.Table.Steps.{cases}
 use Rattle.base.specs.Lists.{all}
 use Rattle.rules.specs.declared.Grid.{Grid}
 use Rattle.rules.specs.declared.Rect.{Rect}
@@ -20,7 +21,7 @@ use Rattle.rules.specs.Names.{allowed, textRefusal}
 use Rattle.rules.specs.Places.{rectLawful}
 use Rattle.rules.specs.Tables.{Table}
 use Rattle.rules.specs.Questions.{rangeList, ranking, rankingLawful, rangeRefusal, rankedRefusal}
-use Rattle.rules.specs.Outcomes.{Outcome, outcome, refused, filled, roomFor, settled, rangeOutcome, rankedOutcome, rangeCame, rankedCame}
+use Rattle.rules.specs.Outcomes.{Outcome, refused, roomFor, settled, rangeOutcome, rankedOutcome, rangeCame, rankedCame}
 use Rattle.rules.specs.Promises.{Kept, RangeKept, RankedKept}
 use Rattle.rules.proofs.Numbers.{one-range, one-ranked}
 
@@ -38,14 +39,12 @@ refused-kept Lawful comesTo meant rooms n h = record { exact = λ law. sym (h me
 
 -- ---- never 7
 
-first-but-7 : (long byte : Bool) (n : ℕ) → (n ≡ 7 → ⊥) → firstGiven (cond long 9 (cond byte 8 0)) n ≡ 7 → ⊥
-first-but-7 true byte n h e = omega arith
-first-but-7 false true n h e = omega arith
-first-but-7 false false n h e = h e
-
 text-but-7 : (p : List ℕ) (n : ℕ) → (n ≡ 7 → ⊥) → firstGiven (textRefusal p) n ≡ 7 → ⊥
 unfolding textRefusal
-text-but-7 p n h = first-but-7 (ltb 24 (length p)) (not (all allowed p)) n h
+text-but-7 p n h =
+    cases (ltb 24 (length p))
+    (λ q. rw q (λ e. omega arith))
+    (λ q. cases (all allowed p) (λ r. rw (q, r) h) (λ r. rw (q, r) (λ e. omega arith)))
 
 limit-but-7 : (fine : Bool) (n : ℕ) → (n ≡ 7 → ⊥) → cond fine 0 n ≡ 7 → ⊥
 limit-but-7 true n h e = omega arith
@@ -53,11 +52,7 @@ limit-but-7 false n h e = h e
 
 settled-but-7 : (n places : ℕ) (short told : Told) (words rooms : List (List ℕ)) → (n ≡ 7 → ⊥) → (short .refusal ≡ 7 → ⊥) → (told .refusal ≡ 7 → ⊥)
     → settled n places short told words rooms .told .refusal ≡ 7 → ⊥
-settled-but-7 zero places short told words rooms h s a = step (roomFor places rooms)
-  where
-    step : (b : Bool) → cond b (outcome told (filled words rooms)) (outcome short rooms) .told .refusal ≡ 7 → ⊥
-    step true = a
-    step false = s
+settled-but-7 zero places short told words rooms h s a = cases (roomFor places rooms) (λ q. rw q a) (λ q. rw q s)
 settled-but-7 (suc n) places short told words rooms h s a = h
 
 pub range-but-7 : (p : List ℕ) (r : Rect) (list : List ℕ) (rooms : List (List ℕ)) → rangeOutcome (rangeRefusal p r) list rooms .told .refusal ≡ 7 → ⊥
