@@ -1,14 +1,12 @@
 -- What is printed has room, line after line: a hit's lines are short, and Listing is the invariant of the loop that puts the hits.
 -- Assumes nothing.
 use mathlib.Core.Path.{_≡_, ap, _∙_}
-use mathlib.Core.List.{List, [], _∷_, _++_, append-nil}
+use mathlib.Core.List.{List, [], _∷_, _++_}
 use Prim.Native.Nat.{ℕ, _+_, _*_, _≤_, _<_}
 use native.Mathlib.Numerals.{add-one}
 use native.Mathlib.Omega.{arith}
 use lib.ListN.{length, getD, length-append}
-use Rattle.base.specs.Lists.{upTo, eachList}
-use Rattle.base.proofs.Members.{eachList-append}
-use Rattle.base.proofs.Runs.{upTo-suc}
+use Rattle.base.proofs.Runs.{eachList-suc}
 use Rattle.rules.specs.Names.{name}
 use Rattle.lines.specs.Writing.{ascii, decimalOf, line}
 use Rattle.lines.specs.Puts.{Puts}
@@ -41,9 +39,7 @@ module _ (text starts : List ℕ) where
 
     one-more : (i : ℕ) → hitsTo text starts found values (i + 1) ≡ hitsTo text starts found values i ++ hitLines text starts (getD found i 0) (getD values i 0)
     unfolding hitsTo
-    one-more i =
-        let f : ℕ → List ℕ = λ k. hitLines text starts (getD found k 0) (getD values k 0) in
-        rw add-one (ap (eachList f) (upTo-suc i) ∙ eachList-append f (upTo i) (i ∷ []) ∙ ap (λ l. eachList f (upTo i) ++ l) (append-nil (f i)))
+    one-more i = rw add-one (eachList-suc (λ k. hitLines text starts (getD found k 0) (getD values k 0)) i)
 
     module _ {count : ℕ} {out : List ℕ} {at : ℕ} {after : List ℕ} {r i : ℕ} where
       pub listed-more : {last : List ℕ} {r′ : ℕ} → i < count → Listing count out at after r i
