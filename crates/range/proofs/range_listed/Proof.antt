@@ -8,18 +8,9 @@ use borrow.Author.Needs.{needs}
 use Rattle.range.proofs.range_listed.Statement.{statement}
 use Rattle.range.proofs.range_listed.Tie as tie
 
-returns : tie.Need-returns
-returns c = grid-breaks _ _ _ _ _ _ _ _ _ _ (c .unlawful .ensures) (breaks _ _ (c .before .before .lawful .ensures) (c .before .if1 .taken))
-
-returns-2 : tie.Need-returns-2
-returns-2 c = parts-break _ _ _ _ _ _ _ _ _ (holds _ _ (c .before .before .before .before .lawful .ensures) (c .before .before .before .if1 .left)) _ (c .unlawful2 .ensures) (breaks _ _ (c .before .before .agree .ensures) (c .before .if2 .taken))
-
 returns-3 : tie.Need-returns-3
 unfolding blank
 returns-3 c = notes-break _ _ _ _ _ _ _ _ _ (holds _ _ (c .before .before .before .before .before .before .before .before .before .lawful .ensures) (c .before .before .before .before .before .before .before .before .if1 .left)) (holds _ _ (c .before .before .before .before .before .before .before .agree .ensures) (c .before .before .before .before .before .before .if2 .left)) _ (c .before .before .before .before .before .count .ensures) _ _ _ (c .before .before .note .ensures) _ (c .unlawful3 .ensures) (not-true _ (c .before .if3 .taken))
-
-cells-of-requires : tie.Need-cells-of-requires
-cells-of-requires c κs = holds _ _ (c .before .before .before .before .before .before .before .before .lawful .ensures) (c .before .before .before .before .before .before .before .if1 .left)
 
 fill-requires : tie.Need-fill-requires
 unfolding blank
@@ -35,15 +26,15 @@ range-listed-spec =
     (tie.spec
     (λ c κs. search needs)
     (λ c κs. search needs)
-    returns
+    (λ c. search (needs, grid-breaks, breaks))
     (λ c κs. search needs)
     (λ c κs. search needs)
-    returns-2
+    (λ c. search (needs, parts-break, holds, breaks))
     (λ c κs. search needs)
     (λ c κs. search needs)
     (λ c κs. search needs)
     returns-3
-    cells-of-requires
+    (λ c κs. search (needs, holds))
     (λ c κs. search needs)
     fill-requires
     (search needs)

@@ -14,9 +14,6 @@ Inv-loop entries stands from count firsts₀ pasts₀ end e₀ firsts pasts e = 
 abbrev μ-loop : tie.MeasureT-loop
 μ-loop entries stands from count firsts₀ pasts₀ end e₀ firsts pasts e = end - e
 
-loop-holds : tie.Need-loop-holds Inv-loop μ-loop
-loop-holds c = note-begins _ _ _ _ _ _
-
 returns : tie.Need-returns Inv-loop μ-loop
 returns c = note-breaks _ _ _ _ _ _ _ _ _ _ (c .before .before .before .before .loop .inv) (c .before .before .before .loop-test .taken) (sym (c .before .before .entry-at .ensures) ∙ c .enum-told .given .1)
 
@@ -29,9 +26,6 @@ element-write-pasts c = within-facts _ _ (read-facts _ _ _ _ (sym (c .before .be
 loop-again : tie.Need-loop-again Inv-loop μ-loop
 loop-again c = note-more _ _ _ _ _ _ _ _ _ _ (c .before .before .before .before .before .before .loop .inv) (c .before .before .before .before .before .loop-test .taken) _ (sym (c .before .before .before .before .entry-at .ensures) ∙ c .before .before .entry .given .1)
 
-returns-2 : tie.Need-returns-2 Inv-loop μ-loop
-returns-2 c = note-ends _ _ _ _ _ _ _ _ _ _ (c .before .loop .inv) (c .loop-test .left)
-
 pub note-spec : {M : Type 1} → statement M
 note-spec =
     tie.close
@@ -39,7 +33,7 @@ note-spec =
     Inv-loop
     μ-loop
     (search needs)
-    loop-holds
+    (λ c. search (needs, note-begins))
     (λ c κs. search needs)
     (search needs)
     (search needs)
@@ -52,4 +46,4 @@ note-spec =
     (search needs)
     (search needs)
     loop-again
-    returns-2)
+    (λ c. search (needs, note-ends)))

@@ -26,9 +26,6 @@ loop-holds c =
 returns : tie.Need-returns Inv-loop μ-loop
 returns c = unread _ _ _ _ _ _ _ _ _ _ (c .before .before .before .before .loop .inv) (c .before .before .before .loop-test .taken) (sym (c .before .before .entry-at .ensures) ∙ c .enum-told .given .1)
 
-usable-requires : tie.Need-usable-requires Inv-loop μ-loop
-usable-requires c κs = read-facts _ _ _ _ (sym (c .before .before .before .entry-at .ensures) ∙ c .before .entry .given .1) .1
-
 returns-2 : tie.Need-returns-2 Inv-loop μ-loop
 returns-2 c = unusable _ _ _ _ _ _ _ _ _ _ (c .before .before .before .before .before .before .before .loop .inv) (c .before .before .before .before .before .before .loop-test .taken) _ (sym (c .before .before .before .before .before .entry-at .ensures) ∙ c .before .before .before .entry .given .1) (breaks _ _ (c .before .usable .ensures) (c .if1 .taken))
 
@@ -49,9 +46,6 @@ loop-again c =
     take-next _ _ _ _ _ _ _ _ _ _ (c .before .before .before .before .before .before .before .before .before .before .before .before .loop .inv) (c .before .before .before .before .before .before .before .before .before .before .before .loop-test .taken) _ (sym (c .before .before .before .before .before .before .before .before .before .before .entry-at .ensures) ∙ c .before .before .before .before .before .before .before .before .entry .given .1)
     (holds _ _ (c .before .before .before .before .before .before .usable .ensures) (c .before .before .before .before .before .if1 .left)) _ _ (c .before .before .before .take-entry .ensures) _ (c .before .more .given .1)
 
-returns-4 : tie.Need-returns-4 Inv-loop μ-loop
-returns-4 c = take-done _ _ _ _ _ _ _ _ _ _ (c .before .loop .inv) (c .loop-test .left)
-
 pub take-entries-spec : {M : Type 1} → statement M
 take-entries-spec =
     tie.close
@@ -63,7 +57,7 @@ take-entries-spec =
     (search needs)
     (search needs)
     returns
-    usable-requires
+    (λ c κs. read-facts _ _ _ _ (sym (c .before .before .before .entry-at .ensures) ∙ c .before .entry .given .1) .1)
     returns-2
     take-entry-requires
     (search needs)
@@ -73,4 +67,4 @@ take-entries-spec =
     add-e
     (search needs)
     loop-again
-    returns-4)
+    (λ c. search (needs, take-done)))

@@ -10,21 +10,6 @@ use Rattle.search.proofs.Reading.{stand-large, no-east, no-north, no-sc
 use Rattle.search.proofs.stands.readable_stand.Statement.{statement}
 use Rattle.search.proofs.stands.readable_stand.Tie as tie
 
-returns : tie.Need-returns
-returns c = stand-large _ _ _ (c .if1 .taken)
-
-returns-2 : tie.Need-returns-2
-returns-2 c = no-east _ _ _ (c .if2 .taken)
-
-returns-3 : tie.Need-returns-3
-returns-3 c = no-north _ _ _ (c .if3 .taken)
-
-returns-4 : tie.Need-returns-4
-returns-4 c = no-score _ _ _ (c .if4 .taken)
-
-returns-5 : tie.Need-returns-5
-returns-5 c = score-over _ _ _ (c .if5 .taken)
-
 returns-6 : tie.Need-returns-6
 returns-6 c =
     let a = c .before .before .before .before .before .before .before .before .before .before .args in
@@ -37,13 +22,13 @@ pub readable-stand-spec : {M : Type 1} → statement M
 readable-stand-spec =
     tie.close
     (tie.spec
-    returns
-    returns-2
-    returns-3
-    returns-4
+    (λ c. search (needs, stand-large))
+    (λ c. search (needs, no-east))
+    (λ c. search (needs, no-north))
+    (λ c. search (needs, no-score))
     (search needs)
     (search needs)
-    returns-5
+    (λ c. search (needs, score-over))
     (search needs)
     (search needs)
     (search needs)
