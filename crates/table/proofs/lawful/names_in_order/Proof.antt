@@ -16,9 +16,6 @@ Inv-loop text starts stands i₀ i = Scanning (λ k. inOrder (name text starts k
 abbrev μ-loop : tie.MeasureT-loop
 μ-loop text starts stands i₀ i = stands - i
 
-loop-holds : tie.Need-loop-holds Inv-loop μ-loop
-loop-holds c = begin _ _
-
 told : (c : tie.After-in-order Inv-loop μ-loop) →
     let a = c .before .before .before .before .before .before .before .args in
     let i = c .before .before .before .before .loop .i in
@@ -32,9 +29,6 @@ returns c =
     let more : at .i < c .before .before .before .before .before .before .before .before .args .stands - 1 = search needs in
     sym (fail _ _ _ more (breaks _ _ (told (c .before)) (c .if1 .taken)) (at .inv))
 
-loop-again : tie.Need-loop-again Inv-loop μ-loop
-loop-again c = pass _ _ _ (search needs) (holds _ _ (told (c .before)) (c .if1 .left)) (search needs)
-
 returns-2 : tie.Need-returns-2 Inv-loop μ-loop
 unfolding namesInOrder
 returns-2 c = sym (finish _ _ _ (search needs) (c .before .loop .inv))
@@ -45,7 +39,7 @@ names-in-order-spec =
     (tie.spec
     Inv-loop
     μ-loop
-    loop-holds
+    (λ c. search (needs, begin))
     (search needs)
     (λ c κs. search needs)
     (search needs)
@@ -54,5 +48,5 @@ names-in-order-spec =
     returns
     (search needs)
     (search needs)
-    loop-again
+    (λ c. pass _ _ _ (search needs) (holds _ _ (told (c .before)) (c .if1 .left)) (search needs))
     returns-2)

@@ -17,18 +17,12 @@ Inv-loop starts i₀ i = Scanning (λ k. leb (getD starts k 0) (getD starts (k +
 abbrev μ-loop : tie.MeasureT-loop
 μ-loop starts i₀ i = length starts - i
 
-loop-holds : tie.Need-loop-holds Inv-loop μ-loop
-loop-holds c = begin _ _
-
 returns : tie.Need-returns Inv-loop μ-loop
 unfolding rising
 returns c =
     let at = c .before .before .before .before .loop in
     let more : at .i < length (c .before .before .before .before .before .args .starts .now) - 1 = search needs in
     sym (fail _ _ _ more (lt-leb _ _ (c .if1 .taken)) (at .inv))
-
-loop-again : tie.Need-loop-again Inv-loop μ-loop
-loop-again c = pass _ _ _ (search needs) (le-leb _ _ (c .if1 .left)) (search needs)
 
 returns-2 : tie.Need-returns-2 Inv-loop μ-loop
 unfolding rising
@@ -40,7 +34,7 @@ rising-spec =
     (tie.spec
     Inv-loop
     μ-loop
-    loop-holds
+    (λ c. search (needs, begin))
     (search needs)
     (search needs)
     (search needs)
@@ -50,5 +44,5 @@ rising-spec =
     returns
     (search needs)
     (search needs)
-    loop-again
+    (λ c. pass _ _ _ (search needs) (le-leb _ _ (c .if1 .left)) (search needs))
     returns-2)

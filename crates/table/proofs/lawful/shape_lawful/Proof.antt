@@ -42,9 +42,6 @@ returns-7 : tie.Need-returns-7
 unfolding shapeLawful
 returns-7 c = sym (every-not _ 6 (ne-eqb _ _ (c .if7 .taken)))
 
-returns-8 : tie.Need-returns-8
-returns-8 c = sym (shape-holds _ (search needs) (search needs) (search needs) (search needs) (search needs) (holds _ _ (c .before .before .before .rising .ensures) (c .before .before .if6 .left)) (search needs))
-
 pub shape-lawful-spec : {M : Type 1} → statement M
 shape-lawful-spec =
     tie.close
@@ -62,4 +59,4 @@ shape-lawful-spec =
     (search needs)
     cast-if7
     returns-7
-    returns-8)
+    (λ c. search (needs, shape-holds, holds)))

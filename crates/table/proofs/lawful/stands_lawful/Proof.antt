@@ -21,9 +21,6 @@ Inv-loop east north score grid i₀ i = Scanning (standLawful east north score g
 abbrev μ-loop : tie.MeasureT-loop
 μ-loop east north score grid i₀ i = length score - i
 
-loop-holds : tie.Need-loop-holds Inv-loop μ-loop
-loop-holds c = begin _ _
-
 told : (c : tie.After-holds Inv-loop μ-loop) →
     let a = c .before .before .before .before .before .before .args in
     c .holds .result ≡ inGrid (a .grid) (placeIn (a .east .now) (a .north .now) (c .before .before .before .before .loop .i))
@@ -43,9 +40,6 @@ returns-2 : tie.Need-returns-2 Inv-loop μ-loop
 unfolding standsLawful
 returns-2 c = sym (fail _ _ _ (c .before .before .before .before .before .before .loop-test .taken) (stand-over _ _ _ _ _ (c .if2 .taken)) (c .before .before .before .before .before .before .before .loop .inv))
 
-loop-again : tie.Need-loop-again Inv-loop μ-loop
-loop-again c = pass _ _ _ (search needs) (stand-in _ _ _ _ _ (holds _ _ (told (c .before .before .before)) (c .before .before .if1 .left)) (c .if2 .left)) (search needs)
-
 returns-3 : tie.Need-returns-3 Inv-loop μ-loop
 unfolding standsLawful
 returns-3 c = sym (finish _ _ _ (search needs) (c .before .loop .inv))
@@ -56,7 +50,7 @@ stands-lawful-spec =
     (tie.spec
     Inv-loop
     μ-loop
-    loop-holds
+    (λ c. search (needs, begin))
     (search needs)
     (search needs)
     (search needs)
@@ -68,5 +62,5 @@ stands-lawful-spec =
     returns-2
     (search needs)
     (search needs)
-    loop-again
+    (λ c. search (needs, pass, stand-in, holds, told))
     returns-3)

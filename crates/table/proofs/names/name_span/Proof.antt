@@ -16,12 +16,6 @@ returns : tie.Need-returns
 unfolding spanned
 returns c = nowhere _ _ _ (every-not _ 0 (le-ltb _ _ (c .if1 .taken)))
 
-cast-from : tie.Need-cast-from
-cast-from c = omega (arith, c .shared-slice-known .given (c .before .before .before .args .stand .0))
-
-cast-past : tie.Need-cast-past
-cast-past c = omega (arith, c .shared-slice-known2 .given (c .before .before .before .before .args .stand .0 + 1))
-
 returns-2 : tie.Need-returns-2
 unfolding spanned
 returns-2 c =
@@ -47,10 +41,10 @@ name-span-spec =
     returns
     (search needs)
     (search needs)
-    cast-from
+    (λ c. omega (arith, c .shared-slice-known .given (c .before .before .before .args .stand .0)))
     (search needs)
     (search needs)
     (search needs)
-    cast-past
+    (λ c. omega (arith, c .shared-slice-known2 .given (c .before .before .before .before .args .stand .0 + 1)))
     returns-2
     returns-3)
