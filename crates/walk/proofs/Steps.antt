@@ -8,6 +8,7 @@ use native.Mathlib.Numerals.{add-one}
 use lib.ListN.{length, drop, getD, drop-of-length-le}
 use lib.Seq.{drop-cons}
 use borrow.Author.Tests.{lt-ltb, le-ltb, le-leb, lt-leb, eq-eqb, ne-eqb}
+use Rattle.walk.specs.declared.Child.{Child}
 use Rattle.walk.specs.declared.Child.the-variants.{At, Nowhere, Broken}
 use Rattle.walk.specs.Walks.{node, nodeWord, siblings, childIn, onFrom, nodeFrom, nodeIn}
 
@@ -99,16 +100,16 @@ module _ (words text : List ℕ) where
     unfolding nodeFrom
     walk-ends h = sym (w .rest ∙ rw (drop-of-length-le text h))
 
-    module _ (more : i < length text) where
-      letter : nodeIn words text ≡ onFrom (childIn words n (getD text i 0)) (λ m. nodeFrom words m (drop (i + 1) text))
+    module _ (more : i < length text) (to : Child) (there : to ≡ childIn words n (getD text i 0)) where
+      letter : nodeIn words text ≡ onFrom to (λ m. nodeFrom words m (drop (i + 1) text))
       unfolding nodeFrom
-      letter = w .rest ∙ rw (drop-cons text i 0 more, add-one)
+      letter = w .rest ∙ rw (drop-cons text i 0 more, add-one, ← there)
 
-      pub walk-on : (below : ℕ) → childIn words n (getD text i 0) ≡ At (node below) → Walking words text below (i + 1)
+      pub walk-on : (below : ℕ) → to ≡ At (node below) → Walking words text below (i + 1)
       walk-on below e = record { within = omega arith; rest = letter ∙ rw e }
 
-      pub walk-stops : childIn words n (getD text i 0) ≡ Nowhere → Nowhere ≡ nodeIn words text
+      pub walk-stops : to ≡ Nowhere → Nowhere ≡ nodeIn words text
       walk-stops e = sym (letter ∙ rw e)
 
-      pub walk-breaks : childIn words n (getD text i 0) ≡ Broken → Broken ≡ nodeIn words text
+      pub walk-breaks : to ≡ Broken → Broken ≡ nodeIn words text
       walk-breaks e = sym (letter ∙ rw e)
