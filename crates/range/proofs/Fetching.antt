@@ -22,7 +22,7 @@ use Rattle.grid.specs.Cells.{cellsOf, bothCells, regionsIn}
 use Rattle.walk.specs.declared.entry.EntryRead.{EntryRead}
 use Rattle.walk.specs.declared.entry.EntryRead.the-variants.{At, Broken}
 use Rattle.walk.specs.Entries.{entryRead}
-use Rattle.walk.proofs.Spelled.{within-facts, read-facts}
+use Rattle.walk.proofs.Spelled.{within-facts, read-within}
 use Rattle.range.specs.Fetches.{Notes, notesOf, noteBy, noteFrom, inside, touchedStands, agree, Ready, unlawful, looked, blank, notesIn, fetchedBy, fetched}
 
 -- ---- no run that is noted goes past the stands
@@ -39,7 +39,7 @@ module _ (words : List ℕ) (stands : ℕ) where
       step Broken q below = h r
       step (At x) q below =
           below _ _
-          (λ k. ⊎-elim (λ u. rw u (within-facts stands x (read-facts words stands e x q .1) .1)) (λ u. rw u (h k)) (set-either pasts (x .region) k (x .past .0) 0))
+          (λ k. ⊎-elim (λ u. rw u (within-facts stands x (read-within words stands e _ x refl q) .1)) (λ u. rw u (h k)) (set-either pasts (x .region) k (x .past .0) 0))
           r
 
 -- so the walk can go by the notes
