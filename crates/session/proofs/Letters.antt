@@ -9,7 +9,7 @@ use native.Mathlib.Omega.{arith}
 use native.Mathlib.Numerals.{add-one}
 use lib.Dec.{leb}
 use lib.ListN.{length, take, drop, length-append, length-take, take-append-drop}
-use lib.Seq.{length-take-le, take-at, take-take, take-set-le, take-suc-set}
+use lib.Seq.{length-take-le, take-take, take-set-le, take-suc-set}
 use borrow.Author.Tests.{le-leb, lt-leb}
 use Rattle.base.specs.Lists.{all}
 use Rattle.base.proofs.Tests.{which, le-or-lt}

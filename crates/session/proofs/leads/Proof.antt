@@ -8,15 +8,6 @@ use Rattle.session.proofs.Steps.{led-over, led-full, led-unallowed, led
 use Rattle.session.proofs.leads.Statement.{statement}
 use Rattle.session.proofs.leads.Tie as tie
 
-returns : tie.Need-returns
-returns c = sym (led-over _ _ _ _ (c .if1 .taken))
-
-returns-2 : tie.Need-returns-2
-returns-2 c = sym (led-full _ _ _ _ (c .if2 .taken))
-
-returns-3 : tie.Need-returns-3
-returns-3 c = sym (led-unallowed _ _ _ _ (omega arith) (breaks _ _ (c .before .allowed .ensures) (c .if3 .taken)))
-
 returns-4 : tie.Need-returns-4
 returns-4 c = sym (led-on _ _ _ _ (omega arith) (holds _ _ (c .before .before .before .before .before .allowed .ensures) (c .before .before .before .before .if3 .left)) ∙ ap ledTo (sym (c .before .before .before .next .ensures) ∙ c .before .node .given .1))
 
@@ -30,10 +21,10 @@ pub leads-spec : {M : Type 1} → statement M
 leads-spec =
     tie.close
     (tie.spec
-    returns
-    returns-2
+    (λ c. search (needs, led-over))
+    (λ c. search (needs, led-full))
     (λ c κs. search needs)
-    returns-3
+    (λ c. sym (led-unallowed _ _ _ _ (omega arith) (breaks _ _ (c .before .allowed .ensures) (c .if3 .taken))))
     (λ c κs. search needs)
     (search needs)
     (search needs)
