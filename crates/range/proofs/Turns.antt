@@ -17,6 +17,7 @@ use Rattle.walk.specs.declared.entry.Entry.{Entry}
 use Rattle.walk.specs.declared.entry.EntryRead.{EntryRead}
 use Rattle.walk.specs.declared.entry.EntryRead.the-variants as entry
 use Rattle.walk.specs.Entries.{entryRead}
+use Rattle.range.specs.declared.gather.Tally.{Tally}
 use Rattle.range.specs.declared.gather.Tally.the-variants.{Count, Broken}
 use Rattle.range.specs.Fetches.{notesOf, noteBy, noteFrom, inside, Gathered, tallied, gathered, runOf, touchedStands, agree, Ready, RunFits}
 use Rattle.range.proofs.Gathers.{stand-off, stand-in, stand-out, walk-on, walk-breaks, walk-size, walk-counts}
@@ -106,6 +107,10 @@ module _ (east north : List ℤ) (order : List ℕ) (h : agree east north order 
   unfolding agree
   places-enough = leb-true _ _ (every-at _ 2 h)
 
+-- the regions that are left once the first is done are fewer
+pub fewer : (left later : List ℕ) → isEmpty left ≡ false → later ≡ drop 1 left → length later < length left
+fewer left later some e = omega (arith, ap length e, ap length (first-rest left some .0))
+
 pub record Sweeping (east north : List ℤ) (order firsts pasts : List ℕ) (rect : Rect) (regions found₀ found : List ℕ) (n : ℕ) (left : List ℕ) : Type 0 where
   pub ready : Ready east north order pasts
   pub few : n + 1024 * length left ≤ 65536
@@ -130,9 +135,10 @@ module _ (east north : List ℤ) (order firsts pasts : List ℕ) (rect : Rect) (
           let f = stands-few east north order a in
           record { placed = norths-enough east north order a; within = omega arith; few = omega (arith, w .few) }
 
-      pub sweep-on : (m : ℕ) (found′ left′ : List ℕ) → tallied (Count m) found′ ≡ gathered east north rect found n (runOf order firsts pasts r) → left′ ≡ drop 1 left
+      pub sweep-on : (t : Tally) (m : ℕ) (found′ left′ : List ℕ) → tallied t found′ ≡ gathered east north rect found n (runOf order firsts pasts r) → t ≡ Count m → left′ ≡ drop 1 left
           → Sweeping east north order firsts pasts rect regions found₀ found′ m left′
-      sweep-on m found′ left′ e d =
+      sweep-on t m found′ left′ walked q d =
+          let e = rw q at walked in
           let run = runOf order firsts pasts r in
           let count = walk-counts east north rect run found n m (ap (λ (g : Gathered). g .tally) (sym e)) .1 in
           let short = length-keep (inside east north rect) run in
@@ -146,10 +152,10 @@ module _ (east north : List ℤ) (order firsts pasts : List ℕ) (rect : Rect) (
             same = w .same ∙ ap (gathered east north rect found n) here-and-later ∙ walk-on east north rect run (touchedStands order firsts pasts (drop 1 left)) found found′ n m e;
           })
 
-      pub sweep-breaks : (found′ : List ℕ) → tallied Broken found′ ≡ gathered east north rect found n (runOf order firsts pasts r)
+      pub sweep-breaks : (t : Tally) (found′ : List ℕ) → tallied t found′ ≡ gathered east north rect found n (runOf order firsts pasts r) → t ≡ Broken
           → tallied Broken found′ ≡ gathered east north rect found₀ 0 (touchedStands order firsts pasts regions)
-      sweep-breaks found′ e =
-          sym (w .same ∙ ap (gathered east north rect found n) here-and-later ∙ walk-breaks east north rect (runOf order firsts pasts r) (touchedStands order firsts pasts (drop 1 left)) found found′ n e)
+      sweep-breaks t found′ e q =
+          sym (w .same ∙ ap (gathered east north rect found n) here-and-later ∙ walk-breaks east north rect (runOf order firsts pasts r) (touchedStands order firsts pasts (drop 1 left)) found found′ n (rw q at e))
 
     pub sweep-ends : isEmpty left ≡ true → tallied (Count n) found ≡ gathered east north rect found₀ 0 (touchedStands order firsts pasts regions)
     unfolding gathered

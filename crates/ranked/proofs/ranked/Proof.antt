@@ -7,11 +7,10 @@ use Rattle.ranked.proofs.ranked.Statement.{statement}
 use Rattle.ranked.proofs.ranked.Tie as tie
 
 returns : tie.Need-returns
-returns c = of-refused _ _ _ _ _ _ _ (c .before .why .given .0 .0) (ap verdictNumber (sym (c .before .why .given .1)) ∙ c .before .before .before .text-verdict .ensures)
+returns c = search (needs, of-refused)
 
 returns-2 : tie.Need-returns-2
-returns-2 c =
-    of-listed _ _ _ _ _ _ _ _ _ (sym (c .before .before .before .before .before .before .before .before .before .before .text-verdict .ensures) ∙ ap verdictNumber (c .before .before .before .before .before .before .before .before .enum-told .given .1)) (c .before .before .before .before .before .before .before .listing-of .ensures) (c .before .before .before .before .ranked-from .ensures)
+returns-2 c = search (needs, of-listed)
 
 pub ranked-spec : {M : Type 1} → statement M
 ranked-spec =

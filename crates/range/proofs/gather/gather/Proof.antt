@@ -1,8 +1,7 @@
 -- `gather::gather` meets its contract: the loop's invariant is Sweeping, by the regions that are left.
 -- Assumes nothing.
-use mathlib.Core.Path.{_≡_, ap}
+use mathlib.Core.Path.{_≡_}
 use mathlib.Core.Bool.{false}
-use native.Mathlib.Omega.{arith}
 use Prim.Native.Nat.{_<_}
 use lib.ListN.{length}
 use Rattle.base.specs.Lists.{isEmpty}
@@ -11,7 +10,7 @@ use Rattle.base.proofs.Members.{first-rest}
 use Rattle.grid.specs.Cells.{regionsIn}
 use Rattle.grid.proofs.Listed.{listed-less, listed-few}
 use Rattle.range.proofs.Gathers.{walk-size}
-use Rattle.range.proofs.Turns.{Sweeping, sweep-begins, sweep-room, sweep-on, sweep-breaks, sweep-ends}
+use Rattle.range.proofs.Turns.{Sweeping, fewer, sweep-begins, sweep-room, sweep-on, sweep-breaks, sweep-ends}
 use borrow.Author.Needs.{needs}
 use Rattle.range.proofs.gather.gather.Statement.{statement}
 use Rattle.range.proofs.gather.gather.Tie as tie
@@ -32,18 +31,6 @@ small c =
     let left = regionsIn (c .before .before .before .loop .left) in
     listed-less (c .before .before .before .loop .left) _ (rw (c .least .ensures) (first-rest left (some (c .before)) .1))
 
-returns : tie.Need-returns Inv-loop μ-loop
-returns c = sweep-breaks _ _ _ _ _ _ _ _ _ _ _ (c .before .before .before .before .before .before .before .before .before .before .before .loop .inv) (some (c .before .before .before .before .before .before .before .before .before)) _ (c .before .before .before .before .before .before .before .before .least .ensures) _ (rw (c .enum-told .given .1) at (c .before .before .before .before .gather-run .ensures))
-
-loop-less : tie.Need-loop-less Inv-loop μ-loop
-loop-less c =
-    let left = regionsIn (c .before .before .before .before .before .before .before .before .before .before .before .before .before .loop .left) in
-    let one = ap length (first-rest left (some (c .before .before .before .before .before .before .before .before .before .before .before)) .0) in
-    omega (arith, ap length (c .but-least .ensures))
-
-loop-again : tie.Need-loop-again Inv-loop μ-loop
-loop-again c = sweep-on _ _ _ _ _ _ _ _ _ _ _ (c .before .before .before .before .before .before .before .before .before .before .before .before .before .loop .inv) (some (c .before .before .before .before .before .before .before .before .before .before .before)) _ (c .before .before .before .before .before .before .before .before .before .before .least .ensures) _ _ _ (rw (c .before .before .more .given .1) at (c .before .before .before .before .before .before .gather-run .ensures)) (c .but-least .ensures)
-
 pub gather-spec : {M : Type 1} → statement M
 gather-spec =
     tie.close
@@ -62,9 +49,9 @@ gather-spec =
     (search needs)
     (search needs)
     (λ c. search (needs, walk-size))
-    returns
+    (λ c. search (needs, sweep-breaks, some))
     (λ c κs. search (needs, some))
-    loop-less
-    loop-again
+    (λ c. search (needs, fewer, some))
+    (λ c. search (needs, sweep-on, some))
     (λ c. c .before .before .loop .inv .size)
     (λ c. search (needs, sweep-ends, holds)))
