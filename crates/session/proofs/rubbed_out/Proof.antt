@@ -6,11 +6,8 @@ use Rattle.session.proofs.Steps.{rubbed-over, rubbed-none, rubbed-last}
 use Rattle.session.proofs.rubbed_out.Statement.{statement}
 use Rattle.session.proofs.rubbed_out.Tie as tie
 
-returns-3 : tie.Need-returns-3
-unfolding shortened
-returns-3 c = sym (rubbed-last _ (c .before .before .if1 .left) (c .before .if2 .left))
-
 pub rubbed-out-spec : {M : Type 1} → statement M
+unfolding shortened
 rubbed-out-spec =
     tie.close
     (tie.spec
@@ -24,4 +21,4 @@ rubbed-out-spec =
     (search needs)
     (search needs)
     (search needs)
-    returns-3)
+    (λ c. sym (rubbed-last _ (c .before .before .if1 .left) (c .before .if2 .left))))

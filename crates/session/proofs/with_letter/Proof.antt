@@ -21,11 +21,8 @@ led c =
 room : (c : tie.After-known-told) → c .before .before .before .before .before .before .args .session .len < 24
 room c = led-room _ _ _ _ _ (sym (c .before .before .before .leads .ensures) ∙ c .before .node .given .1)
 
-returns : tie.Need-returns
-unfolding lengthened
-returns c = sym (led (c .before .before .before) ∙ ap (struck _ _) (c .before .node .given .1))
-
 pub with-letter-spec : {M : Type 1} → statement M
+unfolding lengthened
 with-letter-spec =
     tie.close
     (tie.spec
@@ -40,5 +37,5 @@ with-letter-spec =
     (λ c. omega (arith, room c))
     (λ c. record { fits = omega (arith, room c) })
     (search needs)
-    returns
+    (λ c. sym (led (c .before .before .before) ∙ ap (struck _ _) (c .before .node .given .1)))
     (λ c. sym (led (c .before .before .before) ∙ ap (struck _ _) (c .before .why .given .1))))

@@ -25,11 +25,8 @@ returns : tie.Need-returns Inv-loop μ-loop
 unfolding namesAllowed
 returns c = sym (fail _ _ _ (c .before .before .before .loop-test .taken) (breaks _ _ (told (c .before)) (c .if1 .taken)) (c .before .before .before .before .loop .inv))
 
-returns-2 : tie.Need-returns-2 Inv-loop μ-loop
-unfolding namesAllowed
-returns-2 c = sym (finish _ _ _ (search needs) (c .before .loop .inv))
-
 pub names-allowed-spec : {M : Type 1} → statement M
+unfolding namesAllowed
 names-allowed-spec =
     tie.close
     (tie.spec
@@ -42,4 +39,4 @@ names-allowed-spec =
     (search needs)
     (search needs)
     (λ c. search (needs, pass, holds, told))
-    returns-2)
+    (λ c. sym (finish _ _ _ (search needs) (c .before .loop .inv))))

@@ -29,11 +29,8 @@ returns c =
     let more : at .i < c .before .before .before .before .before .before .before .before .args .stands - 1 = search needs in
     sym (fail _ _ _ more (breaks _ _ (told (c .before)) (c .if1 .taken)) (at .inv))
 
-returns-2 : tie.Need-returns-2 Inv-loop μ-loop
-unfolding namesInOrder
-returns-2 c = sym (finish _ _ _ (search needs) (c .before .loop .inv))
-
 pub names-in-order-spec : {M : Type 1} → statement M
+unfolding namesInOrder
 names-in-order-spec =
     tie.close
     (tie.spec
@@ -49,4 +46,4 @@ names-in-order-spec =
     (search needs)
     (search needs)
     (λ c. pass _ _ _ (search needs) (holds _ _ (told (c .before)) (c .if1 .left)) (search needs))
-    returns-2)
+    (λ c. sym (finish _ _ _ (search needs) (c .before .loop .inv))))

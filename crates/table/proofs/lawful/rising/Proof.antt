@@ -24,11 +24,8 @@ returns c =
     let more : at .i < length (c .before .before .before .before .before .args .starts .now) - 1 = search needs in
     sym (fail _ _ _ more (lt-leb _ _ (c .if1 .taken)) (at .inv))
 
-returns-2 : tie.Need-returns-2 Inv-loop μ-loop
-unfolding rising
-returns-2 c = sym (finish _ _ _ (search needs) (c .before .loop .inv))
-
 pub rising-spec : {M : Type 1} → statement M
+unfolding rising
 rising-spec =
     tie.close
     (tie.spec
@@ -45,4 +42,4 @@ rising-spec =
     (search needs)
     (search needs)
     (λ c. pass _ _ _ (search needs) (le-leb _ _ (c .if1 .left)) (search needs))
-    returns-2)
+    (λ c. sym (finish _ _ _ (search needs) (c .before .loop .inv))))

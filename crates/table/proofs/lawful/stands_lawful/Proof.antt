@@ -40,11 +40,8 @@ returns-2 : tie.Need-returns-2 Inv-loop μ-loop
 unfolding standsLawful
 returns-2 c = sym (fail _ _ _ (c .before .before .before .before .before .before .loop-test .taken) (stand-over _ _ _ _ _ (c .if2 .taken)) (c .before .before .before .before .before .before .before .loop .inv))
 
-returns-3 : tie.Need-returns-3 Inv-loop μ-loop
-unfolding standsLawful
-returns-3 c = sym (finish _ _ _ (search needs) (c .before .loop .inv))
-
 pub stands-lawful-spec : {M : Type 1} → statement M
+unfolding standsLawful
 stands-lawful-spec =
     tie.close
     (tie.spec
@@ -63,4 +60,4 @@ stands-lawful-spec =
     (search needs)
     (search needs)
     (λ c. search (needs, pass, stand-in, holds, told))
-    returns-3)
+    (λ c. sym (finish _ _ _ (search needs) (c .before .loop .inv))))
