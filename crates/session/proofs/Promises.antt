@@ -6,10 +6,9 @@ use mathlib.Core.Bool.{true, false}
 use mathlib.Core.List.{List, [], _∷_, _++_}
 use Prim.Native.Nat.{ℕ, _≤_, _<_}
 use native.Mathlib.Omega.{arith}
-use lib.Dec.{eqb}
 use lib.ListN.{length, getD}
-use borrow.Author.Tests.{eqb-true, eqb-false}
-use Rattle.base.proofs.Tests.{which, le-or-lt}
+use borrow.Table.Steps.{cases}
+use Rattle.base.proofs.Tests.{le-or-lt}
 use Rattle.rules.specs.declared.Session.{Session}
 use Rattle.rules.specs.Numbers.{verdictNumber}
 use Rattle.rules.specs.Names.{allowed}
@@ -47,12 +46,11 @@ data Typing (s : Session) (b : ℕ) : Type 0 where
   open-to : s .len < 24 → allowed b ≡ true → Typing s b
 
 typing : (s : Session) (b : ℕ) → Typing s b
-typing s b = ⊎-elim (λ (h : s .len ≤ 24). within h (which (eqb (s .len) 24)) (which (allowed b))) over (le-or-lt (s .len) 24)
-  where
-    within : s .len ≤ 24 → (eqb (s .len) 24 ≡ true) ⊎ (eqb (s .len) 24 ≡ false) → (allowed b ≡ true) ⊎ (allowed b ≡ false) → Typing s b
-    within h (inl e) a = full (eqb-true (s .len) 24 e)
-    within h (inr e) (inl a) = let n = eqb-false (s .len) 24 e in open-to (omega arith) a
-    within h (inr e) (inr a) = let n = eqb-false (s .len) 24 e in unallowed (omega arith) a
+typing s b =
+    ⊎-elim
+    (λ (h : 24 ≤ s .len). ⊎-elim (λ (k : s .len ≤ 24). full (omega arith)) over (le-or-lt (s .len) 24))
+    (λ (h : s .len < 24). cases (allowed b) (open-to h) (unallowed h))
+    (le-or-lt 24 (s .len))
 
 module _ (nodes : List ℕ) (s : Session) (b : ℕ) where
   abbrev out : Stroke
@@ -110,11 +108,7 @@ data Rubbing (s : Session) : Type 0 where
   some : s .len ≤ 24 → 0 < s .len → Rubbing s
 
 rubbing : (s : Session) → Rubbing s
-rubbing s = ⊎-elim (λ (h : s .len ≤ 24). within h (le-or-lt (s .len) 0)) over (le-or-lt (s .len) 24)
-  where
-    within : s .len ≤ 24 → (s .len ≤ 0) ⊎ (0 < s .len) → Rubbing s
-    within h (inl k) = none (omega arith)
-    within h (inr k) = some h k
+rubbing s = ⊎-elim (λ (h : s .len ≤ 24). ⊎-elim (λ (k : s .len ≤ 0). none (omega arith)) (some h) (le-or-lt (s .len) 0)) over (le-or-lt (s .len) 24)
 
 module _ (s : Session) where
   last-out : s .len ≤ 24 → 0 < s .len → rubbedOut s ≡ passed (shortened s)

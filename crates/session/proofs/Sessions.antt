@@ -2,12 +2,10 @@
 -- And that a rub-out undoes a typed letter. Assumes nothing.
 use mathlib.Core.Path.{_≡_, refl, sym, ap, _∙_, subst, ap₂}
 use mathlib.Core.Logic.{⊎-elim}
-use mathlib.Core.Bool.{Bool, true, false}
 use mathlib.Core.List.{List, []}
 use Prim.Native.Nat.{ℕ, _≤_}
 use native.Mathlib.Omega.{arith}
 use lib.ListN.{length, getD}
-use Rattle.base.specs.Lists.{In}
 use Rattle.base.proofs.Begins.{in-or-out}
 use Rattle.rules.specs.declared.Session.{Session}
 use Rattle.rules.specs.declared.Verdict.{Verdict}
@@ -48,22 +46,13 @@ module _ (t : Table) (s : Session) (l : LawfulSession t s) where
 
   -- where its letters came to is their node
   pub lawful-reached : reached s ≡ nodeOf t (lettersOf s)
-  lawful-reached = ⊎-elim within without (in-or-out p (beginnings t))
-    where
-      p : List ℕ
-      p = lettersOf s
-
-      found : (b : Bool) → lost (length p) (nodeOr0 t p) ≡ b → lost (s .len) (getD (s .path) (s .len) 0) ≡ b
-      found b e = ap₂ lost many lawful-last ∙ e
-
-      within : In p (beginnings t) → reached s ≡ nodeOf t p
-      within h =
-          reached-node s lawful-short (found false (lost-in t p h))
-          ∙ ap (λ (n : ℕ). At (node n)) (lawful-last ∙ node-in t p h)
-          ∙ sym (node-of-in t p h)
-
-      without : (In p (beginnings t) → ⊥) → reached s ≡ nodeOf t p
-      without h = reached-nowhere s lawful-short (found true (lost-out t p h)) ∙ sym (node-of-out t p h)
+  lawful-reached =
+      let p = lettersOf s in
+      let found : lost (s .len) (getD (s .path) (s .len) 0) ≡ lost (length p) (nodeOr0 t p) = ap₂ lost many lawful-last in
+      ⊎-elim
+      (λ h. reached-node s lawful-short (found ∙ lost-in t p h) ∙ ap (λ (n : ℕ). At (node n)) (lawful-last ∙ node-in t p h) ∙ sym (node-of-in t p h))
+      (λ h. reached-nowhere s lawful-short (found ∙ lost-out t p h) ∙ sym (node-of-out t p h))
+      (in-or-out p (beginnings t))
 
 pub fresh-lawful : (t : Table) → LawfulSession t freshSession
 fresh-lawful t = subst (LawfulSession t) (sym (fresh-is t)) (session-lawful t [] (text-taken [] (omega arith) refl))

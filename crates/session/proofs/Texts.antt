@@ -1,7 +1,7 @@
 -- The session of a text: its letters, its path place by place, and what one letter more and one less make of it.
 -- Assumes nothing.
 use mathlib.Core.Path.{_≡_, refl, sym, ap, _∙_}
-use mathlib.Core.Logic.{_⊎_, inl, inr}
+use mathlib.Core.Logic.{inl, ⊎-elim}
 use mathlib.Core.List.{List, [], _∷_, _++_, append-assoc}
 use Prim.Native.Nat.{ℕ, zero, suc, _+_, _-_, _≤_, _<_}
 use native.Mathlib.Omega.{arith}
@@ -66,13 +66,13 @@ module _ (t : Table) (p : List ℕ) where
   -- at each place of the session's path; also where there is none
   pub path-at : length p ≤ 24 → (i : ℕ) → getD (sessionOf t p .path) i 0 ≡ pathAt t p i
   unfolding sessionOf
-  path-at short i = step (le-or-lt 25 i)
-    where
-      step : (25 ≤ i) ⊎ (i < 25) → getD (each (pathAt t p) (upTo 25)) i 0 ≡ pathAt t p i
-      step (inl h) =
-          let e : length (each (pathAt t p) (upTo 25)) ≤ i = omega (arith, length-each (pathAt t p) (upTo 25), length-from 0 25) in
-          List·getD-eq-default (each (pathAt t p) (upTo 25)) 0 e ∙ sym (path-behind i (omega arith))
-      step (inr h) = let z : 0 + i ≡ i = omega arith in getD-each-from (pathAt t p) 0 25 i 0 h ∙ ap (pathAt t p) z
+  path-at short i =
+      ⊎-elim
+      (λ (h : 25 ≤ i).
+      let e : length (each (pathAt t p) (upTo 25)) ≤ i = omega (arith, length-each (pathAt t p) (upTo 25), length-from 0 25) in
+      List·getD-eq-default (each (pathAt t p) (upTo 25)) 0 e ∙ sym (path-behind i (omega arith)))
+      (λ (h : i < 25). let z : 0 + i ≡ i = omega arith in getD-each-from (pathAt t p) 0 25 i 0 h ∙ ap (pathAt t p) z)
+      (le-or-lt 25 i)
 
   -- at the text's length it is the text's node, or 0
   pub path-last : length p ≤ 24 → getD (sessionOf t p .path) (sessionOf t p .len) 0 ≡ nodeOr0 t p
@@ -114,11 +114,11 @@ module _ (t : Table) (p : List ℕ) (b : ℕ) where
 
   -- it changes one place of the path
   path-other : (i : ℕ) → (i ≡ suc (length p) → ⊥) → pathAt t p i ≡ pathAt t q i
-  path-other i other = step (le-or-lt i (length p))
-    where
-      step : (i ≤ length p) ⊎ (length p < i) → pathAt t p i ≡ pathAt t q i
-      step (inl h) = rw (le-leb i (length p) h, le-leb i (length q) (omega (arith, longer)), take-append-le i p (b ∷ []) h)
-      step (inr h) = rw (lt-leb i (length p) h, lt-leb i (length q) (omega (arith, longer)))
+  path-other i other =
+      ⊎-elim
+      (λ (h : i ≤ length p). rw (le-leb i (length p) h, le-leb i (length q) (omega (arith, longer)), take-append-le i p (b ∷ []) h))
+      (λ (h : length p < i). rw (lt-leb i (length p) h, lt-leb i (length q) (omega (arith, longer))))
+      (le-or-lt i (length p))
 
   path-new : nodeOr0 t q ≡ pathAt t q (suc (length p))
   path-new = rw (le-leb (suc (length p)) (length q) (omega (arith, longer)), take-all (suc (length p)) q (omega (arith, longer)))

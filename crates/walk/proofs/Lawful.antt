@@ -91,7 +91,6 @@ module _ (t : Table) (g : Grid) (words : List ℕ) (written : begins (nodeWords 
               ∙ ap (siblings words (pastOf (beginnings t) j) b fuel) w
               ∙ rest (pastOf (beginnings t) c) (look-next (beginnings t) tree j inside b c l h other) (omega arith)
 
-
       turns : (fuel c : ℕ) → Looking (beginnings t) j b c → pastOf (beginnings t) j < c + fuel → Finds t words j b fuel c
       turns zero c l enough = absurd (omega (arith, l .within))
       turns (suc fuel) c l enough = turn fuel c l enough (turns fuel)

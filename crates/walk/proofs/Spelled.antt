@@ -5,7 +5,7 @@ use mathlib.Core.Bool.{true, false, _&&_}
 use mathlib.Core.List.{List, [], _∷_}
 use Prim.Native.Nat.{ℕ, suc, _+_, _*_, _/_, _≤_, _<_}
 use native.Mathlib.Omega.{arith}
-use lib.Dec.{ltb, leb}
+use lib.Dec.{ltb}
 use lib.ListN.{length, getD}
 use borrow.Table.Steps.{cases}
 use borrow.Author.Tests.{lt-ltb, le-ltb, le-leb, ltb-true, leb-true}
@@ -31,15 +31,6 @@ use Rattle.walk.specs.Entries.{entryWord, entryIn, entryWithin, entryRea
 -- ---- on any words
 
 module _ (places : ℕ) (e : Entry) where
-  pub no-region : 64 ≤ e .region → false ≡ entryWithin places e
-  unfolding entryWithin
-  no-region h = rw (le-ltb _ _ h)
-
-  pub past-decides : e .region < 64 → leb (e .past .0) places ≡ entryWithin places e
-  unfolding entryWithin
-  past-decides h = rw (lt-ltb _ _ h)
-
-  -- both ways
   pub within-facts : entryWithin places e ≡ true → (e .region < 64) × (e .past .0 ≤ places)
   unfolding entryWithin
   within-facts q = let w = and-parts _ _ q in (ltb-true _ _ (w .0), leb-true _ _ (w .1))

@@ -1,8 +1,12 @@
 -- `entries::usable` tests what the definition does, in its order. Assumes nothing.
 use borrow.Author.Needs.{needs}
 use native.Mathlib.Omega.{arith}
+use mathlib.Core.Path.{sym}
+use borrow.Author.Tests.{le-ltb, lt-leb}
+use Rattle.base.proofs.Tests.{every-not}
 use Rattle.walk.proofs.Spelled.{within-facts}
-use Rattle.search.proofs.Reading.{entry-over, no-places, first-decides}
+use Rattle.search.specs.Searches.{usable}
+use Rattle.search.proofs.Reading.{first-decides}
 use Rattle.search.proofs.entries.usable.Statement.{statement}
 use Rattle.search.proofs.entries.usable.Tie as tie
 
@@ -13,11 +17,12 @@ cast-result-2 : tie.Need-cast-result-2
 cast-result-2 c = omega (arith, c .shared-slice-known .given (c .before .before .before .before .before .before .args .entry .first .0))
 
 pub usable-spec : {M : Type 1} → statement M
+unfolding usable
 usable-spec =
     tie.close
     (tie.spec
-    (λ c. search (needs, entry-over))
-    (λ c. search (needs, no-places))
+    (λ c. sym (every-not _ 0 (lt-leb _ _ (c .if1 .taken))))
+    (λ c. sym (every-not _ 1 (le-ltb _ _ (c .if2 .taken))))
     (search needs)
     (search needs)
     shared-slice-read-result
