@@ -11,7 +11,7 @@ use lib.Seq.{take-all, take-length, take-suc, take-append-seam, take-append-le, 
 use borrow.Author.Tests.{le-leb, lt-leb}
 use Rattle.base.specs.Lists.{upTo, each, In}
 use Rattle.base.proofs.Tests.{le-or-lt}
-use Rattle.base.proofs.Members.{length-each}
+use Rattle.base.proofs.Members.{length-each, replicate-at}
 use Rattle.base.proofs.Runs.{length-from, getD-each-from, each-constant, set-each}
 use Rattle.rules.specs.declared.Session.{Session}
 use Rattle.rules.specs.Tables.{Table}
@@ -25,16 +25,11 @@ use Rattle.session.specs.Strokes.{lengthened, shortened}
 
 -- ---- a text with zeros behind it, in n places
 
-zeros : (m k : ℕ) → getD (replicate {A = ℕ} m 0) k 0 ≡ 0
-zeros zero k = refl
-zeros (suc m) zero = refl
-zeros (suc m) (suc k) = zeros m k
-
 module _ (n : ℕ) (p : List ℕ) where
   padded-behind : getD (p ++ replicate (n - length p) 0) (length p) 0 ≡ 0
   padded-behind =
       let e : length p ≡ length p + 0 = omega arith in
-      ap (λ (k : ℕ). getD (p ++ replicate (n - length p) 0) k 0) e ∙ getD-append-add p (replicate (n - length p) 0) 0 0 ∙ zeros (n - length p) 0
+      ap (λ (k : ℕ). getD (p ++ replicate (n - length p) 0) k 0) e ∙ getD-append-add p (replicate (n - length p) 0) 0 0 ∙ replicate-at (n - length p) 0 0
 
   padded-typed : (b : ℕ) → length p < n → set (p ++ replicate (n - length p) 0) (length p) b ≡ (p ++ (b ∷ [])) ++ replicate (n - length (p ++ (b ∷ []))) 0
   padded-typed b h =
