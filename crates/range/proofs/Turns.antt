@@ -155,7 +155,8 @@ module _ (east north : List ℤ) (order firsts pasts : List ℕ) (rect : Rect) (
       pub sweep-breaks : (t : Tally) (found′ : List ℕ) → tallied t found′ ≡ gathered east north rect found n (runOf order firsts pasts r) → t ≡ Broken
           → tallied Broken found′ ≡ gathered east north rect found₀ 0 (touchedStands order firsts pasts regions)
       sweep-breaks t found′ e q =
-          sym (w .same ∙ ap (gathered east north rect found n) here-and-later ∙ walk-breaks east north rect (runOf order firsts pasts r) (touchedStands order firsts pasts (drop 1 left)) found found′ n (rw q at e))
+          let later = touchedStands order firsts pasts (drop 1 left) in
+          sym (w .same ∙ ap (gathered east north rect found n) here-and-later ∙ walk-breaks east north rect (runOf order firsts pasts r) later found found′ n (rw q at e))
 
     pub sweep-ends : isEmpty left ≡ true → tallied (Count n) found ≡ gathered east north rect found₀ 0 (touchedStands order firsts pasts regions)
     unfolding gathered

@@ -6,12 +6,6 @@ use borrow.Author.Tests.{eq-eqb, ne-eqb}
 use Rattle.node.proofs.last_byte.Statement.{statement}
 use Rattle.node.proofs.last_byte.Tie as tie
 
-shared-slice-read-word : tie.Need-shared-slice-read-word
-shared-slice-read-word c = omega (arith, c .before .before .before .before .before .before .before .pre .inside (omega arith), c .before .wide .ensures)
-
-returns-2 : tie.Need-returns-2
-returns-2 c = c .word .ensures ∙ simp (c .before .before .wide .ensures, ne-eqb _ _ (c .before .before .before .before .before .if1 .left))
-
 pub last-byte-spec : {M : Type 1} → statement M
 last-byte-spec =
     tie.close
@@ -24,6 +18,6 @@ last-byte-spec =
     (search needs)
     (λ c κs. search needs)
     (λ c. omega (arith, c .before .before .before .before .before .before .pre .inside (omega arith), c .wide .ensures))
-    shared-slice-read-word
+    (λ c. omega (arith, c .before .before .before .before .before .before .before .pre .inside (omega arith), c .before .wide .ensures))
     (λ c κs. search needs)
-    returns-2)
+    (λ c. c .word .ensures ∙ simp (c .before .before .wide .ensures, ne-eqb _ _ (c .before .before .before .before .before .if1 .left))))

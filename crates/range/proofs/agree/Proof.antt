@@ -15,4 +15,5 @@ returns-3 c = rw (le-leb _ 1024 (c .before .if1 .left), le-leb _ _ (c .if2 .left
 
 pub agree-spec : {M : Type 1} → statement M
 unfolding agree
-agree-spec = tie.close (tie.spec (λ c. sym (every-not _ 0 (lt-leb _ _ (c .if1 .taken)))) (λ c. sym (every-not _ 1 (lt-leb _ _ (c .if2 .taken)))) returns-3)
+agree-spec =
+    tie.close (tie.spec (λ c. sym (every-not _ 0 (lt-leb _ _ (c .if1 .taken)))) (λ c. sym (every-not _ 1 (lt-leb _ _ (c .if2 .taken)))) returns-3)

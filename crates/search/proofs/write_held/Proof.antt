@@ -12,11 +12,6 @@ Inv-loop held len found₀ values₀ i₀ found values i = Writing held len foun
 abbrev μ-loop : tie.MeasureT-loop
 μ-loop held len found₀ values₀ i₀ found values i = len - i
 
-slice-write-values : tie.Need-slice-write-values Inv-loop μ-loop
-slice-write-values c =
-    let w = c .before .before .before .before .loop .inv in
-    omega (arith, values-long _ _ _ _ _ _ _ w, w .fits .values-fit)
-
 loop-again : tie.Need-loop-again Inv-loop μ-loop
 loop-again c = rw (c .before .stand-of .ensures, c .value-of .ensures) (write-next _ _ _ _ _ _ _ (c .before .before .before .before .loop .inv) (c .before .before .before .loop-test .taken))
 
@@ -31,10 +26,10 @@ write-held-spec =
     (search needs)
     (λ c κs. search needs)
     (search needs)
-    (λ c. let w = c .before .before .before .loop .inv in omega (arith, stands-long _ _ _ _ _ _ _ w, w .fits .stands-fit))
+    (λ c. omega (arith, stands-long _ _ _ _ _ _ _ (c .before .before .before .loop .inv)))
     (λ c κs. search needs)
     (search needs)
-    slice-write-values
+    (λ c. omega (arith, values-long _ _ _ _ _ _ _ (c .before .before .before .before .loop .inv)))
     (search needs)
     (search needs)
     loop-again

@@ -7,9 +7,6 @@ use Rattle.rules.proofs.Lawful.{refused-shape, refused-grid, refused-name, refu
 use Rattle.table.proofs.table_refusal.Statement.{statement}
 use Rattle.table.proofs.table_refusal.Tie as tie
 
-cast-stands : tie.Need-cast-stands
-cast-stands c = omega (arith, shape-parts _ (holds _ _ (c .before .before .before .shape-lawful .ensures) (c .before .before .if1 .left)) .few)
-
 stands-lawful-requires : tie.Need-stands-lawful-requires
 stands-lawful-requires c κs =
     let shape = shape-parts _ (holds _ _ (c .before .before .before .before .before .before .before .shape-lawful .ensures) (c .before .before .before .before .before .before .if1 .left)) in
@@ -23,7 +20,7 @@ table-refusal-spec =
     (λ c. search (needs, refused-shape, breaks))
     (λ c κs. search needs)
     (λ c. search (needs, refused-grid, holds, breaks))
-    cast-stands
+    (λ c. omega (arith, shape-parts _ (holds _ _ (c .before .before .before .shape-lawful .ensures) (c .before .before .if1 .left)) .few))
     (λ c κs. search needs)
     (λ c. search (needs, refused-name, holds, breaks))
     (λ c κs. search needs)

@@ -12,9 +12,6 @@ Inv-loop lengths shared sum₀ end stand₀ sum stand = Growing lengths shared s
 abbrev μ-loop : tie.MeasureT-loop
 μ-loop lengths shared sum₀ end stand₀ sum stand = end - stand
 
-sub-word : tie.Need-sub-word Inv-loop μ-loop
-sub-word c = c .before .before .before .before .before .before .pre .0 .part (c .before .before .before .loop .stand) (search needs)
-
 add-sum : tie.Need-add-sum Inv-loop μ-loop
 add-sum c =
     omega (
@@ -32,7 +29,7 @@ grown-spec =
     (search needs)
     (search needs)
     (search needs)
-    sub-word
+    (λ c. c .before .before .before .before .before .before .pre .0 .part (c .before .before .before .loop .stand) (search needs))
     (λ c κs. search needs)
     add-sum
     (search needs)

@@ -16,14 +16,6 @@ Inv-loop shared region bytes first bits₀ past₀ bits past = Ending shared fir
 abbrev μ-loop : tie.MeasureT-loop
 μ-loop shared region bytes first bits₀ past₀ bits past = length shared - past
 
-loop-holds : tie.Need-loop-holds Inv-loop μ-loop
-loop-holds c = (ending _ _ _ (search needs), marking-more _ _ _ _ _ (marking _ _) (c .region-at .ensures .0) (c .region-at .ensures .1))
-
-region-at-requires-2 : tie.Need-region-at-requires-2 Inv-loop μ-loop
-region-at-requires-2 c κs =
-    let p = c .before .before .before .before .before .before .before .before .before .pre in
-    (p .0, omega (arith, p .1))
-
 pub regions-under-spec : {M : Type 1} → statement M
 regions-under-spec =
     tie.close
@@ -35,10 +27,10 @@ regions-under-spec =
     (λ c κs. search needs)
     (search needs)
     (search needs)
-    loop-holds
+    (λ c. (ending _ _ _ (search needs), marking-more _ _ _ _ _ (marking _ _) (c .region-at .ensures .0) (c .region-at .ensures .1)))
     (search needs)
     (search needs)
-    region-at-requires-2
+    (λ c κs. (c .before .before .before .before .before .before .before .before .before .pre .0, omega arith))
     (search needs)
     (search needs)
     (search needs)

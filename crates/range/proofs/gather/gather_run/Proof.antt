@@ -21,9 +21,6 @@ Inv-loop east north order rect found₀ before end i₀ n₀ found i n = Gatheri
 abbrev μ-loop : tie.MeasureT-loop
 μ-loop east north order rect found₀ before end i₀ n₀ found i n = end - i
 
-loop-holds : tie.Need-loop-holds Inv-loop μ-loop
-loop-holds c = record { wide = search needs; fits = search needs; room = search needs; few = omega arith; size = refl; same = refl }
-
 -- what the test says, of the coordinates and not of their bits
 told : (c : tie.After-in-rect Inv-loop μ-loop) →
     let a = c .before .before .before .before .before .before .before .before .before .before .before .args in
@@ -55,7 +52,7 @@ gather-run-spec =
     μ-loop
     (search needs)
     (search needs)
-    loop-holds
+    (λ c. record { wide = search needs; fits = search needs; room = search needs; few = omega arith; size = refl; same = refl })
     (search needs)
     (search needs)
     (λ c. omega (arith, c .shared-slice-known2 .given (c .before .before .loop .i)))

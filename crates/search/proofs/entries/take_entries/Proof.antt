@@ -24,7 +24,12 @@ loop-holds c =
     record { searching = record { asks = p .0; holds = nothing-held _ _ (p .1) (some-asked _ _ (p .0)) (few-asked _ _ (p .0)) }; rest = refl }
 
 add-e : tie.Need-add-e Inv-loop μ-loop
-add-e c = omega (arith, read-there _ _ _ _ _ (c .before .before .before .before .before .before .before .before .before .before .entry-at .ensures) (c .before .before .before .before .before .before .before .before .entry .given .1), c .before .before .before .before .before .before .before .before .before .before .before .before .before .before .before .before .good .1 .1 .1 .1 .1 .0 .0)
+add-e c =
+    omega (
+      arith,
+      read-there _ _ _ _ _ (c .before .before .before .before .before .before .before .before .before .before .entry-at .ensures) (c .before .before .before .before .before .before .before .before .entry .given .1),
+      c .before .before .before .before .before .before .before .before .before .before .before .before .before .before .before .before .good .1 .1 .1 .1 .1 .0 .0,
+    )
 
 pub take-entries-spec : {M : Type 1} → statement M
 take-entries-spec =

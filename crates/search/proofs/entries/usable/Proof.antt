@@ -10,12 +10,6 @@ use Rattle.search.proofs.Reading.{first-decides}
 use Rattle.search.proofs.entries.usable.Statement.{statement}
 use Rattle.search.proofs.entries.usable.Tie as tie
 
-shared-slice-read-result : tie.Need-shared-slice-read-result
-shared-slice-read-result c = omega (arith, c .before .before .if2 .left, within-facts _ _ (c .before .before .before .before .before .before .pre) .1)
-
-cast-result-2 : tie.Need-cast-result-2
-cast-result-2 c = omega (arith, c .shared-slice-known .given (c .before .before .before .before .before .before .args .entry .first .0))
-
 pub usable-spec : {M : Type 1} → statement M
 unfolding usable
 usable-spec =
@@ -25,6 +19,6 @@ usable-spec =
     (λ c. sym (every-not _ 1 (le-ltb _ _ (c .if2 .taken))))
     (search needs)
     (search needs)
-    shared-slice-read-result
-    cast-result-2
+    (λ c. omega (arith, c .before .before .if2 .left, within-facts _ _ (c .before .before .before .before .before .before .pre) .1))
+    (λ c. omega (arith, c .shared-slice-known .given (c .before .before .before .before .before .before .args .entry .first .0)))
     (λ c. search (needs, first-decides)))

@@ -23,7 +23,7 @@ offer-places-spec =
     μ-loop
     (search needs)
     (search needs)
-    (λ c. let p = c .before .before .before .before .pre in record { searching = p .0; run = p .1; rest = refl })
+    (λ c. search (needs, refl))
     (search needs)
     (search needs)
     (λ c κs. search needs)

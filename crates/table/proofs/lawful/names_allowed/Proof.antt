@@ -21,10 +21,6 @@ told : (c : tie.After-name-allowed Inv-loop μ-loop) →
     c .name-allowed .result ≡ nameAllowed (name (a .text .now) (a .starts .now) (c .before .before .before .loop .i))
 told c = c .name-allowed .ensures ∙ ap nameAllowed (c .before .name-of .ensures)
 
-returns : tie.Need-returns Inv-loop μ-loop
-unfolding namesAllowed
-returns c = sym (fail _ _ _ (c .before .before .before .loop-test .taken) (breaks _ _ (told (c .before)) (c .if1 .taken)) (c .before .before .before .before .loop .inv))
-
 pub names-allowed-spec : {M : Type 1} → statement M
 unfolding namesAllowed
 names-allowed-spec =
@@ -35,7 +31,7 @@ names-allowed-spec =
     (λ c. search (needs, begin))
     (λ c κs. search needs)
     (λ c κs. search needs)
-    returns
+    (λ c. sym (fail _ _ _ (search needs) (breaks _ _ (told (c .before)) (c .if1 .taken)) (c .before .before .before .before .loop .inv)))
     (search needs)
     (search needs)
     (λ c. search (needs, pass, holds, told))

@@ -1,6 +1,6 @@
 -- `lawful::names_in_order` tests each name and the next: the invariant is Scanning.
 -- Assumes nothing.
-use Prim.Native.Nat.{_+_, _-_, _<_}
+use Prim.Native.Nat.{_+_, _-_}
 use mathlib.Core.Path.{_≡_, sym, _∙_, ap₂}
 use borrow.Author.Needs.{needs}
 use Rattle.base.proofs.Tests.{breaks, holds}
@@ -22,13 +22,6 @@ told : (c : tie.After-in-order Inv-loop μ-loop) →
     c .in-order .result ≡ inOrder (name (a .text .now) (a .starts .now) i) (name (a .text .now) (a .starts .now) (i + 1))
 told c = c .in-order .ensures ∙ ap₂ inOrder (c .before .before .name-of .ensures) (c .before .name-of2 .ensures)
 
-returns : tie.Need-returns Inv-loop μ-loop
-unfolding namesInOrder
-returns c =
-    let at = c .before .before .before .before .before .loop in
-    let more : at .i < c .before .before .before .before .before .before .before .before .args .stands - 1 = search needs in
-    sym (fail _ _ _ more (breaks _ _ (told (c .before)) (c .if1 .taken)) (at .inv))
-
 pub names-in-order-spec : {M : Type 1} → statement M
 unfolding namesInOrder
 names-in-order-spec =
@@ -42,7 +35,7 @@ names-in-order-spec =
     (search needs)
     (λ c κs. search needs)
     (λ c κs. search needs)
-    returns
+    (λ c. sym (fail _ _ _ (search needs) (breaks _ _ (told (c .before)) (c .if1 .taken)) (c .before .before .before .before .before .loop .inv)))
     (search needs)
     (search needs)
     (λ c. pass _ _ _ (search needs) (holds _ _ (told (c .before)) (c .if1 .left)) (search needs))

@@ -1,6 +1,6 @@
 -- `lawful::rising` tests each start against the next: the invariant is Scanning.
 -- Assumes nothing.
-use Prim.Native.Nat.{_+_, _-_, _<_}
+use Prim.Native.Nat.{_+_, _-_}
 use mathlib.Core.Path.{sym}
 use lib.Dec.{leb}
 use lib.ListN.{length, getD}
@@ -17,13 +17,6 @@ Inv-loop starts i₀ i = Scanning (λ k. leb (getD starts k 0) (getD starts (k +
 abbrev μ-loop : tie.MeasureT-loop
 μ-loop starts i₀ i = length starts - i
 
-returns : tie.Need-returns Inv-loop μ-loop
-unfolding rising
-returns c =
-    let at = c .before .before .before .before .loop in
-    let more : at .i < length (c .before .before .before .before .before .args .starts .now) - 1 = search needs in
-    sym (fail _ _ _ more (lt-leb _ _ (c .if1 .taken)) (at .inv))
-
 pub rising-spec : {M : Type 1} → statement M
 unfolding rising
 rising-spec =
@@ -38,7 +31,7 @@ rising-spec =
     (search needs)
     (search needs)
     (search needs)
-    returns
+    (λ c. sym (fail _ _ _ (search needs) (lt-leb _ _ (c .if1 .taken)) (c .before .before .before .before .loop .inv)))
     (search needs)
     (search needs)
     (λ c. pass _ _ _ (search needs) (le-leb _ _ (c .if1 .left)) (search needs))

@@ -30,16 +30,6 @@ told c =
     let in-grid : ℤ → ℤ → Bool = λ e n. inGrid (a .grid) (record { east = e; north = n }) in
     c .holds .ensures ∙ both-arrive in-grid (getD (a .east .now) i (pos 0)) (getD (a .north .now) i (pos 0)) (search needs) (search needs)
 
-returns : tie.Need-returns Inv-loop μ-loop
-unfolding standsLawful
-returns c =
-    let at = c .before .before .before .before .before .loop in
-    sym (fail _ _ _ (c .before .before .before .before .loop-test .taken) (stand-off _ _ _ _ _ (breaks _ _ (told (c .before)) (c .if1 .taken))) (at .inv))
-
-returns-2 : tie.Need-returns-2 Inv-loop μ-loop
-unfolding standsLawful
-returns-2 c = sym (fail _ _ _ (c .before .before .before .before .before .before .loop-test .taken) (stand-over _ _ _ _ _ (c .if2 .taken)) (c .before .before .before .before .before .before .before .loop .inv))
-
 pub stands-lawful-spec : {M : Type 1} → statement M
 unfolding standsLawful
 stands-lawful-spec =
@@ -53,10 +43,10 @@ stands-lawful-spec =
     (search needs)
     (search needs)
     (λ c κs. search needs)
-    returns
+    (λ c. sym (fail _ _ _ (search needs) (stand-off _ _ _ _ _ (breaks _ _ (told (c .before)) (c .if1 .taken))) (c .before .before .before .before .before .loop .inv)))
     (search needs)
     (search needs)
-    returns-2
+    (λ c. sym (fail _ _ _ (search needs) (stand-over _ _ _ _ _ (c .if2 .taken)) (c .before .before .before .before .before .before .before .loop .inv)))
     (search needs)
     (search needs)
     (λ c. search (needs, pass, stand-in, holds, told))

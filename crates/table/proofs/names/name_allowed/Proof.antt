@@ -11,4 +11,10 @@ use Rattle.table.proofs.names.name_allowed.Tie as tie
 
 pub name-allowed-spec : {M : Type 1} → statement M
 unfolding nameAllowed
-name-allowed-spec = tie.close (tie.spec (λ c. sym (every-not _ 0 (lt-leb _ _ (c .if1 .taken)))) (λ c. sym (every-not _ 1 (lt-leb _ _ (c .if2 .taken)))) (λ c κs. search needs) (λ c. search (needs, name-bytes)))
+name-allowed-spec =
+    tie.close
+    (tie.spec
+    (λ c. sym (every-not _ 0 (lt-leb _ _ (c .if1 .taken))))
+    (λ c. sym (every-not _ 1 (lt-leb _ _ (c .if2 .taken))))
+    (λ c κs. search needs)
+    (λ c. search (needs, name-bytes)))

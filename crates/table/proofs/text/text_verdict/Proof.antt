@@ -9,4 +9,10 @@ use Rattle.table.proofs.text.text_verdict.Tie as tie
 
 pub text-verdict-spec : {M : Type 1} → statement M
 unfolding textRefusal
-text-verdict-spec = tie.close (tie.spec (λ c. rw (lt-ltb _ _ (c .if1 .taken))) (λ c κs. search needs) (λ c. rw (le-ltb _ _ (c .before .before .if1 .left), breaks _ _ (c .before .bytes-allowed .ensures) (c .if2 .taken))) (λ c. rw (le-ltb _ _ (c .before .before .if1 .left), holds _ _ (c .before .bytes-allowed .ensures) (c .if2 .left))))
+text-verdict-spec =
+    tie.close
+    (tie.spec
+    (λ c. rw (lt-ltb _ _ (c .if1 .taken)))
+    (λ c κs. search needs)
+    (λ c. rw (le-ltb _ _ (c .before .before .if1 .left), breaks _ _ (c .before .bytes-allowed .ensures) (c .if2 .taken)))
+    (λ c. rw (le-ltb _ _ (c .before .before .if1 .left), holds _ _ (c .before .bytes-allowed .ensures) (c .if2 .left))))
