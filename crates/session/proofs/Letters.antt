@@ -2,7 +2,7 @@
 -- Assumes nothing.
 use mathlib.Core.Path.{_≡_, refl, sym, ap, _∙_}
 use mathlib.Core.Logic.{⊎-elim}
-use mathlib.Core.Bool.{Bool, true, false, cond}
+use mathlib.Core.Bool.{true, false}
 use mathlib.Core.List.{List, [], _∷_, _++_}
 use Prim.Native.Nat.{ℕ, _-_, _≤_, _<_}
 use native.Mathlib.Omega.{arith}
@@ -55,12 +55,10 @@ rubbed-allowed p e =
 -- the numbers are the rules' own: 7 is none of them
 pub type-not-seven : (p : List ℕ) (b : ℕ) → typeRefusal p b ≡ 7 → ⊥
 unfolding typeRefusal
-type-not-seven p b = step (leb 24 (length p)) (allowed b)
-  where
-    step : (full spelled : Bool) → _≡_ {A = ℕ} (cond full 9 (cond spelled 0 8)) 7 → ⊥
-    step true a e = omega arith
-    step false true e = omega arith
-    step false false e = omega arith
+type-not-seven p b e =
+    cases (leb 24 (length p))
+    (λ f. omega (arith, rw f at e))
+    (λ f. cases (allowed b) (λ a. omega (arith, rw (f, a) at e)) (λ a. omega (arith, rw (f, a) at e)))
 
 pub rub-not-seven : (p : List ℕ) → rubRefusal p ≡ 7 → ⊥
 rub-not-seven [] e = omega arith

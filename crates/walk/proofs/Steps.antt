@@ -2,7 +2,7 @@
 -- Assumes nothing.
 use mathlib.Core.Path.{_≡_, refl, sym, ap, _∙_}
 use mathlib.Core.List.{List}
-use Prim.Native.Nat.{ℕ, zero, suc, _+_, _/_, _≤_, _<_}
+use Prim.Native.Nat.{ℕ, zero, suc, _+_, _-_, _/_, _≤_, _<_}
 use native.Mathlib.Omega.{arith}
 use native.Mathlib.Numerals.{add-one}
 use lib.ListN.{length, drop, getD, drop-of-length-le}
@@ -58,32 +58,25 @@ module _ (words : List ℕ) (above byte : ℕ) where
     done h = sym (s .same ∙ siblings-past words past byte c (s .fuel) h)
 
     module _ (more : c < past) where
-      -- so there is fuel for one turn more
-      left : (f : ℕ) × (s .fuel ≡ suc f)
-      left = some (s .fuel) (s .enough)
-        where
-          some : (f : ℕ) → past < c + f → (e : ℕ) × (f ≡ suc e)
-          some zero h = absurd (omega arith)
-          some (suc e) h = (e, refl)
-
-      turn : childIn words above byte ≡ siblings words past byte (suc (left .0)) c
-      turn = s .same ∙ ap (λ (f : ℕ). siblings words past byte f c) (left .1)
+      -- there is fuel for one turn more
+      turn : childIn words above byte ≡ siblings words past byte (suc (s .fuel - 1)) c
+      turn = let one : s .fuel ≡ suc (s .fuel - 1) = omega (arith, s .enough) in s .same ∙ ap (λ (f : ℕ). siblings words past byte f c) one
 
       pub found : nodeWord words c 1 ≡ byte → At (node c) ≡ childIn words above byte
-      found e = sym (turn ∙ siblings-here words past byte c (left .0) more e)
+      found e = sym (turn ∙ siblings-here words past byte c (s .fuel - 1) more e)
 
       module _ (other : nodeWord words c 1 ≡ byte → ⊥) where
         pub broken : nodeWord words c 4 ≤ c → Broken ≡ childIn words above byte
-        broken h = sym (turn ∙ siblings-back words past byte c (left .0) more other h)
+        broken h = sym (turn ∙ siblings-back words past byte c (s .fuel - 1) more other h)
 
         pub onward : c < nodeWord words c 4 → Searching words above byte past (nodeWord words c 4)
         onward h =
             record {
               within = s .within;
               small = s .small;
-              fuel = left .0;
-              enough = omega (arith, s .enough, left .1);
-              same = turn ∙ siblings-next words past byte c (left .0) more other h;
+              fuel = s .fuel - 1;
+              enough = omega (arith, s .enough);
+              same = turn ∙ siblings-next words past byte c (s .fuel - 1) more other h;
             }
 
 -- the walk to a text's node stands at node n after i letters: from here it goes on with the rest
