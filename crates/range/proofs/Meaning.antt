@@ -1,6 +1,6 @@
 -- On a lawful set what is fetched from a text's listing is exactly the range of the text: by region, then by number.
 -- What is noted is the entries' runs; a region that is not looked at has no stand in the rectangle. Assumes nothing.
-use mathlib.Core.Path.{_≡_, refl, sym, ap, ap₂, _∙_}
+use mathlib.Core.Path.{_≡_, sym, ap, ap₂, _∙_}
 use mathlib.Core.Logic.{inl}
 use mathlib.Core.Bool.{Bool, true, false}
 use mathlib.Core.List.{List, [], _∷_}
@@ -39,12 +39,8 @@ use Rattle.range.specs.Fetches.{notesOf, runOf, touchedStands, agree, lo
 use Rattle.range.proofs.Gathers.{known, known-of}
 use Rattle.range.proofs.Noted.{putAll, note-list, put-at}
 
-regions-is : regions ≡ 64
-unfolding regions
-regions-is = refl
-
-blank-length : length blank ≡ 64
-unfolding blank
+blank-length : length blank ≡ regions
+unfolding blank regions
 blank-length = length-replicate {A = ℕ} 64 0
 
 module _ (t : Table) (g : Grid) (x : Index) (s : SetParts t g x) (p : List ℕ) (cells : Cells) (first : ℕ) (lists : Lists t g x p cells first) where
@@ -78,7 +74,7 @@ module _ (t : Table) (g : Grid) (x : Index) (s : SetParts t g x) (p : List ℕ) 
       own y k =
           let e = in-each asRead (entriesOf t g p) y k in
           let o = entry-own t g (s .table) p (e .0) (e .1) in
-          rw (e .2) (ap (λ (e : rules.Entry). place (asRead e)) (o .same), omega (arith, o .small, regions-is, blank-length))
+          rw (e .2) (ap (λ (e : rules.Entry). place (asRead e)) (o .same), omega (arith, o .small, blank-length))
 
   past-within : (r : ℕ) → In r (regionsUnder t g p) → entryOf t g p r .past ≤ stands t
   past-within r h =

@@ -65,9 +65,6 @@ module _ (east north : List ℤ) (g : Grid) (order entries : List ℕ) (at : Lis
       }
 
   module _ (straight : rectLawful r ≡ true) where
-    passed : (list : List ℕ) → rangeOutcome 0 list (room ∷ []) ≡ rangeOutcome (rectRefusal r) list (room ∷ [])
-    passed list = rw straight
-
     nothing-found : rangeCame (Found 0) room ≡ rangeOutcome (rectRefusal r) [] (room ∷ [])
     nothing-found = sym (rw (straight, le-leb 0 (length room) (omega arith)))
 
@@ -88,7 +85,7 @@ module _ (east north : List ℤ) (g : Grid) (order entries : List ℕ) (at : Lis
               f
               ∙ ap₂ (λ (x y : List ℤ). fetched x y g order entries cells first r room) (sym (w .easts)) (sym (w .norths))
               ∙ fetch-means t g _ s p cells first l r edges room
-              ∙ passed (rangeList t g p r);
+              ∙ rw straight;
           harmless = subst (Harmless (λ l. rangeOutcome (rectRefusal r) l (room ∷ [])) (room ∷ [])) (sym f) (rw straight (fetch-harmless east north g order entries cells first r room));
         }
 

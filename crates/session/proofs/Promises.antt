@@ -22,7 +22,7 @@ use Rattle.session.specs.Strokes.{passed, nextOn, shortened, arrived, ty
 use Rattle.session.specs.Promises.{TableOf, TypePromise, RubPromise}
 use Rattle.session.proofs.Steps.{typed-over, typed-full, typed-unallowed, typed-arrived, rubbed-over, rubbed-none, rubbed-last}
 use Rattle.session.proofs.Letters.{type-full, type-unallowed, type-taken, rub-none, rub-some, letters-count, letters-longer, letters-shorter}
-use Rattle.session.proofs.Texts.{len-of, session-shorter}
+use Rattle.session.proofs.Texts.{lawful-len, session-shorter}
 use Rattle.session.proofs.Lawful.{typed-served}
 
 -- what a promise says of a stroke on any words
@@ -31,10 +31,6 @@ Harmless refusal letters s r = (verdictNumber (r .verdict) ≡ 7) ⊎ ((verdictN
 
 abbrev Kept : Session → Stroke → Type 0
 Kept s r = (verdictNumber (r .verdict) ≡ 0 → ⊥) → r .session ≡ s
-
--- how many letters a lawful session has
-lawful-len : (t : Table) (s : Session) → LawfulSession t s → s .len ≡ length (lettersOf s)
-lawful-len t s l = ap (λ (u : Session). u .len) (l .same) ∙ len-of t (lettersOf s)
 
 -- ---- typing
 

@@ -25,7 +25,7 @@ use Rattle.session.specs.Strokes.{lost, reached}
 use Rattle.session.specs.Promises.{KeyPromise, TableOf, TypePromise, RubPromise}
 use Rattle.session.proofs.Steps.{reached-nowhere, reached-node}
 use Rattle.session.proofs.Letters.{typed-allowed, rubbed-allowed, type-not-seven, rub-not-seven}
-use Rattle.session.proofs.Texts.{len-of, session-lawful, fresh-is, path-last}
+use Rattle.session.proofs.Texts.{lawful-len, session-lawful, fresh-is, path-last}
 use Rattle.session.proofs.Lawful.{lost-in, lost-out}
 
 -- ---- a lawful session
@@ -34,11 +34,8 @@ module _ (t : Table) (s : Session) (l : LawfulSession t s) where
   short : length (lettersOf s) ≤ 24
   short = text-parts (lettersOf s) (l .allowed) .0
 
-  many : s .len ≡ length (lettersOf s)
-  many = ap (λ (u : Session). u .len) (l .same) ∙ len-of t (lettersOf s)
-
   pub lawful-short : s .len ≤ 24
-  lawful-short = omega (arith, many, short)
+  lawful-short = omega (arith, lawful-len t s l, short)
 
   -- the last place of its path is the node of its letters, or 0 where there is none
   pub lawful-last : getD (s .path) (s .len) 0 ≡ nodeOr0 t (lettersOf s)
@@ -48,7 +45,7 @@ module _ (t : Table) (s : Session) (l : LawfulSession t s) where
   pub lawful-reached : reached s ≡ nodeOf t (lettersOf s)
   lawful-reached =
       let p = lettersOf s in
-      let found : lost (s .len) (getD (s .path) (s .len) 0) ≡ lost (length p) (nodeOr0 t p) = ap₂ lost many lawful-last in
+      let found : lost (s .len) (getD (s .path) (s .len) 0) ≡ lost (length p) (nodeOr0 t p) = ap₂ lost (lawful-len t s l) lawful-last in
       ⊎-elim
       (λ h. reached-node s lawful-short (found ∙ lost-in t p h) ∙ ap (λ (n : ℕ). At (node n)) (lawful-last ∙ node-in t p h) ∙ sym (node-of-in t p h))
       (λ h. reached-nowhere s lawful-short (found ∙ lost-out t p h) ∙ sym (node-of-out t p h))

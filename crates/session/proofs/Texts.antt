@@ -89,6 +89,10 @@ module _ (t : Table) (p : List ℕ) where
   pub session-lawful : textRefusal p ≡ 0 → LawfulSession t (sessionOf t p)
   session-lawful h = record { allowed = rw letters-of h; same = rw letters-of }
 
+-- how many letters a lawful session has
+pub lawful-len : (t : Table) (s : Session) → LawfulSession t s → s .len ≡ length (lettersOf s)
+lawful-len t s l = ap (λ (u : Session). u .len) (l .same) ∙ len-of t (lettersOf s)
+
 -- no letter is the fresh session, whatever the table
 pub fresh-is : (t : Table) → freshSession ≡ sessionOf t []
 unfolding sessionOf
