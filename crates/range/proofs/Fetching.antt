@@ -85,22 +85,18 @@ module _ (east north : List ℤ) (grid : Grid) (order entries : List ℕ) (cells
 
   -- ---- harmless on any words
 
-  harmless-by : (known : Bool) (list : List ℕ) → Harmless (λ l. rangeOutcome 0 l (room ∷ [])) (room ∷ []) (cond known (rangeOutcome 0 list (room ∷ [])) (refused 7 (room ∷ [])))
-  harmless-by true list = inr (list, refl)
-  harmless-by false list = inl refl
+  harmless-asked : (lawful : Bool) (o : Outcome) → Harmless (λ l. rangeOutcome 0 l (room ∷ [])) (room ∷ []) o
+      → Harmless (λ l. rangeOutcome 0 l (room ∷ [])) (room ∷ []) (cond lawful o (refused 7 (room ∷ [])))
+  harmless-asked true o h = h
+  harmless-asked false o h = inl refl
 
   harmless-noted : (notes : Notes) (whole : Bool) (wanted : List ℕ)
       → Harmless (λ l. rangeOutcome 0 l (room ∷ [])) (room ∷ []) (fetchedBy (notesOf (notes .firsts) (notes .pasts) whole) east north order wanted rect room)
   unfolding looked
   harmless-noted notes true wanted =
       let seen = touchedStands order (notes .firsts) (notes .pasts) wanted in
-      harmless-by (all (λ s. ltb s (length east)) seen) (keep (inside east north rect) seen)
+      harmless-asked (all (λ s. ltb s (length east)) seen) _ (inr (keep (inside east north rect) seen, refl))
   harmless-noted notes false wanted = inl refl
-
-  harmless-asked : (lawful : Bool) (o : Outcome) → Harmless (λ l. rangeOutcome 0 l (room ∷ [])) (room ∷ []) o
-      → Harmless (λ l. rangeOutcome 0 l (room ∷ [])) (room ∷ []) (cond lawful o (refused 7 (room ∷ [])))
-  harmless-asked true o h = h
-  harmless-asked false o h = inl refl
 
   pub fetch-harmless : Harmless (λ l. rangeOutcome 0 l (room ∷ [])) (room ∷ []) (fetched east north grid order entries cells first rect room)
   unfolding fetched

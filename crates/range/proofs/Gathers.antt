@@ -45,25 +45,20 @@ module _ (east north : List ℤ) (rect : Rect) where
   -- ---- one list after another
 
   -- on from where a walk came to
-  onward : Tally → List ℕ → List ℕ → Gathered
+  abbrev pub onward : Tally → List ℕ → List ℕ → Gathered
   onward (Count m) room k = gathered east north rect room m k
   onward Broken room k = tallied Broken room
 
   walk-append : (l k room : List ℕ) (n : ℕ) → gathered east north rect room n (l ++ k) ≡ onward (gathered east north rect room n l .tally) (gathered east north rect room n l .room) k
-  unfolding onward gathered
+  unfolding gathered
   walk-append [] k room n = refl
   walk-append (s ∷ l) k room n =
       cases (ltb s (length east))
       (λ t. cases (inside east north rect s) (λ e. rw (t, e) (walk-append l k (set room n s) (suc n))) (λ e. rw (t, e) (walk-append l k room n)))
       (λ t. rw t)
 
-  pub walk-on : (l k room room′ : List ℕ) (n m : ℕ) → tallied (Count m) room′ ≡ gathered east north rect room n l → gathered east north rect room n (l ++ k) ≡ gathered east north rect room′ m k
-  unfolding onward
-  walk-on l k room room′ n m e = walk-append l k room n ∙ ap (λ (g : Gathered). onward (g .tally) (g .room) k) (sym e)
-
-  pub walk-breaks : (l k room room′ : List ℕ) (n : ℕ) → tallied Broken room′ ≡ gathered east north rect room n l → gathered east north rect room n (l ++ k) ≡ tallied Broken room′
-  unfolding onward
-  walk-breaks l k room room′ n e = walk-append l k room n ∙ ap (λ (g : Gathered). onward (g .tally) (g .room) k) (sym e)
+  pub walk-from : (t : Tally) (l k room room′ : List ℕ) (n : ℕ) → tallied t room′ ≡ gathered east north rect room n l → gathered east north rect room n (l ++ k) ≡ onward t room′ k
+  walk-from t l k room room′ n e = walk-append l k room n ∙ ap (λ (g : Gathered). onward (g .tally) (g .room) k) (sym e)
 
   -- ---- what it counts and leaves
 

@@ -20,7 +20,7 @@ use Rattle.walk.specs.Entries.{entryRead}
 use Rattle.range.specs.declared.gather.Tally.{Tally}
 use Rattle.range.specs.declared.gather.Tally.the-variants.{Count, Broken}
 use Rattle.range.specs.Fetches.{notesOf, noteBy, noteFrom, inside, Gathered, tallied, gathered, runOf, touchedStands, agree, Ready, RunFits}
-use Rattle.range.proofs.Gathers.{stand-off, stand-in, stand-out, walk-on, walk-breaks, walk-size, walk-counts}
+use Rattle.range.proofs.Gathers.{stand-off, stand-in, stand-out, walk-from, walk-size, walk-counts}
 
 -- ---- note: at entry e, which is left entries short of the end
 
@@ -149,14 +149,14 @@ module _ (east north : List ℤ) (order firsts pasts : List ℕ) (rect : Rect) (
             ready = w .ready;
             few = omega (arith, w .few, ap length (first-rest left some .0));
             size = ap (λ (g : Gathered). length (g .room)) e ∙ walk-size east north rect run found n ∙ w .size;
-            same = w .same ∙ ap (gathered east north rect found n) here-and-later ∙ walk-on east north rect run (touchedStands order firsts pasts (drop 1 left)) found found′ n m e;
+            same = w .same ∙ ap (gathered east north rect found n) here-and-later ∙ walk-from east north rect (Count m) run (touchedStands order firsts pasts (drop 1 left)) found found′ n e;
           })
 
       pub sweep-breaks : (t : Tally) (found′ : List ℕ) → tallied t found′ ≡ gathered east north rect found n (runOf order firsts pasts r) → t ≡ Broken
           → tallied Broken found′ ≡ gathered east north rect found₀ 0 (touchedStands order firsts pasts regions)
       sweep-breaks t found′ e q =
           let later = touchedStands order firsts pasts (drop 1 left) in
-          sym (w .same ∙ ap (gathered east north rect found n) here-and-later ∙ walk-breaks east north rect (runOf order firsts pasts r) later found found′ n (rw q at e))
+          sym (w .same ∙ ap (gathered east north rect found n) here-and-later ∙ walk-from east north rect Broken (runOf order firsts pasts r) later found found′ n (rw q at e))
 
     pub sweep-ends : isEmpty left ≡ true → tallied (Count n) found ≡ gathered east north rect found₀ 0 (touchedStands order firsts pasts regions)
     unfolding gathered
