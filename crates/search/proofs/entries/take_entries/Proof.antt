@@ -27,7 +27,8 @@ add-e : tie.Need-add-e Inv-loop μ-loop
 add-e c =
     omega (
       arith,
-      read-there _ _ _ _ _ (c .before .before .before .before .before .before .before .before .before .before .entry-at .ensures) (c .before .before .before .before .before .before .before .before .entry .given .1),
+      read-there _ _ _ _ _ (c .before .before .before .before .before .before .before .before .before .before .entry-at .ensures)
+          (c .before .before .before .before .before .before .before .before .entry .given .1),
       c .before .before .before .before .before .before .before .before .before .before .before .before .before .before .before .before .good .1 .1 .1 .1 .1 .0 .0,
     )
 
