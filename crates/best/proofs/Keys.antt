@@ -2,14 +2,13 @@
 -- Assumes nothing.
 use mathlib.Core.Path.{_≡_, refl, sym, ap, _∙_}
 use mathlib.Core.Logic.{inl, inr, ⊎-elim}
-use mathlib.Core.Bool.{true, false}
 use mathlib.Core.List.{List, [], _∷_}
 use Prim.Native.Nat.{ℕ, _≤_, _<_}
 use native.Mathlib.Omega.{arith}
 use lib.ListN.{take}
+use borrow.Table.Steps.{cases}
 use borrow.Author.Tests.{ltb-true, ltb-false, lt-ltb, le-ltb}
 use Rattle.base.specs.Lists.{In, each, sortBy}
-use Rattle.base.proofs.Tests.{which}
 use Rattle.base.proofs.Members.{each-take}
 use Rattle.base.proofs.Sorts.{Linear, wins, loses, each-sort}
 use Rattle.rules.specs.declared.Hit.{Hit}
@@ -29,12 +28,9 @@ larger-linear =
 
 pub better-larger : (a b : Hit) → a .stand < 1024 → b .stand < 1024 → better a b ≡ larger (keyOf a) (keyOf b)
 better-larger a b h k =
-    ⊎-elim
-    (λ (e : better a b ≡ true).
-    e ∙ sym (lt-ltb (keyOf b) (keyOf a) (⊎-elim (λ l. omega arith) (λ w. omega arith) (wins (λ h. h .value) (λ h. h .stand) a b e))))
-    (λ (e : better a b ≡ false).
-    e ∙ sym (le-ltb (keyOf b) (keyOf a) (⊎-elim (λ l. omega arith) (λ w. omega arith) (loses (λ h. h .value) (λ h. h .stand) a b e))))
-    (which (better a b))
+    cases (better a b)
+    (λ e. e ∙ sym (lt-ltb (keyOf b) (keyOf a) (⊎-elim (λ l. omega arith) (λ w. omega arith) (wins (λ h. h .value) (λ h. h .stand) a b e))))
+    (λ e. e ∙ sym (le-ltb (keyOf b) (keyOf a) (⊎-elim (λ l. omega arith) (λ w. omega arith) (loses (λ h. h .value) (λ h. h .stand) a b e))))
 
 hit-back : (h : Hit) → h .stand < 1024 → hitOfKey (keyOf h) ≡ h
 hit-back h l =

@@ -1,8 +1,8 @@
 -- One node: the entries read from its slots are those of its stands, and its row is the model's.
 -- Assumes nothing.
 use mathlib.Core.Path.{_≡_, refl, sym, ap, _∙_}
-use mathlib.Core.Logic.{_⊎_, inl, inr, ⊎-elim}
-use mathlib.Core.Bool.{Bool, true, false}
+use mathlib.Core.Logic.{⊎-elim}
+use mathlib.Core.Bool.{Bool}
 use mathlib.Core.List.{List, [], _∷_}
 use Prim.Native.Nat.{ℕ, suc, _+_, _-_, _*_, _/_, _%_, _^_, _≤_, _<_}
 use native.Mathlib.Omega.{arith}
@@ -10,12 +10,13 @@ use native.Mathlib.Nat.{zero-add, add-comm}
 use lib.Dec.{eqb}
 use lib.ListN.{length, List·getD-eq-default}
 use lib.Pow.{low, high}
+use borrow.Table.Steps.{cases}
 use borrow.Author.Tests.{eqb-false}
 use Rattle.base.specs.Lists.{upTo, keep, each, sortBy, In}
 use Rattle.base.specs.Bits.{wordOf, bitAt}
 use Rattle.rules.specs.Places.{regions}
 use Rattle.rules.specs.Indexes.{ahead}
-use Rattle.base.proofs.Tests.{which, le-or-lt}
+use Rattle.base.proofs.Tests.{le-or-lt}
 use Rattle.base.proofs.Members.{keep-same, keep-in, each-same, length-each}
 use Rattle.base.proofs.Runs.{in-from}
 use Rattle.base.proofs.Words.{bit-asks, word-split, word-less}
@@ -36,13 +37,12 @@ entries-held region score next s = length-sort ahead (each (entryAmong region sc
 module _ (region score next s places best : List ℕ) (bits : ℕ) (t : Tallied region score next s places best bits) where
   -- the set bits are the regions that hold a stand
   ranked-are : keep (bitAt bits) (upTo regions) ≡ regionsAmong region s
-  ranked-are = keep-same (bitAt bits) (heldAmong region s) (upTo regions) asks
-    where
-      asks : (r : ℕ) → In r (upTo regions) → bitAt bits r ≡ heldAmong region s r
-      asks r k =
-          ap (λ (w : ℕ). bitAt w r) (t .word)
-          ∙ bit-asks (heldAmong region s) 0 64 r (omega (arith, in-from 0 regions r k .1, regions-are))
-          ∙ ap (heldAmong region s) (zero-add r)
+  ranked-are =
+      keep-same (bitAt bits) (heldAmong region s) (upTo regions)
+      (λ r k.
+      ap (λ (w : ℕ). bitAt w r) (t .word)
+      ∙ bit-asks (heldAmong region s) 0 64 r (omega (arith, in-from 0 regions r k .1, regions-are))
+      ∙ ap (heldAmong region s) (zero-add r))
 
   entry-is : (r : ℕ) → In r (regionsAmong region s) → entryFrom best next places r ≡ entryAmong region score next s r
   unfolding entryAmong
@@ -121,11 +121,7 @@ module _ (lengths shared : List ℕ) (g : Grows lengths shared) where
 
     pub parent-is : (path : List ℕ) → Ways lengths shared path (c .stand .0) (c .length)
         → aboveIn path (c .length) ≡ parentOf lengths shared (c .stand .0) (c .length)
-    parent-is path w = step (which (eqb (c .length) 0))
-      where
-        step : (eqb (c .length) 0 ≡ true) ⊎ (eqb (c .length) 0 ≡ false) → aboveIn path (c .length) ≡ parentOf lengths shared (c .stand .0) (c .length)
-        step (inl q) = rw q
-        step (inr q) = let n = eqb-false (c .length) 0 q in rw q (w (c .length - 1) (omega arith))
+    parent-is path w = cases (eqb (c .length) 0) (λ q. rw q) (λ q. let n = eqb-false (c .length) 0 q in rw q (w (c .length - 1) (omega arith)))
 
   pub past-after : (i l e : ℕ) → e ≡ endOf shared i l → (i ≤ e) × (i < length lengths → i < e)
   past-after i l e q = (omega (arith, end-from shared i l), λ h. omega (arith, end-after shared i l (omega (arith, g .same))))

@@ -1,8 +1,7 @@
 -- What a run of stands holds in each region, and the walk over the run that gathers it: the regions as bits, the places and the scores.
 -- Assumes nothing.
 use mathlib.Core.Path.{_≡_, refl, sym, ap, _∙_}
-use mathlib.Core.Logic.{_⊎_, inl, inr}
-use mathlib.Core.Bool.{Bool, true, false, not, cond, _||_, or-false}
+use mathlib.Core.Bool.{true, false, not, cond, _||_, or-true, or-false}
 use mathlib.Core.List.{List, [], _∷_, _++_, append-nil}
 use Prim.Native.Nat.{ℕ, _+_, _-_, _*_, _%_, _^_, _≤_, _<_}
 use native.Mathlib.Omega.{arith}
@@ -11,10 +10,11 @@ use lib.Bits.{bitOr}
 use lib.Dec.{eqb, ltb}
 use lib.ListN.{length, set, length-append, length-set}
 use lib.Seq.{getD-set-same, getD-set-other}
+use borrow.Table.Steps.{cases}
 use borrow.Author.Tests.{eq-eqb, ne-eqb, eqb-true, eqb-false}
 use Rattle.base.specs.Lists.{keep, each, largest, isEmpty}
 use Rattle.base.specs.Bits.{wordOf, bitAt}
-use Rattle.base.proofs.Tests.{which, never}
+use Rattle.base.proofs.Tests.{never}
 use Rattle.base.proofs.Members.{keep-append, empty-of, length-keep, each-append}
 use Rattle.base.proofs.Runs.{length-from}
 use Rattle.base.proofs.Words.{words-or, word-one, word-same, word-none, one-shifted, bit-asks}
@@ -57,15 +57,10 @@ module _ (region s : List ℕ) where
 
   -- its region's bit joins the others
   held-more : (k x : ℕ) → (heldAmong region s x || eqb x (at region k)) ≡ heldAmong region (s ++ (k ∷ [])) x
-  held-more k x = step (which (eqb x (at region k)))
-    where
-      all-true : (b : Bool) → (b || true) ≡ true
-      all-true true = refl
-      all-true false = refl
-
-      step : (eqb x (at region k) ≡ true) ⊎ (eqb x (at region k) ≡ false) → (heldAmong region s x || eqb x (at region k)) ≡ heldAmong region (s ++ (k ∷ [])) x
-      step (inl q) = rw q (all-true (heldAmong region s x) ∙ sym (held-here k x (sym (eqb-true x (at region k) q))))
-      step (inr q) = rw q (or-false (heldAmong region s x) ∙ sym (held-there k x (λ e. eqb-false x (at region k) q (sym e))))
+  held-more k x =
+      cases (eqb x (at region k))
+      (λ q. rw q (or-true (heldAmong region s x) ∙ sym (held-here k x (sym (eqb-true x (at region k) q)))))
+      (λ q. rw q (or-false (heldAmong region s x) ∙ sym (held-there k x (λ e. eqb-false x (at region k) q (sym e)))))
 
   pub bits-more : (k r : ℕ) → r ≡ at region k → r < 64 → bitOr (bitsAmong region s) (1 * 2 ^ r % 2 ^ 64) ≡ bitsAmong region (s ++ (k ∷ []))
   bits-more k r e h =
@@ -117,16 +112,13 @@ module _ (region s : List ℕ) (k r : ℕ) (q : r ≡ at region k) where
       → ((x : ℕ) → x < 64 → heldAmong region s x ≡ true → at slots x ≡ f x (standsIn region x s))
       → v ≡ f r (standsIn region r s ++ (k ∷ []))
       → (x : ℕ) → x < 64 → heldAmong region (s ++ (k ∷ [])) x ≡ true → at (set slots r v) x ≡ f x (standsIn region x (s ++ (k ∷ [])))
-  stored slots f v size lt old new x l u = step (which (eqb x r))
-    where
-      step : (eqb x r ≡ true) ⊎ (eqb x r ≡ false) → at (set slots r v) x ≡ f x (standsIn region x (s ++ (k ∷ [])))
-      step (inl w) =
-          let e : x ≡ r = eqb-true x r w in
-          rw e (getD-set-same slots r v 0 (omega arith) ∙ new ∙ ap (f r) (sym (stands-here region s k r (sym q))))
-      step (inr w) =
-          let ne : x ≡ r → ⊥ = eqb-false x r w in
-          let other : at region k ≡ x → ⊥ = λ e. ne (sym e ∙ sym q) in
-          getD-set-other slots r x v 0 ne ∙ old x l (sym (held-there region s k x other) ∙ u) ∙ ap (f x) (sym (stands-there region s k x other))
+  stored slots f v size lt old new x l u =
+      cases (eqb x r)
+      (λ w. rw (eqb-true x r w) (getD-set-same slots r v 0 (omega arith) ∙ new ∙ ap (f r) (sym (stands-here region s k r (sym q)))))
+      (λ w.
+      let ne : x ≡ r → ⊥ = eqb-false x r w in
+      let other : at region k ≡ x → ⊥ = λ e. ne (sym e ∙ sym q) in
+      getD-set-other slots r x v 0 ne ∙ old x l (sym (held-there region s k x other) ∙ u) ∙ ap (f x) (sym (stands-there region s k x other)))
 
 pub record Tallying (region score next : List ℕ) (i e : ℕ) (places best : List ℕ) (bits k : ℕ) : Type 0 where
   pub marks : Marking region i bits k
@@ -149,11 +141,8 @@ module _ (region score next : List ℕ) (i e : ℕ) where
     slot f here fresh a full none e =
         e
         ∙ ap (λ (w : ℕ). cond (bitAt w r) here fresh) (s .so-far .word)
-        ∙ rw (bit-asks (heldAmong region (span i k)) 0 64 r lt, zero-add r) (step (which (heldAmong region (span i k) r)))
-      where
-        step : (heldAmong region (span i k) r ≡ true) ⊎ (heldAmong region (span i k) r ≡ false) → cond (heldAmong region (span i k) r) here fresh ≡ f (standsIn region r (span i k))
-        step (inl w) = rw w (full w)
-        step (inr w) = rw w (none ∙ ap f (sym (stands-none region (span i k) r w)))
+        ∙ rw (bit-asks (heldAmong region (span i k)) 0 64 r lt, zero-add r)
+        (cases (heldAmong region (span i k) r) (λ w. rw w (full w)) (λ w. rw w (none ∙ ap f (sym (stands-none region (span i k) r w)))))
 
     module _ (a : ℕ) (ea : a ≡ cond (bitAt bits r) (at places r) (at next r)) where
       place-now : a ≡ at next r + length (standsIn region r (span i k))

@@ -1,20 +1,19 @@
 -- The cursor's step, over plain lists: past a stand's nodes come the next stand's new ones. Assumes nothing.
 use mathlib.Core.Path.{_≡_, refl, sym, ap, _∙_}
-use mathlib.Core.Logic.{_⊎_, inl, inr, ⊎-elim}
-use mathlib.Core.Bool.{true, false}
-use mathlib.Core.List.{List, [], _∷_, _++_}
+use mathlib.Core.Logic.{⊎-elim}
+use mathlib.Core.List.{List, [], _∷_}
 use Prim.Native.Nat.{ℕ, zero, suc, _+_, _-_, _≤_, _<_}
 use native.Mathlib.Omega.{arith}
 use native.Mathlib.Numerals.{add-one}
 use lib.Dec.{eqb}
 use lib.ListN.{length, set, length-set, List·getD-eq-default}
 use lib.Seq.{getD-set-same, getD-set-other}
+use borrow.Table.Steps.{cases}
 use borrow.Author.Tests.{lt-ltb, le-ltb, eqb-true, eqb-false}
-use Rattle.base.specs.Lists.{fromOn, eachList}
-use Rattle.base.proofs.Tests.{which, le-or-lt}
+use Rattle.base.proofs.Tests.{le-or-lt}
 use Rattle.node.specs.Columns.{at, Grows, grownOf}
 use Rattle.node.specs.declared.cursor.Cursor.{Cursor}
-use Rattle.node.specs.Visits.{Visit, visitsAt, newVisits, visitsFrom, grownBefore, numberAt, placesAt, On, Ways, Stepped, Advanced}
+use Rattle.node.specs.Visits.{visitsFrom, grownBefore, numberAt, placesAt, On, Ways, Stepped, Advanced}
 use Rattle.node.proofs.Ends.{length-short, grown-last}
 
 module _ (lengths shared : List ℕ) where
@@ -26,23 +25,18 @@ module _ (lengths shared : List ℕ) where
 
   visits-next : (i l : ℕ) → i < length lengths → l ≡ suc (at lengths i) → visitsFrom lengths shared (suc i) (suc (at shared (suc i))) ≡ visitsFrom lengths shared i l
   unfolding visitsFrom
-  visits-next i l h e = ⊎-elim last more (le-or-lt (length lengths) (suc i)) ∙ sym (ap (λ (v : List Visit). v ++ eachList (newVisits lengths shared) (fromOn (suc i) (length lengths - suc i))) none)
-    where
-      none : visitsAt lengths i l ≡ []
-      none = let z : suc (at lengths i) - l ≡ 0 = omega arith in rw z
-
-      more : suc i < length lengths
-          → visitsAt lengths (suc i) (suc (at shared (suc i))) ++ eachList (newVisits lengths shared) (fromOn (suc (suc i)) (length lengths - suc (suc i))) ≡ eachList (newVisits lengths shared) (fromOn (suc i) (length lengths - suc i))
-      more q = let w : length lengths - suc i ≡ suc (length lengths - suc (suc i)) = omega arith in rw w
-
-      last : length lengths ≤ suc i
-          → visitsAt lengths (suc i) (suc (at shared (suc i))) ++ eachList (newVisits lengths shared) (fromOn (suc (suc i)) (length lengths - suc (suc i))) ≡ eachList (newVisits lengths shared) (fromOn (suc i) (length lengths - suc i))
-      last q =
-          let w : length lengths - suc i ≡ 0 = omega arith in
-          let v : length lengths - suc (suc i) ≡ 0 = omega arith in
-          let u : at lengths (suc i) ≡ 0 = List·getD-eq-default lengths 0 q in
-          let t : suc (at lengths (suc i)) - suc (at shared (suc i)) ≡ 0 = omega (arith, u) in
-          rw (w, v, t)
+  visits-next i l h e =
+      let none : suc (at lengths i) - l ≡ 0 = omega arith in
+      rw none
+      (⊎-elim
+      (λ (q : length lengths ≤ suc i).
+      let w : length lengths - suc i ≡ 0 = omega arith in
+      let v : length lengths - suc (suc i) ≡ 0 = omega arith in
+      let u : at lengths (suc i) ≡ 0 = List·getD-eq-default lengths 0 q in
+      let t : suc (at lengths (suc i)) - suc (at shared (suc i)) ≡ 0 = omega (arith, u) in
+      rw (w, v, t))
+      (λ (q : suc i < length lengths). let w : length lengths - suc i ≡ suc (length lengths - suc (suc i)) = omega arith in rw w)
+      (le-or-lt (length lengths) (suc i)))
 
   pub visits-done : (i l : ℕ) → length lengths ≤ i → 0 < l → visitsFrom lengths shared i l ≡ []
   unfolding visitsFrom
@@ -127,18 +121,15 @@ module _ (lengths shared : List ℕ) (g : Grows lengths shared) where
   -- the path with the cursor's own number
   ways-more : (c : Cursor) (path : List ℕ) (above : ℕ) → On lengths shared c → Ways lengths shared path (c .stand .0) (c .length) → length path ≡ 25 → above ≡ c .length
       → Ways lengths shared (set path above (c .number .0)) (c .stand .0) (suc (c .length))
-  ways-more c path above o old size e k lt = step (which (eqb k (c .length)))
-    where
-      step : (eqb k (c .length) ≡ true) ⊎ (eqb k (c .length) ≡ false) → at (set path above (c .number .0)) k ≡ numberAt lengths shared (c .stand .0) k
-      step (inl q) =
-          let w = eqb-true k (c .length) q in
-          ap (at (set path above (c .number .0))) (w ∙ sym e)
-          ∙ getD-set-same path above (c .number .0) 0 (omega (arith, o .long, length-short lengths shared g (c .stand .0)))
-          ∙ number-at lengths shared (c .stand .0) (c .length) (c .number .0) (o .new) (g .first) (o .count)
-          ∙ ap (numberAt lengths shared (c .stand .0)) (sym w)
-      step (inr q) =
-          let w = eqb-false k (c .length) q in
-          getD-set-other path above k (c .number .0) 0 (λ v. w (v ∙ e)) ∙ old k (omega arith)
+  ways-more c path above o old size e k lt =
+      cases (eqb k (c .length))
+      (λ q.
+      let w = eqb-true k (c .length) q in
+      ap (at (set path above (c .number .0))) (w ∙ sym e)
+      ∙ getD-set-same path above (c .number .0) 0 (omega (arith, o .long, length-short lengths shared g (c .stand .0)))
+      ∙ number-at lengths shared (c .stand .0) (c .length) (c .number .0) (o .new) (g .first) (o .count)
+      ∙ ap (numberAt lengths shared (c .stand .0)) (sym w))
+      (λ q. let w = eqb-false k (c .length) q in getD-set-other path above k (c .number .0) 0 (λ v. w (v ∙ e)) ∙ old k (omega arith))
 
   pub advanced : (region next path : List ℕ) (c : Cursor) (held above : ℕ) (r : Cursor) → On lengths shared c → Ways lengths shared path (c .stand .0) (c .length)
       → length path ≡ 25 → above ≡ c .length

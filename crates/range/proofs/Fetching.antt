@@ -1,7 +1,7 @@
 -- What is noted can be gone by, and the whole outcome follows by the tests on the way to it; it is 7, or that of some list.
 -- Assumes nothing.
 use mathlib.Core.Path.{_≡_, refl, sym, ap, _∙_}
-use mathlib.Core.Logic.{_⊎_, inl, inr, ⊎-elim}
+use mathlib.Core.Logic.{inl, inr, ⊎-elim}
 use mathlib.Core.Bool.{Bool, true, false, cond, _&&_}
 use mathlib.Core.List.{List, [], _∷_}
 use Prim.Native.Nat.{ℕ, zero, suc, _≤_}
@@ -22,7 +22,7 @@ use Rattle.grid.specs.Cells.{cellsOf, bothCells, regionsIn}
 use Rattle.walk.specs.declared.entry.EntryRead.{EntryRead}
 use Rattle.walk.specs.declared.entry.EntryRead.the-variants.{At, Broken}
 use Rattle.walk.specs.Entries.{entryRead}
-use Rattle.walk.proofs.Spelled.{within-facts, read-facts}
+use Rattle.walk.proofs.Spelled.{within-facts, read-within}
 use Rattle.range.specs.Fetches.{Notes, notesOf, noteBy, noteFrom, inside, touchedStands, agree, Ready, unlawful, looked, blank, notesIn, fetchedBy, fetched}
 
 -- ---- no run that is noted goes past the stands
@@ -39,7 +39,7 @@ module _ (words : List ℕ) (stands : ℕ) where
       step Broken q below = h r
       step (At x) q below =
           below _ _
-          (λ k. ⊎-elim (λ u. rw u (within-facts stands x (read-facts words stands e x q .1) .1)) (λ u. rw u (h k)) (set-either pasts (x .region) k (x .past .0) 0))
+          (λ k. ⊎-elim (λ u. rw u (within-facts stands x (read-within words stands e _ x refl q) .1)) (λ u. rw u (h k)) (set-either pasts (x .region) k (x .past .0) 0))
           r
 
 -- so the walk can go by the notes
@@ -85,22 +85,18 @@ module _ (east north : List ℤ) (grid : Grid) (order entries : List ℕ) (cells
 
   -- ---- harmless on any words
 
-  harmless-by : (known : Bool) (list : List ℕ) → Harmless (λ l. rangeOutcome 0 l (room ∷ [])) (room ∷ []) (cond known (rangeOutcome 0 list (room ∷ [])) (refused 7 (room ∷ [])))
-  harmless-by true list = inr (list, refl)
-  harmless-by false list = inl refl
+  harmless-asked : (lawful : Bool) (o : Outcome) → Harmless (λ l. rangeOutcome 0 l (room ∷ [])) (room ∷ []) o
+      → Harmless (λ l. rangeOutcome 0 l (room ∷ [])) (room ∷ []) (cond lawful o (refused 7 (room ∷ [])))
+  harmless-asked true o h = h
+  harmless-asked false o h = inl refl
 
   harmless-noted : (notes : Notes) (whole : Bool) (wanted : List ℕ)
       → Harmless (λ l. rangeOutcome 0 l (room ∷ [])) (room ∷ []) (fetchedBy (notesOf (notes .firsts) (notes .pasts) whole) east north order wanted rect room)
   unfolding looked
   harmless-noted notes true wanted =
       let seen = touchedStands order (notes .firsts) (notes .pasts) wanted in
-      harmless-by (all (λ s. ltb s (length east)) seen) (keep (inside east north rect) seen)
+      harmless-asked (all (λ s. ltb s (length east)) seen) _ (inr (keep (inside east north rect) seen, refl))
   harmless-noted notes false wanted = inl refl
-
-  harmless-asked : (lawful : Bool) (o : Outcome) → Harmless (λ l. rangeOutcome 0 l (room ∷ [])) (room ∷ []) o
-      → Harmless (λ l. rangeOutcome 0 l (room ∷ [])) (room ∷ []) (cond lawful o (refused 7 (room ∷ [])))
-  harmless-asked true o h = h
-  harmless-asked false o h = inl refl
 
   pub fetch-harmless : Harmless (λ l. rangeOutcome 0 l (room ∷ [])) (room ∷ []) (fetched east north grid order entries cells first rect room)
   unfolding fetched

@@ -1,7 +1,7 @@
 -- On a lawful set what is fetched from a text's listing is exactly the range of the text: by region, then by number.
 -- What is noted is the entries' runs; a region that is not looked at has no stand in the rectangle. Assumes nothing.
-use mathlib.Core.Path.{_≡_, refl, sym, ap, ap₂, _∙_}
-use mathlib.Core.Logic.{_⊎_, inl, inr}
+use mathlib.Core.Path.{_≡_, sym, ap, ap₂, _∙_}
+use mathlib.Core.Logic.{inl}
 use mathlib.Core.Bool.{Bool, true, false}
 use mathlib.Core.List.{List, [], _∷_}
 use Prim.Native.Nat.{ℕ, _≤_, _<_}
@@ -10,7 +10,7 @@ use lib.ListN.{length, getD, drop, length-replicate}
 use lib.Seq.{slice}
 use borrow.Author.Tests.{eqb-true, le-leb}
 use Rattle.base.specs.Lists.{upTo, keep, each, eachList, In}
-use Rattle.base.proofs.Tests.{which, never, every-of}
+use Rattle.base.proofs.Tests.{never, refuted, every-of}
 use Rattle.base.proofs.Begins.{begins-part, begins-length}
 use Rattle.base.proofs.Members.{in-at, keep-in, keep-none, in-each, each-in, length-each, in-eachList, eachList-same, eachList-keep, keep-eachList, drop-take}
 use Rattle.base.proofs.Runs.{in-from}
@@ -39,12 +39,8 @@ use Rattle.range.specs.Fetches.{notesOf, runOf, touchedStands, agree, lo
 use Rattle.range.proofs.Gathers.{known, known-of}
 use Rattle.range.proofs.Noted.{putAll, note-list, put-at}
 
-regions-is : regions ≡ 64
-unfolding regions
-regions-is = refl
-
-blank-length : length blank ≡ 64
-unfolding blank
+blank-length : length blank ≡ regions
+unfolding blank regions
 blank-length = length-replicate {A = ℕ} 64 0
 
 module _ (t : Table) (g : Grid) (x : Index) (s : SetParts t g x) (p : List ℕ) (cells : Cells) (first : ℕ) (lists : Lists t g x p cells first) where
@@ -78,7 +74,7 @@ module _ (t : Table) (g : Grid) (x : Index) (s : SetParts t g x) (p : List ℕ) 
       own y k =
           let e = in-each asRead (entriesOf t g p) y k in
           let o = entry-own t g (s .table) p (e .0) (e .1) in
-          rw (e .2) (ap (λ (e : rules.Entry). place (asRead e)) (o .same), omega (arith, o .small, regions-is, blank-length))
+          rw (e .2) (ap (λ (e : rules.Entry). place (asRead e)) (o .same), omega (arith, o .small, blank-length))
 
   past-within : (r : ℕ) → In r (regionsUnder t g p) → entryOf t g p r .past ≤ stands t
   past-within r h =
@@ -102,16 +98,9 @@ module _ (t : Table) (g : Grid) (x : Index) (s : SetParts t g x) (p : List ℕ) 
   agreed =
       let shape = s .table .shaped in
       let order : stands t ≤ length (x .order) = omega (arith, order-means t g (s .table) .whole, begins-length (orderWords t g) (x .order) (s .order)) in
-      every-of _ (
-        le-leb (length (t .east)) 1024 (omega (arith, shape .few, shape .easts)),
-        (
-          le-leb (length (t .east)) (length (t .north)) (omega (arith, shape .easts, shape .norths)),
-          (
-            le-leb (length (t .east)) (length (x .order)) (omega (arith, shape .easts)),
-            tt,
-          ),
-        ),
-      )
+      let easts = length (t .east) in
+      every-of _
+      (le-leb easts 1024 (omega (arith, shape .few)), (le-leb easts (length (t .north)) (omega (arith, shape .norths)), (le-leb easts (length (x .order)) (omega (arith, shape .easts)), tt)))
 
   -- ---- the stands of the regions that the rectangle touches
 
@@ -145,17 +134,14 @@ module _ (t : Table) (g : Grid) (x : Index) (s : SetParts t g x) (p : List ℕ) 
     -- a region that is not looked at has no stand in the rectangle
     none-missed : Edges rect → (r : ℕ) → hasCell (cellsOf g rect) r ≡ false → keep in-it (standsOf r) ≡ []
     unfolding regionOfStand
-    none-missed e r q = keep-none in-it (standsOf r) out
-      where
-        out : (i : ℕ) → In i (standsOf r) → in-it i ≡ false
-        out i h = test (which (in-it i))
-          where
-            test : (in-it i ≡ true) ⊎ (in-it i ≡ false) → in-it i ≡ false
-            test (inr f) = f
-            test (inl f) =
-                let v = keep-in (inRegion g t r) (under t p) i h in
-                let there = covered g rect (placeOf t i) (s .table .gridded) e (s .table .placed i (in-under t p i (v .0) .0)) f in
-                never (hasCell (cellsOf g rect) r) (ap (hasCell (cellsOf g rect)) (sym (eqb-true (regionOfStand g t i) r (v .1))) ∙ there) q
+    none-missed e r q =
+        keep-none in-it (standsOf r)
+        (λ i h.
+        refuted (in-it i)
+        (λ f.
+        let v = keep-in (inRegion g t r) (under t p) i h in
+        let there = covered g rect (placeOf t i) (s .table .gridded) e (s .table .placed i (in-under t p i (v .0) .0)) f in
+        never (hasCell (cellsOf g rect) r) (ap (hasCell (cellsOf g rect)) (sym (eqb-true (regionOfStand g t i) r (v .1))) ∙ there) q))
 
     -- so those that are in it are the range
     range-is : Edges rect → keep in-it seen ≡ rangeList t g p rect

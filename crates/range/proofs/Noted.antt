@@ -1,16 +1,16 @@
 -- What the pass over a list of entries notes: each entry's run, put at its region.
 -- Assumes nothing.
 use mathlib.Core.Path.{_≡_, refl, _∙_}
-use mathlib.Core.Logic.{_⊎_, inl, inr}
-use mathlib.Core.Bool.{true, false}
+use mathlib.Core.Logic.{_⊎_, inl, inr, ⊎-elim}
+use mathlib.Core.Bool.{true}
 use mathlib.Core.List.{List, [], _∷_}
 use Prim.Native.Nat.{ℕ, suc, _<_}
 use lib.Dec.{eqb}
 use lib.ListN.{length, getD, set, length-set}
 use lib.Seq.{getD-set-same, getD-set-other}
+use borrow.Table.Steps.{cases}
 use borrow.Author.Tests.{eqb-true, eqb-false}
 use Rattle.base.specs.Lists.{each, In}
-use Rattle.base.proofs.Tests.{which}
 use Rattle.walk.specs.declared.entry.Entry.{Entry}
 use Rattle.walk.specs.Entries.{SpelledFrom}
 use Rattle.range.specs.Fetches.{notesOf, noteFrom}
@@ -32,16 +32,12 @@ pub put-at : (place : Entry → ℕ) (φ : ℕ → ℕ) (es : List Entry) (l : L
     → (r : ℕ) → In r (each (λ x. x .region) es) ⊎ (getD l r 0 ≡ φ r) → getD (putAll place es l) r 0 ≡ φ r
 put-at place φ [] l own r (inl h) = absurd h
 put-at place φ [] l own r (inr e) = e
-put-at place φ (x ∷ es) l own r h = put-at place φ es (set l (x .region) (place x)) later r (step (which (eqb r (x .region))) h)
-  where
-    later : (y : Entry) → In y es → (place y ≡ φ (y .region)) × (y .region < length (set l (x .region) (place x)))
-    later y k = let o = own y (inr k) in (o .0, rw (length-set l (x .region) (place x)) (o .1))
-
-    step : (eqb r (x .region) ≡ true) ⊎ (eqb r (x .region) ≡ false) → In r (each (λ x. x .region) (x ∷ es)) ⊎ (getD l r 0 ≡ φ r)
-        → In r (each (λ x. x .region) es) ⊎ (getD (set l (x .region) (place x)) r 0 ≡ φ r)
-    step (inl q) h =
-        let o = own x (inl refl) in
-        inr (rw (eqb-true r (x .region) q) (getD-set-same l (x .region) (place x) 0 (o .1) ∙ o .0))
-    step (inr q) (inl (inl e)) = absurd (eqb-false r (x .region) q e)
-    step (inr q) (inl (inr k)) = inl k
-    step (inr q) (inr e) = inr (getD-set-other l (x .region) r (place x) 0 (eqb-false r (x .region) q) ∙ e)
+put-at place φ (x ∷ es) l own r h =
+    let o = own x (inl refl) in
+    put-at place φ es (set l (x .region) (place x)) (λ y k. let u = own y (inr k) in (u .0, rw (length-set l (x .region) (place x)) (u .1)))
+    r
+    (cases (eqb r (x .region))
+    (λ q. inr (rw (eqb-true r (x .region) q) (getD-set-same l (x .region) (place x) 0 (o .1) ∙ o .0)))
+    (λ q.
+    let other = eqb-false r (x .region) q in
+    ⊎-elim (⊎-elim (λ e. absurd (other e)) inl) (λ e. inr (getD-set-other l (x .region) r (place x) 0 other ∙ e)) h))

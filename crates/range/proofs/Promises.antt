@@ -17,7 +17,9 @@ use Rattle.rules.specs.declared.RangeAnswer.{RangeAnswer}
 use Rattle.rules.specs.declared.RangeAnswer.the-variants.{Found, Refused}
 use Rattle.rules.specs.declared.Refusal.{Refusal}
 use Rattle.rules.specs.declared.Refusal.the-variants.{RectReversed}
-use Rattle.rules.specs.Numbers.{refusalNumber}
+use Rattle.rules.specs.declared.Verdict.{Verdict}
+use Rattle.rules.specs.declared.Verdict.the-variants as verdict
+use Rattle.rules.specs.Numbers.{verdictNumber}
 use Rattle.rules.specs.Names.{textRefusal}
 use Rattle.rules.specs.Places.{regions, rectLawful, inRect}
 use Rattle.rules.specs.Tables.{Table, placeOf}
@@ -63,9 +65,6 @@ module _ (east north : List ℤ) (g : Grid) (order entries : List ℕ) (at : Lis
       }
 
   module _ (straight : rectLawful r ≡ true) where
-    passed : (list : List ℕ) → rangeOutcome 0 list (room ∷ []) ≡ rangeOutcome (rectRefusal r) list (room ∷ [])
-    passed list = rw straight
-
     nothing-found : rangeCame (Found 0) room ≡ rangeOutcome (rectRefusal r) [] (room ∷ [])
     nothing-found = sym (rw (straight, le-leb 0 (length room) (omega arith)))
 
@@ -86,19 +85,19 @@ module _ (east north : List ℤ) (g : Grid) (order entries : List ℕ) (at : Lis
               f
               ∙ ap₂ (λ (x y : List ℤ). fetched x y g order entries cells first r room) (sym (w .easts)) (sym (w .norths))
               ∙ fetch-means t g _ s p cells first l r edges room
-              ∙ passed (rangeList t g p r);
+              ∙ rw straight;
           harmless = subst (Harmless (λ l. rangeOutcome (rectRefusal r) l (room ∷ [])) (room ∷ [])) (sym f) (rw straight (fetch-harmless east north g order entries cells first r room));
         }
 
 -- ---- from a text
 
 module _ (t : Table) (g : Grid) (x : Index) (p : List ℕ) (r : Rect) (room : List ℕ) where
-  pub of-refused : (why : Refusal) → refusalNumber why ≡ textRefusal p → RangePromise t g x p r (room ∷ []) (rangeCame (Refused why 0) room)
-  of-refused why e =
-      text-refused _ (λ n list. rangeOutcome n list (room ∷ [])) (rangeList t g p r) (room ∷ []) p (rectRefusal r) (λ n list some. settled-refused n _ _ _ _ _ some) why e
+  pub of-refused : (v : Verdict) (why : Refusal) → verdictNumber v ≡ textRefusal p → v ≡ verdict.Refused why → RangePromise t g x p r (room ∷ []) (rangeCame (Refused why 0) room)
+  of-refused v why e q =
+      text-refused _ (λ n list. rangeOutcome n list (room ∷ [])) (rangeList t g p r) (room ∷ []) p (rectRefusal r) (λ n list some. settled-refused n _ _ _ _ _ some) why (ap verdictNumber (sym q) ∙ e)
 
-  pub of-listed : (o : Outcome) (at : Listing) → textRefusal p ≡ 0 → at ≡ listingAt (x .nodes) (nodeIn (x .nodes) p)
+  pub of-listed : (o : Outcome) (v : Verdict) (at : Listing) → verdictNumber v ≡ textRefusal p → v ≡ verdict.Passed → at ≡ listingAt (x .nodes) (nodeIn (x .nodes) p)
       → RangeFrom (t .east) (t .north) g (x .order) (x .entries) at r (room ∷ []) o → RangePromise t g x p r (room ∷ []) o
-  of-listed o at fine walked w =
+  of-listed o v at e fine walked w =
       from-kept _ (λ t′ q. Listed (t .east) (t .north) (t′ .score) g (x .order) (x .entries) at t′ q) (λ n list. rangeOutcome n list (room ∷ [])) (λ t p. rangeList t g p r) (room ∷ []) o t p
-      (rectRefusal r) fine (text-listed t g x p at walked) w
+      (rectRefusal r) (sym e ∙ ap verdictNumber fine) (text-listed t g x p at walked) w

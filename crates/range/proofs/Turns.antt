@@ -2,7 +2,7 @@
 use mathlib.Core.Path.{_≡_, refl, sym, ap, _∙_}
 use mathlib.Core.Bool.{true, false, not}
 use mathlib.Core.List.{List, [], _∷_, _++_}
-use Prim.Native.Nat.{ℕ, zero, suc, _+_, _-_, _*_, _≤_, _<_}
+use Prim.Native.Nat.{ℕ, suc, _+_, _-_, _*_, _≤_, _<_}
 use native.Mathlib.Omega.{arith}
 use native.Mathlib.Numerals.{add-one}
 use lib.IntN.{ℤ}
@@ -14,49 +14,40 @@ use Rattle.base.proofs.Tests.{every-at}
 use Rattle.base.proofs.Members.{first-rest, empty-of, length-keep}
 use Rattle.rules.specs.declared.Rect.{Rect}
 use Rattle.walk.specs.declared.entry.Entry.{Entry}
+use Rattle.walk.specs.declared.entry.EntryRead.{EntryRead}
 use Rattle.walk.specs.declared.entry.EntryRead.the-variants as entry
 use Rattle.walk.specs.Entries.{entryRead}
+use Rattle.range.specs.declared.gather.Tally.{Tally}
 use Rattle.range.specs.declared.gather.Tally.the-variants.{Count, Broken}
-use Rattle.range.specs.Fetches.{notesOf, noteFrom, inside, Gathered, tallied, gathered, runOf, touchedStands, agree, Ready, RunFits}
-use Rattle.range.proofs.Gathers.{stand-off, stand-in, stand-out, walk-on, walk-breaks, walk-size, walk-counts}
+use Rattle.range.specs.Fetches.{notesOf, noteBy, noteFrom, inside, Gathered, tallied, gathered, runOf, touchedStands, agree, Ready, RunFits}
+use Rattle.range.proofs.Gathers.{stand-off, stand-in, stand-out, walk-from, walk-size, walk-counts}
 
 -- ---- note: at entry e, which is left entries short of the end
 
 pub record Noting (words : List ℕ) (stands count from : ℕ) (firsts₀ pasts₀ : List ℕ) (end : ℕ) (firsts pasts : List ℕ) (e : ℕ) : Type 0 where
-  pub left : ℕ
-  pub ends : e + left ≡ end
-  pub same : noteFrom words stands count from firsts₀ pasts₀ ≡ noteFrom words stands left e firsts pasts
+  pub within : e ≤ end
+  pub same : noteFrom words stands count from firsts₀ pasts₀ ≡ noteFrom words stands (end - e) e firsts pasts
 
 module _ (words : List ℕ) (stands count from : ℕ) (firsts₀ pasts₀ : List ℕ) where
   pub note-begins : Noting words stands count from firsts₀ pasts₀ (from + count) firsts₀ pasts₀ from
-  note-begins = record { left = count; ends = refl; same = refl }
+  note-begins = let z : from + count - from ≡ count = omega arith in record { within = omega arith; same = rw z }
 
   module _ (end : ℕ) (firsts pasts : List ℕ) (e : ℕ) (w : Noting words stands count from firsts₀ pasts₀ end firsts pasts e) where
-    pub note-breaks : e < end → entryRead words stands e ≡ entry.Broken → notesOf firsts pasts false ≡ noteFrom words stands count from firsts₀ pasts₀
-    unfolding noteFrom
-    note-breaks l q = go (w .left) (w .ends) (w .same)
-      where
-        go : (f : ℕ) → e + f ≡ end → noteFrom words stands count from firsts₀ pasts₀ ≡ noteFrom words stands f e firsts pasts → notesOf firsts pasts false ≡ noteFrom words stands count from firsts₀ pasts₀
-        go zero z s = absurd (omega arith)
-        go (suc f) z s = sym (s ∙ rw q)
+    module _ (l : e < end) (r : EntryRead) (read : r ≡ entryRead words stands e) where
+      turn : noteFrom words stands count from firsts₀ pasts₀ ≡ noteBy r firsts pasts (λ firsts pasts. noteFrom words stands (end - (e + 1)) (e + 1) firsts pasts)
+      unfolding noteFrom
+      turn = let z : end - e ≡ suc (end - (e + 1)) = omega arith in w .same ∙ rw (z, add-one e, ← read)
 
-    pub note-more : e < end → (x : Entry) → entryRead words stands e ≡ entry.At x
-        → Noting words stands count from firsts₀ pasts₀ end (set firsts (x .region) (x .first .0)) (set pasts (x .region) (x .past .0)) (e + 1)
-    unfolding noteFrom
-    note-more l x q = go (w .left) (w .ends) (w .same)
-      where
-        go : (f : ℕ) → e + f ≡ end → noteFrom words stands count from firsts₀ pasts₀ ≡ noteFrom words stands f e firsts pasts
-            → Noting words stands count from firsts₀ pasts₀ end (set firsts (x .region) (x .first .0)) (set pasts (x .region) (x .past .0)) (e + 1)
-        go zero z s = absurd (omega arith)
-        go (suc f) z s = record { left = f; ends = omega arith; same = s ∙ rw (q, add-one e) }
+      pub note-breaks : r ≡ entry.Broken → notesOf firsts pasts false ≡ noteFrom words stands count from firsts₀ pasts₀
+      note-breaks q = sym (turn ∙ rw q)
+
+      pub note-more : (x : Entry) → r ≡ entry.At x
+          → Noting words stands count from firsts₀ pasts₀ end (set firsts (x .region) (x .first .0)) (set pasts (x .region) (x .past .0)) (e + 1)
+      note-more x q = record { within = omega arith; same = turn ∙ rw q }
 
     pub note-ends : end ≤ e → notesOf firsts pasts true ≡ noteFrom words stands count from firsts₀ pasts₀
     unfolding noteFrom
-    note-ends l = go (w .left) (w .ends) (w .same)
-      where
-        go : (f : ℕ) → e + f ≡ end → noteFrom words stands count from firsts₀ pasts₀ ≡ noteFrom words stands f e firsts pasts → notesOf firsts pasts true ≡ noteFrom words stands count from firsts₀ pasts₀
-        go zero z s = sym s
-        go (suc f) z s = absurd (omega arith)
+    note-ends l = let z : end - e ≡ 0 = omega arith in sym (w .same ∙ rw z)
 
 -- ---- gather_run: at place i of a run, with n found
 
@@ -83,28 +74,19 @@ module _ (east north : List ℤ) (order : List ℕ) (rect : Rect) (found₀ : Li
     pub run-breaks : length east ≤ getD order i 0 → tallied Broken found ≡ gathered east north rect found₀ before (slice first end order)
     run-breaks h = sym (w .same ∙ ap (gathered east north rect found n) here ∙ stand-off east north rect (getD order i 0) (slice (i + 1) end order) found n h)
 
-    module _ (k : getD order i 0 < length east) where
-      pub run-hit : (found′ : List ℕ) (n′ : ℕ) → inside east north rect (getD order i 0) ≡ true → found′ ≡ set found n (getD order i 0) → n′ ≡ n + 1
-          → Gathering east north order rect found₀ before end first found′ (i + 1) n′
-      run-hit found′ n′ q f m = rw (f, m) (record {
-        wide = w .wide;
-        fits = w .fits;
-        room = w .room;
-        few = omega (arith, w .few);
-        size = length-set found n (getD order i 0) ∙ w .size;
-        same = w .same ∙ ap (gathered east north rect found n) here ∙ stand-in east north rect (getD order i 0) (slice (i + 1) end order) found n k q ∙ rw (add-one n);
-      })
+    -- one place on, with what is found by then
+    on : (found′ : List ℕ) (n′ : ℕ) → n′ ≤ n + 1 → length found′ ≡ length found
+        → gathered east north rect found n (getD order i 0 ∷ slice (i + 1) end order) ≡ gathered east north rect found′ n′ (slice (i + 1) end order)
+        → Gathering east north order rect found₀ before end first found′ (i + 1) n′
+    on found′ n′ m z e =
+        record { wide = w .wide; fits = w .fits; room = w .room; few = omega (arith, w .few); size = z ∙ w .size; same = w .same ∙ ap (gathered east north rect found n) here ∙ e }
 
-      pub run-miss : (found′ : List ℕ) (n′ : ℕ) → inside east north rect (getD order i 0) ≡ false → found′ ≡ found → n′ ≡ n
-          → Gathering east north order rect found₀ before end first found′ (i + 1) n′
-      run-miss found′ n′ q f m = rw (f, m) (record {
-        wide = w .wide;
-        fits = w .fits;
-        room = w .room;
-        few = omega (arith, w .few);
-        size = w .size;
-        same = w .same ∙ ap (gathered east north rect found n) here ∙ stand-out east north rect (getD order i 0) (slice (i + 1) end order) found n k q;
-      })
+    module _ (k : getD order i 0 < length east) (found′ : List ℕ) (n′ : ℕ) where
+      pub run-hit : inside east north rect (getD order i 0) ≡ true → found′ ≡ set found n (getD order i 0) → n′ ≡ n + 1 → Gathering east north order rect found₀ before end first found′ (i + 1) n′
+      run-hit q f m = rw (f, m) (on _ _ (omega arith) (length-set found n _) (stand-in east north rect (getD order i 0) (slice (i + 1) end order) found n k q ∙ rw (add-one n)))
+
+      pub run-miss : inside east north rect (getD order i 0) ≡ false → found′ ≡ found → n′ ≡ n → Gathering east north order rect found₀ before end first found′ (i + 1) n′
+      run-miss q f m = rw (f, m) (on _ _ (omega arith) refl (stand-out east north rect (getD order i 0) (slice (i + 1) end order) found n k q))
 
   pub run-ends : end ≤ i → tallied (Count n) found ≡ gathered east north rect found₀ before (slice first end order)
   unfolding gathered
@@ -124,6 +106,10 @@ module _ (east north : List ℤ) (order : List ℕ) (h : agree east north order 
   pub places-enough : length east ≤ length order
   unfolding agree
   places-enough = leb-true _ _ (every-at _ 2 h)
+
+-- the regions that are left once the first is done are fewer
+pub fewer : (left later : List ℕ) → isEmpty left ≡ false → later ≡ drop 1 left → length later < length left
+fewer left later some e = omega (arith, ap length e, ap length (first-rest left some .0))
 
 pub record Sweeping (east north : List ℤ) (order firsts pasts : List ℕ) (rect : Rect) (regions found₀ found : List ℕ) (n : ℕ) (left : List ℕ) : Type 0 where
   pub ready : Ready east north order pasts
@@ -149,9 +135,10 @@ module _ (east north : List ℤ) (order firsts pasts : List ℕ) (rect : Rect) (
           let f = stands-few east north order a in
           record { placed = norths-enough east north order a; within = omega arith; few = omega (arith, w .few) }
 
-      pub sweep-on : (m : ℕ) (found′ left′ : List ℕ) → tallied (Count m) found′ ≡ gathered east north rect found n (runOf order firsts pasts r) → left′ ≡ drop 1 left
+      pub sweep-on : (t : Tally) (m : ℕ) (found′ left′ : List ℕ) → tallied t found′ ≡ gathered east north rect found n (runOf order firsts pasts r) → t ≡ Count m → left′ ≡ drop 1 left
           → Sweeping east north order firsts pasts rect regions found₀ found′ m left′
-      sweep-on m found′ left′ e d =
+      sweep-on t m found′ left′ walked q d =
+          let e = rw q at walked in
           let run = runOf order firsts pasts r in
           let count = walk-counts east north rect run found n m (ap (λ (g : Gathered). g .tally) (sym e)) .1 in
           let short = length-keep (inside east north rect) run in
@@ -162,13 +149,14 @@ module _ (east north : List ℤ) (order firsts pasts : List ℕ) (rect : Rect) (
             ready = w .ready;
             few = omega (arith, w .few, ap length (first-rest left some .0));
             size = ap (λ (g : Gathered). length (g .room)) e ∙ walk-size east north rect run found n ∙ w .size;
-            same = w .same ∙ ap (gathered east north rect found n) here-and-later ∙ walk-on east north rect run (touchedStands order firsts pasts (drop 1 left)) found found′ n m e;
+            same = w .same ∙ ap (gathered east north rect found n) here-and-later ∙ walk-from east north rect (Count m) run (touchedStands order firsts pasts (drop 1 left)) found found′ n e;
           })
 
-      pub sweep-breaks : (found′ : List ℕ) → tallied Broken found′ ≡ gathered east north rect found n (runOf order firsts pasts r)
+      pub sweep-breaks : (t : Tally) (found′ : List ℕ) → tallied t found′ ≡ gathered east north rect found n (runOf order firsts pasts r) → t ≡ Broken
           → tallied Broken found′ ≡ gathered east north rect found₀ 0 (touchedStands order firsts pasts regions)
-      sweep-breaks found′ e =
-          sym (w .same ∙ ap (gathered east north rect found n) here-and-later ∙ walk-breaks east north rect (runOf order firsts pasts r) (touchedStands order firsts pasts (drop 1 left)) found found′ n e)
+      sweep-breaks t found′ e q =
+          let later = touchedStands order firsts pasts (drop 1 left) in
+          sym (w .same ∙ ap (gathered east north rect found n) here-and-later ∙ walk-from east north rect Broken (runOf order firsts pasts r) later found found′ n (rw q at e))
 
     pub sweep-ends : isEmpty left ≡ true → tallied (Count n) found ≡ gathered east north rect found₀ 0 (touchedStands order firsts pasts regions)
     unfolding gathered

@@ -3,4 +3,3 @@ pub mod Offers
 pub mod Entries
 pub mod Under
 pub mod Ways
-pub mod Limits

@@ -1,17 +1,18 @@
 -- The search as lists: whatever is offered or passed over, the k largest keys of all stands seen so far are held.
 -- Passing over is right since no stand of the entry has a larger key than its bound with its first number. Assumes nothing.
 use mathlib.Core.Path.{_≡_, refl, sym, ap, _∙_}
-use mathlib.Core.Logic.{_⊎_, inl, inr}
-use mathlib.Core.Bool.{true, false}
+use mathlib.Core.Logic.{inl, inr}
+use mathlib.Core.Bool.{true}
 use mathlib.Core.List.{List, [], _∷_, _++_, append-assoc}
 use Prim.Native.Nat.{ℕ, suc, _-_, _≤_, _<_}
 use native.Mathlib.Omega.{arith}
 use lib.Dec.{ltb, leb}
 use lib.ListN.{length, getD}
 use lib.Seq.{slice}
+use borrow.Table.Steps.{cases}
 use borrow.Author.Tests.{ltb-true, leb-true}
 use Rattle.base.specs.Lists.{In, each, eachList}
-use Rattle.base.proofs.Tests.{which, and-parts}
+use Rattle.base.proofs.Tests.{and-parts}
 use Rattle.base.proofs.Members.{in-each, each-append}
 use Rattle.base.proofs.Shuffles.{shuffle-sym, middle, swap-parts}
 use Rattle.rules.specs.declared.Grid.{Grid}
@@ -52,35 +53,20 @@ module _ (c : StandColumns) (g : Grid) (q : Ranking) where
         → passedOver (q .k) (bestOf (q .k) seen) (keyOf (boundHit g q order x)) ≡ true → bestOf (q .k) (each (keyIn c g q) stands ++ seen) ≡ bestOf (q .k) seen
     unfolding passedOver
     pass-best stands x seen w e =
-        passed-over (q .k) some (each (keyIn c g q) stands) seen (leb-true (q .k) (length held) (s .0)) (λ key k. smaller key (in-each (keyIn c g q) stands key k))
-      where
-        held : List ℕ
-        held = bestOf (q .k) seen
-
-        last : ℕ
-        last = getD held (q .k - 1) 0
-
-        most : ℕ
-        most = keyOf (boundHit g q order x)
-
-        s : (leb (q .k) (length held) ≡ true) × (ltb most last ≡ true)
-        s = and-parts (leb (q .k) (length held)) (ltb most last) e
-
-        smaller : (key : ℕ) → (i : ℕ) × In i stands × (key ≡ keyIn c g q i) → key < last
-        smaller key (i, k, same) = omega (arith, w .covered i k, ltb-true most last (s .1))
+        let held = bestOf (q .k) seen in
+        let last = getD held (q .k - 1) 0 in
+        let most = keyOf (boundHit g q order x) in
+        let s = and-parts (leb (q .k) (length held)) (ltb most last) e in
+        passed-over (q .k) some (each (keyIn c g q) stands) seen (leb-true (q .k) (length held) (s .0))
+        (λ key k. let i = in-each (keyIn c g q) stands key k in omega (arith, i .2, w .covered (i .0) (i .1), ltb-true most last (s .1)))
 
     entry-best : (stands : List ℕ) (x : Entry) (seen : List ℕ) → Sound c g q order stands x
         → entryTaken c g q order x (bestOf (q .k) seen) ≡ keys (bestOf (q .k) (each (keyIn c g q) stands ++ seen))
     unfolding entryTaken
-    entry-best stands x seen w = step (which (passedOver (q .k) (bestOf (q .k) seen) (keyOf (boundHit g q order x))))
-      where
-        held : List ℕ
-        held = bestOf (q .k) seen
-
-        step : (passedOver (q .k) held (keyOf (boundHit g q order x)) ≡ true) ⊎ (passedOver (q .k) held (keyOf (boundHit g q order x)) ≡ false)
-            → entryTaken c g q order x held ≡ keys (bestOf (q .k) (each (keyIn c g q) stands ++ seen))
-        step (inl e) = rw e (ap keys (sym (pass-best stands x seen w e)))
-        step (inr e) = rw e (ap (λ (l : List ℕ). standsOffered c g q l held) (w .listed) ∙ offers-best stands seen (w .readable))
+    entry-best stands x seen w =
+        cases (passedOver (q .k) (bestOf (q .k) seen) (keyOf (boundHit g q order x)))
+        (λ e. rw e (ap keys (sym (pass-best stands x seen w e))))
+        (λ e. rw e (ap (λ (l : List ℕ). standsOffered c g q l (bestOf (q .k) seen)) (w .listed) ∙ offers-best stands seen (w .readable)))
 
     -- the entries es stand in the words from number n on
     pub entries-best : (entries : List ℕ) (stands : Entry → List ℕ) (es : List Entry) (n : ℕ) (seen : List ℕ) → SpelledFrom entries (length order) n es

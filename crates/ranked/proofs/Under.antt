@@ -38,16 +38,12 @@ use Rattle.ranked.proofs.Entries.{tableColumns, entry-sound}
 -- the entries of a text have the stands under it, each once, in another order
 all-stands : (t : Table) (g : Grid) → LawfulTable t g → (p : List ℕ) → Shuffle (eachList (λ e. standsIn t g p (e .region)) (entriesOf t g p)) (under t p)
 all-stands t g l p =
+    let of : indexes.Entry → List ℕ = λ e. standsIn t g p (e .region) in
+    let by-region : eachList of (each (entryOf t g p) (regionsUnder t g p)) ≡ byRegion g t (under t p) =
+    eachList-each of (entryOf t g p) (regionsUnder t g p)
+    ∙ sym (eachList-keep (standsIn t g p) (occupied t g p) (upTo regions) (λ r q. empty-of (standsIn t g p r) q)) in
     shuffles.next (shuffle-eachList of (sort-shuffle ahead (each (entryOf t g p) (regionsUnder t g p))))
     (subst (λ (s : List ℕ). Shuffle s (under t p)) (sym by-region) (by-region-shuffle t g l (under t p) (λ i h. in-under t p i h .0)))
-  where
-    of : indexes.Entry → List ℕ
-    of e = standsIn t g p (e .region)
-
-    by-region : eachList of (each (entryOf t g p) (regionsUnder t g p)) ≡ byRegion g t (under t p)
-    by-region =
-        eachList-each of (entryOf t g p) (regionsUnder t g p)
-        ∙ sym (eachList-keep (standsIn t g p) (occupied t g p) (upTo regions) (λ r q. empty-of (standsIn t g p r) q))
 
 module _ (t : Table) (g : Grid) (x : Index) (s : SetParts t g x) (p : List ℕ) (q : Ranking) where
   abbrev listed : List Entry

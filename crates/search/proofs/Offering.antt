@@ -1,6 +1,6 @@
 -- One stand offered, and the loop that offers the stands of an entry: what is left of them gives what all of them give.
 -- Assumes nothing.
-use mathlib.Core.Path.{_≡_, sym, ap, _∙_}
+use mathlib.Core.Path.{_≡_, ap, _∙_}
 use mathlib.Core.Bool.{true, false}
 use mathlib.Core.List.{List, []}
 use Prim.Native.Nat.{ℕ, suc, _+_, _≤_, _<_}
@@ -42,7 +42,7 @@ module _ (c : StandColumns) (g : Grid) (q : Ranking) (order : List ℕ) (past : 
   module _ (more : i < past) (after : List ℕ) (r : Kept) (k : Keeps (standOffered c g q (getD order i 0) (take n room)) (q .k) after r) where
     opened : andThen (standOffered c g q (getD order i 0) (take n room)) (λ held. standsOffered c g q (slice (suc i) past order) held) ≡ whole
     unfolding standsOffered
-    opened = ap (λ (l : List ℕ). standsOffered c g q l (take n room)) (sym (slice-cons i past order 0 more (w .run .inside))) ∙ w .rest
+    opened = rw (slice-cons i past order 0 more (w .run .inside)) at (w .rest)
 
     pub offer-next : (m : ℕ) → r ≡ kept.Held m → Offering c g q order past whole after m (i + 1)
     offer-next m e =
@@ -50,22 +50,15 @@ module _ (c : StandColumns) (g : Grid) (q : Ranking) (order : List ℕ) (past : 
         record {
           searching = record { asks = w .searching .asks; holds = h .1 };
           run = record { forward = omega arith; inside = w .run .inside };
-          rest =
-              ap (λ (j : ℕ). standsOffered c g q (slice j past order) (take m after)) (add-one i)
-              ∙ ap (λ (s : Search). andThen s (λ held. standsOffered c g q (slice (suc i) past order) held)) (sym (h .0))
-              ∙ opened;
+          rest = rw add-one (rw (h .0) at opened);
         }
 
     pub offer-stop : r ≡ kept.Broken → Keeps whole (q .k) after kept.Broken
-    offer-stop e =
-        record {
-          is = ap (λ (s : Search). andThen s (λ held. standsOffered c g q (slice (suc i) past order) held)) (sym (broken-is _ _ _ _ k e)) ∙ opened;
-          holds = tt;
-        }
+    offer-stop e = record { is = rw (broken-is _ _ _ _ k e) at opened; holds = tt }
 
   pub offer-done : past ≤ i → Keeps whole (q .k) room (kept.Held n)
   unfolding standsOffered
   offer-done h =
       let end : i ≡ past = omega (arith, w .run .forward) in
       let none : slice i past order ≡ [] = ap (λ (j : ℕ). slice j past order) end ∙ slice-empty past order in
-      record { is = ap (λ (l : List ℕ). standsOffered c g q l (take n room)) (sym none) ∙ w .rest; holds = w .searching .holds }
+      record { is = rw none at (w .rest); holds = w .searching .holds }

@@ -1,14 +1,14 @@
 -- What it says that a stand can be read and an entry be used, both ways.
 -- Assumes nothing.
 use mathlib.Core.Path.{_≡_, sym}
-use mathlib.Core.Bool.{true, false, and-true}
+use mathlib.Core.Bool.{true, and-true}
 use mathlib.Core.List.{List}
 use Prim.Native.Nat.{ℕ, _≤_, _<_}
 use lib.Dec.{ltb}
 use lib.ListN.{length, getD}
-use borrow.Author.Tests.{ltb-true, leb-true, lt-ltb, le-ltb, le-leb, lt-leb}
+use borrow.Author.Tests.{ltb-true, leb-true, lt-ltb, le-leb}
 use Rattle.base.specs.Lists.{every}
-use Rattle.base.proofs.Tests.{every-at, every-of, every-not}
+use Rattle.base.proofs.Tests.{every-at, every-of}
 use Rattle.rules.specs.declared.Grid.{Grid}
 use Rattle.rules.specs.Places.{inGrid}
 use Rattle.rules.specs.Tables.{placeIn}
@@ -44,27 +44,7 @@ module _ (c : StandColumns) (g : Grid) (s : ℕ) where
       every-of _
       (lt-ltb _ _ (f .small), (lt-ltb _ _ (f .has-east), (lt-ltb _ _ (f .has-north), (lt-ltb _ _ (f .has-score), (le-leb _ _ (f .scored), (f .inside, tt))))))
 
-  -- the ways out of the test
-  pub stand-large : 1024 ≤ s → false ≡ readableStand c g s
-  unfolding readableStand
-  stand-large h = sym (every-not _ 0 (le-ltb _ _ h))
-
-  pub no-east : length (c .east) ≤ s → false ≡ readableStand c g s
-  unfolding readableStand
-  no-east h = sym (every-not _ 1 (le-ltb _ _ h))
-
-  pub no-north : length (c .north) ≤ s → false ≡ readableStand c g s
-  unfolding readableStand
-  no-north h = sym (every-not _ 2 (le-ltb _ _ h))
-
-  pub no-score : length (c .score) ≤ s → false ≡ readableStand c g s
-  unfolding readableStand
-  no-score h = sym (every-not _ 3 (le-ltb _ _ h))
-
-  pub score-over : 1000 < getD (c .score) s 0 → false ≡ readableStand c g s
-  unfolding readableStand
-  score-over h = sym (every-not _ 4 (lt-leb _ _ h))
-
+  -- past the other tests the place decides
   pub place-decides : s < 1024 → s < length (c .east) → s < length (c .north) → s < length (c .score) → getD (c .score) s 0 ≤ 1000
       → inGrid g (placeIn (c .east) (c .north) s) ≡ readableStand c g s
   unfolding readableStand every
@@ -91,14 +71,6 @@ module _ (order : List ℕ) (x : Entry) where
   pub entry-usable : EntryFacts order x → usable order x ≡ true
   unfolding usable
   entry-usable f = every-of _ (le-leb _ _ (f .scored), (lt-ltb _ _ (f .some), (lt-ltb _ _ (f .small), tt)))
-
-  pub entry-over : 1000 < x .score → false ≡ usable order x
-  unfolding usable
-  entry-over h = sym (every-not _ 0 (lt-leb _ _ h))
-
-  pub no-places : x .past .0 ≤ x .first .0 → false ≡ usable order x
-  unfolding usable
-  no-places h = sym (every-not _ 1 (le-ltb _ _ h))
 
   pub first-decides : x .score ≤ 1000 → x .first .0 < x .past .0 → ltb (getD order (x .first .0) 0) 1024 ≡ usable order x
   unfolding usable every

@@ -1,6 +1,6 @@
 -- One entry passed over or taken, and the loop over the listed entries: those that are left give what all of them give.
 -- Assumes nothing.
-use mathlib.Core.Path.{_≡_, sym, ap, _∙_}
+use mathlib.Core.Path.{_≡_, ap, _∙_}
 use mathlib.Core.Bool.{true, false}
 use mathlib.Core.List.{List}
 use Prim.Native.Nat.{ℕ, suc, _+_, _-_, _≤_, _<_}
@@ -11,6 +11,7 @@ use lib.Seq.{slice}
 use Rattle.rules.specs.declared.Grid.{Grid}
 use Rattle.rules.specs.declared.Ranking.{Ranking}
 use Rattle.walk.specs.declared.entry.Entry.{Entry}
+use Rattle.walk.specs.declared.entry.EntryRead.{EntryRead}
 use Rattle.walk.specs.declared.entry.EntryRead.the-variants as read
 use Rattle.walk.specs.Entries.{entryRead}
 use Rattle.best.specs.Keys.{keyOf}
@@ -41,30 +42,24 @@ module _ (c : StandColumns) (g : Grid) (q : Ranking) (order entries : List ℕ) 
     (w : Taking c g q order entries whole room len left e) where
   pub take-done : left ≤ 0 → Keeps whole (q .k) room (kept.Held len)
   unfolding entriesTaken
-  take-done h =
-      let none : left ≡ 0 = omega arith in
-      record { is = ap (λ (n : ℕ). entriesTaken c g q order entries n e (take len room)) (sym none) ∙ w .rest; holds = w .searching .holds }
+  take-done h = let none : left ≡ 0 = omega arith in record { is = rw none at (w .rest); holds = w .searching .holds }
 
-  module _ (some : 0 < left) where
+  module _ (some : 0 < left) (r : EntryRead) (this : r ≡ entryRead entries (length order) e) where
     -- this entry, then the others
-    onward : (s : Search) → readTaken c g q order (entryRead entries (length order) e) (take len room) ≡ s
+    onward : (s : Search) → readTaken c g q order r (take len room) ≡ s
         → andThen s (λ held. entriesTaken c g q order entries (left - 1) (suc e) held) ≡ whole
     unfolding entriesTaken
-    onward s h =
-        let one : suc (left - 1) ≡ left = omega arith in
-        ap (λ (s : Search). andThen s (λ held. entriesTaken c g q order entries (left - 1) (suc e) held)) (sym h)
-        ∙ ap (λ (n : ℕ). entriesTaken c g q order entries n e (take len room)) one
-        ∙ w .rest
+    onward s h = let one : left ≡ suc (left - 1) = omega arith in rw (← h, this) (rw one at (w .rest))
 
-    pub unread : entryRead entries (length order) e ≡ read.Broken → Keeps whole (q .k) room kept.Broken
+    pub unread : r ≡ read.Broken → Keeps whole (q .k) room kept.Broken
     unread h = record { is = onward broken (rw h); holds = tt }
 
-    module _ (x : Entry) (at : entryRead entries (length order) e ≡ read.At x) where
+    module _ (x : Entry) (at : r ≡ read.At x) where
       pub unusable : usable order x ≡ false → Keeps whole (q .k) room kept.Broken
       unusable h = record { is = onward broken (rw (at, h)); holds = tt }
 
-      module _ (able : usable order x ≡ true) (after : List ℕ) (r : Kept) (k : Keeps (entryTaken c g q order x (take len room)) (q .k) after r) where
-        pub take-next : (m : ℕ) → r ≡ kept.Held m → Taking c g q order entries whole after m (left - 1) (e + 1)
+      module _ (able : usable order x ≡ true) (after : List ℕ) (a : Kept) (k : Keeps (entryTaken c g q order x (take len room)) (q .k) after a) where
+        pub take-next : (m : ℕ) → a ≡ kept.Held m → Taking c g q order entries whole after m (left - 1) (e + 1)
         take-next m h =
             let s = held-is _ _ _ _ k m h in
             record {
@@ -72,5 +67,5 @@ module _ (c : StandColumns) (g : Grid) (q : Ranking) (order entries : List ℕ) 
               rest = ap (λ (n : ℕ). entriesTaken c g q order entries (left - 1) n (take m after)) (add-one e) ∙ onward (keys (take m after)) (rw (at, able) (s .0));
             }
 
-        pub take-stop : r ≡ kept.Broken → Keeps whole (q .k) after kept.Broken
+        pub take-stop : a ≡ kept.Broken → Keeps whole (q .k) after kept.Broken
         take-stop h = record { is = onward broken (rw (at, able) (broken-is _ _ _ _ k h)); holds = tt }

@@ -1,13 +1,14 @@
 -- A letter typed on the nodes of a lawful set leads to the node of the longer text, and so to its session.
 -- By the walk to a node's child, and since past a text that begins no name no longer one does. Assumes nothing.
 use mathlib.Core.Path.{_≡_, refl, sym, ap, _∙_, ap₂}
-use mathlib.Core.Logic.{_⊎_, inl, inr, ⊎-elim}
-use mathlib.Core.Bool.{Bool, true, false, cond}
+use mathlib.Core.Logic.{inl, ⊎-elim}
+use mathlib.Core.Bool.{true, false}
 use mathlib.Core.List.{List, [], _∷_, _++_}
 use Prim.Native.Nat.{ℕ, _≤_, _<_}
 use native.Mathlib.Omega.{arith}
 use lib.Dec.{ltb}
 use lib.ListN.{length}
+use borrow.Table.Steps.{cases}
 use borrow.Author.Tests.{eq-eqb, ne-eqb}
 use Rattle.base.specs.Lists.{begins, In}
 use Rattle.base.proofs.Tests.{le-or-lt}
@@ -21,8 +22,7 @@ use Rattle.rules.specs.Sessions.{nodeOr0, sessionOf}
 use Rattle.rules.proofs.Lawful.{set-parts}
 use Rattle.meaning.proofs.Tables.{beginnings-tree}
 use Rattle.meaning.proofs.Walking.{node-in, node-out}
-use Rattle.walk.specs.declared.Child.the-variants.{At, Nowhere}
-use Rattle.walk.specs.Walks.{node, childIn}
+use Rattle.walk.specs.Walks.{childIn}
 use Rattle.walk.specs.Nodes.{nodeOf}
 use Rattle.walk.proofs.Lawful.{node-of-out, child-found}
 use Rattle.session.specs.Strokes.{passed, lost, nextOn, lengthened, arrived, typedOn}
@@ -32,11 +32,7 @@ use Rattle.session.proofs.Texts.{node-some, path-last, len-of, session-
 
 -- the session that a letter arrives at, where it leads to the node of a text or nowhere
 arrives-at : (t : Table) (q : List ℕ) (s : Session) (b : ℕ) → arrived s b (nodeOf t q) ≡ passed (lengthened s b (nodeOr0 t q))
-arrives-at t q s b = step (ltb (numberIn q (beginnings t)) (length (beginnings t)))
-  where
-    step : (c : Bool) → arrived s b (cond c (At (node (numberIn q (beginnings t)))) Nowhere) ≡ passed (lengthened s b (cond c (numberIn q (beginnings t)) 0))
-    step true = refl
-    step false = refl
+arrives-at t q s b = cases (ltb (numberIn q (beginnings t)) (length (beginnings t))) (λ e. rw e) (λ e. rw e)
 
 -- the empty text has a node
 root-in : (t : Table) (p : List ℕ) → length p ≡ 0 → In p (beginnings t)
@@ -47,11 +43,11 @@ root-in t (a ∷ p) e = absurd (omega arith)
 -- the letters p led nowhere exactly if they have no node
 module _ (t : Table) (p : List ℕ) where
   pub lost-in : In p (beginnings t) → lost (length p) (nodeOr0 t p) ≡ false
-  lost-in h = step (le-or-lt (length p) 0)
-    where
-      step : (length p ≤ 0) ⊎ (0 < length p) → lost (length p) (nodeOr0 t p) ≡ false
-      step (inl none) = lost-none (length p) (nodeOr0 t p) (omega arith)
-      step (inr some) = lost-some (length p) (nodeOr0 t p) (λ z. omega arith) ∙ ne-eqb (nodeOr0 t p) 0 (node-some t p h some)
+  lost-in h =
+      ⊎-elim
+      (λ (none : length p ≤ 0). lost-none (length p) (nodeOr0 t p) (omega arith))
+      (λ (some : 0 < length p). lost-some (length p) (nodeOr0 t p) (λ z. omega arith) ∙ ne-eqb (nodeOr0 t p) 0 (node-some t p h some))
+      (le-or-lt (length p) 0)
 
   pub lost-out : (In p (beginnings t) → ⊥) → lost (length p) (nodeOr0 t p) ≡ true
   lost-out h = lost-some (length p) (nodeOr0 t p) (λ z. h (root-in t p z)) ∙ eq-eqb (nodeOr0 t p) 0 (node-out t p h)

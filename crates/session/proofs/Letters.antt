@@ -1,18 +1,19 @@
 -- What typing and rubbing out are refused with, and the letters that then stand: of a text, and of any session whose text has all its places.
 -- Assumes nothing.
 use mathlib.Core.Path.{_≡_, refl, sym, ap, _∙_}
-use mathlib.Core.Logic.{_⊎_, inl, inr}
-use mathlib.Core.Bool.{Bool, true, false, cond}
+use mathlib.Core.Logic.{⊎-elim}
+use mathlib.Core.Bool.{true, false}
 use mathlib.Core.List.{List, [], _∷_, _++_}
 use Prim.Native.Nat.{ℕ, _-_, _≤_, _<_}
 use native.Mathlib.Omega.{arith}
 use native.Mathlib.Numerals.{add-one}
 use lib.Dec.{leb}
 use lib.ListN.{length, take, drop, length-append, length-take, take-append-drop}
-use lib.Seq.{length-take-le, take-at, take-take, take-set-le, take-suc-set}
+use lib.Seq.{length-take-le, take-take, take-set-le, take-suc-set}
+use borrow.Table.Steps.{cases}
 use borrow.Author.Tests.{le-leb, lt-leb}
 use Rattle.base.specs.Lists.{all}
-use Rattle.base.proofs.Tests.{which, le-or-lt}
+use Rattle.base.proofs.Tests.{le-or-lt}
 use Rattle.base.proofs.Scans.{all-both, all-left}
 use Rattle.rules.specs.declared.Session.{Session}
 use Rattle.rules.specs.Names.{allowed, textRefusal}
@@ -36,14 +37,14 @@ module _ (p : List ℕ) (b : ℕ) where
 
 -- no letters stand but allowed ones, and no more than 24
 pub typed-allowed : (p : List ℕ) (b : ℕ) → textRefusal p ≡ 0 → textRefusal (lettersTyped p b) ≡ 0
-typed-allowed p b e = step (le-or-lt 24 (length p)) (which (allowed b))
-  where
-    step : (24 ≤ length p) ⊎ (length p < 24) → (allowed b ≡ true) ⊎ (allowed b ≡ false) → textRefusal (lettersTyped p b) ≡ 0
-    step (inl h) a = rw (type-full p b h) e
-    step (inr h) (inr a) = rw (type-unallowed p b h a) e
-    step (inr h) (inl a) =
-        rw (type-taken p b h a)
-        (text-taken (p ++ (b ∷ [])) (simp length-append (omega arith)) (all-both allowed p (b ∷ []) (text-parts p e .1) (rw a)))
+typed-allowed p b e =
+    ⊎-elim
+    (λ (h : 24 ≤ length p). rw (type-full p b h) e)
+    (λ (h : length p < 24).
+    cases (allowed b)
+    (λ a. rw (type-taken p b h a) (text-taken (p ++ (b ∷ [])) (simp length-append (omega arith)) (all-both allowed p (b ∷ []) (text-parts p e .1) (rw a))))
+    (λ a. rw (type-unallowed p b h a) e))
+    (le-or-lt 24 (length p))
 
 pub rubbed-allowed : (p : List ℕ) → textRefusal p ≡ 0 → textRefusal (butLast p) ≡ 0
 rubbed-allowed p e =
@@ -54,12 +55,10 @@ rubbed-allowed p e =
 -- the numbers are the rules' own: 7 is none of them
 pub type-not-seven : (p : List ℕ) (b : ℕ) → typeRefusal p b ≡ 7 → ⊥
 unfolding typeRefusal
-type-not-seven p b = step (leb 24 (length p)) (allowed b)
-  where
-    step : (full spelled : Bool) → _≡_ {A = ℕ} (cond full 9 (cond spelled 0 8)) 7 → ⊥
-    step true a e = omega arith
-    step false true e = omega arith
-    step false false e = omega arith
+type-not-seven p b e =
+    cases (leb 24 (length p))
+    (λ f. omega (arith, rw f at e))
+    (λ f. cases (allowed b) (λ a. omega (arith, rw (f, a) at e)) (λ a. omega (arith, rw (f, a) at e)))
 
 pub rub-not-seven : (p : List ℕ) → rubRefusal p ≡ 7 → ⊥
 rub-not-seven [] e = omega arith

@@ -6,10 +6,9 @@ use mathlib.Core.Bool.{true, false}
 use mathlib.Core.List.{List, [], _∷_, _++_}
 use Prim.Native.Nat.{ℕ, _≤_, _<_}
 use native.Mathlib.Omega.{arith}
-use lib.Dec.{eqb}
 use lib.ListN.{length, getD}
-use borrow.Author.Tests.{eqb-true, eqb-false}
-use Rattle.base.proofs.Tests.{which, le-or-lt}
+use borrow.Table.Steps.{cases}
+use Rattle.base.proofs.Tests.{le-or-lt}
 use Rattle.rules.specs.declared.Session.{Session}
 use Rattle.rules.specs.Numbers.{verdictNumber}
 use Rattle.rules.specs.Names.{allowed}
@@ -23,7 +22,7 @@ use Rattle.session.specs.Strokes.{passed, nextOn, shortened, arrived, ty
 use Rattle.session.specs.Promises.{TableOf, TypePromise, RubPromise}
 use Rattle.session.proofs.Steps.{typed-over, typed-full, typed-unallowed, typed-arrived, rubbed-over, rubbed-none, rubbed-last}
 use Rattle.session.proofs.Letters.{type-full, type-unallowed, type-taken, rub-none, rub-some, letters-count, letters-longer, letters-shorter}
-use Rattle.session.proofs.Texts.{len-of, session-shorter}
+use Rattle.session.proofs.Texts.{lawful-len, session-shorter}
 use Rattle.session.proofs.Lawful.{typed-served}
 
 -- what a promise says of a stroke on any words
@@ -32,10 +31,6 @@ Harmless refusal letters s r = (verdictNumber (r .verdict) ≡ 7) ⊎ ((verdictN
 
 abbrev Kept : Session → Stroke → Type 0
 Kept s r = (verdictNumber (r .verdict) ≡ 0 → ⊥) → r .session ≡ s
-
--- how many letters a lawful session has
-lawful-len : (t : Table) (s : Session) → LawfulSession t s → s .len ≡ length (lettersOf s)
-lawful-len t s l = ap (λ (u : Session). u .len) (l .same) ∙ len-of t (lettersOf s)
 
 -- ---- typing
 
@@ -47,12 +42,11 @@ data Typing (s : Session) (b : ℕ) : Type 0 where
   open-to : s .len < 24 → allowed b ≡ true → Typing s b
 
 typing : (s : Session) (b : ℕ) → Typing s b
-typing s b = ⊎-elim (λ (h : s .len ≤ 24). within h (which (eqb (s .len) 24)) (which (allowed b))) over (le-or-lt (s .len) 24)
-  where
-    within : s .len ≤ 24 → (eqb (s .len) 24 ≡ true) ⊎ (eqb (s .len) 24 ≡ false) → (allowed b ≡ true) ⊎ (allowed b ≡ false) → Typing s b
-    within h (inl e) a = full (eqb-true (s .len) 24 e)
-    within h (inr e) (inl a) = let n = eqb-false (s .len) 24 e in open-to (omega arith) a
-    within h (inr e) (inr a) = let n = eqb-false (s .len) 24 e in unallowed (omega arith) a
+typing s b =
+    ⊎-elim
+    (λ (h : 24 ≤ s .len). ⊎-elim (λ (k : s .len ≤ 24). full (omega arith)) over (le-or-lt (s .len) 24))
+    (λ (h : s .len < 24). cases (allowed b) (open-to h) (unallowed h))
+    (le-or-lt 24 (s .len))
 
 module _ (nodes : List ℕ) (s : Session) (b : ℕ) where
   abbrev out : Stroke
@@ -110,11 +104,7 @@ data Rubbing (s : Session) : Type 0 where
   some : s .len ≤ 24 → 0 < s .len → Rubbing s
 
 rubbing : (s : Session) → Rubbing s
-rubbing s = ⊎-elim (λ (h : s .len ≤ 24). within h (le-or-lt (s .len) 0)) over (le-or-lt (s .len) 24)
-  where
-    within : s .len ≤ 24 → (s .len ≤ 0) ⊎ (0 < s .len) → Rubbing s
-    within h (inl k) = none (omega arith)
-    within h (inr k) = some h k
+rubbing s = ⊎-elim (λ (h : s .len ≤ 24). ⊎-elim (λ (k : s .len ≤ 0). none (omega arith)) (some h) (le-or-lt (s .len) 0)) over (le-or-lt (s .len) 24)
 
 module _ (s : Session) where
   last-out : s .len ≤ 24 → 0 < s .len → rubbedOut s ≡ passed (shortened s)

@@ -2,12 +2,10 @@
 -- And that a rub-out undoes a typed letter. Assumes nothing.
 use mathlib.Core.Path.{_≡_, refl, sym, ap, _∙_, subst, ap₂}
 use mathlib.Core.Logic.{⊎-elim}
-use mathlib.Core.Bool.{Bool, true, false}
 use mathlib.Core.List.{List, []}
 use Prim.Native.Nat.{ℕ, _≤_}
 use native.Mathlib.Omega.{arith}
 use lib.ListN.{length, getD}
-use Rattle.base.specs.Lists.{In}
 use Rattle.base.proofs.Begins.{in-or-out}
 use Rattle.rules.specs.declared.Session.{Session}
 use Rattle.rules.specs.declared.Verdict.{Verdict}
@@ -27,7 +25,7 @@ use Rattle.session.specs.Strokes.{lost, reached}
 use Rattle.session.specs.Promises.{KeyPromise, TableOf, TypePromise, RubPromise}
 use Rattle.session.proofs.Steps.{reached-nowhere, reached-node}
 use Rattle.session.proofs.Letters.{typed-allowed, rubbed-allowed, type-not-seven, rub-not-seven}
-use Rattle.session.proofs.Texts.{len-of, session-lawful, fresh-is, path-last}
+use Rattle.session.proofs.Texts.{lawful-len, session-lawful, fresh-is, path-last}
 use Rattle.session.proofs.Lawful.{lost-in, lost-out}
 
 -- ---- a lawful session
@@ -36,11 +34,8 @@ module _ (t : Table) (s : Session) (l : LawfulSession t s) where
   short : length (lettersOf s) ≤ 24
   short = text-parts (lettersOf s) (l .allowed) .0
 
-  many : s .len ≡ length (lettersOf s)
-  many = ap (λ (u : Session). u .len) (l .same) ∙ len-of t (lettersOf s)
-
   pub lawful-short : s .len ≤ 24
-  lawful-short = omega (arith, many, short)
+  lawful-short = omega (arith, lawful-len t s l, short)
 
   -- the last place of its path is the node of its letters, or 0 where there is none
   pub lawful-last : getD (s .path) (s .len) 0 ≡ nodeOr0 t (lettersOf s)
@@ -48,22 +43,13 @@ module _ (t : Table) (s : Session) (l : LawfulSession t s) where
 
   -- where its letters came to is their node
   pub lawful-reached : reached s ≡ nodeOf t (lettersOf s)
-  lawful-reached = ⊎-elim within without (in-or-out p (beginnings t))
-    where
-      p : List ℕ
-      p = lettersOf s
-
-      found : (b : Bool) → lost (length p) (nodeOr0 t p) ≡ b → lost (s .len) (getD (s .path) (s .len) 0) ≡ b
-      found b e = ap₂ lost many lawful-last ∙ e
-
-      within : In p (beginnings t) → reached s ≡ nodeOf t p
-      within h =
-          reached-node s lawful-short (found false (lost-in t p h))
-          ∙ ap (λ (n : ℕ). At (node n)) (lawful-last ∙ node-in t p h)
-          ∙ sym (node-of-in t p h)
-
-      without : (In p (beginnings t) → ⊥) → reached s ≡ nodeOf t p
-      without h = reached-nowhere s lawful-short (found true (lost-out t p h)) ∙ sym (node-of-out t p h)
+  lawful-reached =
+      let p = lettersOf s in
+      let found : lost (s .len) (getD (s .path) (s .len) 0) ≡ lost (length p) (nodeOr0 t p) = ap₂ lost (lawful-len t s l) lawful-last in
+      ⊎-elim
+      (λ h. reached-node s lawful-short (found ∙ lost-in t p h) ∙ ap (λ (n : ℕ). At (node n)) (lawful-last ∙ node-in t p h) ∙ sym (node-of-in t p h))
+      (λ h. reached-nowhere s lawful-short (found ∙ lost-out t p h) ∙ sym (node-of-out t p h))
+      (in-or-out p (beginnings t))
 
 pub fresh-lawful : (t : Table) → LawfulSession t freshSession
 fresh-lawful t = subst (LawfulSession t) (sym (fresh-is t)) (session-lawful t [] (text-taken [] (omega arith) refl))

@@ -15,7 +15,6 @@ use Rattle.rules.specs.declared.Refusal.the-variants.{NotLawful, TextByteNotAll
 use Rattle.rules.specs.Names.{allowed}
 use Rattle.walk.specs.declared.Child.the-variants.{At, Nowhere, Broken}
 use Rattle.walk.specs.Walks.{node, childIn}
-use Rattle.session.specs.declared.Led.{Led}
 use Rattle.session.specs.declared.Led.the-variants.{To, Refused}
 use Rattle.session.specs.Strokes.{passed, refusedStroke, lost, nextOn, shortened, ledTo, ledOn, struck, arrived, typedOn, rubbedOut, reached}
 
@@ -74,17 +73,13 @@ module _ (nodes : List ℕ) (letters last b : ℕ) where
     led-on h = rw (le-ltb 24 letters (omega arith), ne-eqb letters 24 (λ e. omega arith), h)
 
 -- only where there is room does a letter lead anywhere
-abbrev places : Led → ℕ
-places (To n) = 1
-places (Refused why) = 0
-
 pub led-room : (nodes : List ℕ) (letters last b n : ℕ) → ledOn nodes letters last b ≡ To n → letters < 24
 led-room nodes letters last b n e =
     ⊎-elim
     (λ (f : 24 ≤ letters).
     ⊎-elim
-    (λ (g : letters ≤ 24). let z : 0 ≡ 1 = ap places (sym (led-full nodes letters last b (omega arith)) ∙ e) in absurd (omega arith))
-    (λ (g : 24 < letters). let z : 0 ≡ 1 = ap places (sym (led-over nodes letters last b g) ∙ e) in absurd (omega arith))
+    (λ (g : letters ≤ 24). let z : _≡_ {A = ℕ} 0 1 = cc (e, led-full nodes letters last b (omega arith)) in absurd (omega arith))
+    (λ (g : 24 < letters). let z : _≡_ {A = ℕ} 0 1 = cc (e, led-over nodes letters last b g) in absurd (omega arith))
     (le-or-lt letters 24))
     (λ (f : letters < 24). f)
     (le-or-lt 24 letters)

@@ -1,7 +1,7 @@
 -- The session of a text: its letters, its path place by place, and what one letter more and one less make of it.
 -- Assumes nothing.
 use mathlib.Core.Path.{_≡_, refl, sym, ap, _∙_}
-use mathlib.Core.Logic.{_⊎_, inl, inr}
+use mathlib.Core.Logic.{inl, ⊎-elim}
 use mathlib.Core.List.{List, [], _∷_, _++_, append-assoc}
 use Prim.Native.Nat.{ℕ, zero, suc, _+_, _-_, _≤_, _<_}
 use native.Mathlib.Omega.{arith}
@@ -11,7 +11,7 @@ use lib.Seq.{take-all, take-length, take-suc, take-append-seam, take-append-le, 
 use borrow.Author.Tests.{le-leb, lt-leb}
 use Rattle.base.specs.Lists.{upTo, each, In}
 use Rattle.base.proofs.Tests.{le-or-lt}
-use Rattle.base.proofs.Members.{length-each}
+use Rattle.base.proofs.Members.{length-each, replicate-at}
 use Rattle.base.proofs.Runs.{length-from, getD-each-from, each-constant, set-each}
 use Rattle.rules.specs.declared.Session.{Session}
 use Rattle.rules.specs.Tables.{Table}
@@ -25,16 +25,11 @@ use Rattle.session.specs.Strokes.{lengthened, shortened}
 
 -- ---- a text with zeros behind it, in n places
 
-zeros : (m k : ℕ) → getD (replicate {A = ℕ} m 0) k 0 ≡ 0
-zeros zero k = refl
-zeros (suc m) zero = refl
-zeros (suc m) (suc k) = zeros m k
-
 module _ (n : ℕ) (p : List ℕ) where
   padded-behind : getD (p ++ replicate (n - length p) 0) (length p) 0 ≡ 0
   padded-behind =
       let e : length p ≡ length p + 0 = omega arith in
-      ap (λ (k : ℕ). getD (p ++ replicate (n - length p) 0) k 0) e ∙ getD-append-add p (replicate (n - length p) 0) 0 0 ∙ zeros (n - length p) 0
+      ap (λ (k : ℕ). getD (p ++ replicate (n - length p) 0) k 0) e ∙ getD-append-add p (replicate (n - length p) 0) 0 0 ∙ replicate-at (n - length p) 0 0
 
   padded-typed : (b : ℕ) → length p < n → set (p ++ replicate (n - length p) 0) (length p) b ≡ (p ++ (b ∷ [])) ++ replicate (n - length (p ++ (b ∷ []))) 0
   padded-typed b h =
@@ -66,13 +61,13 @@ module _ (t : Table) (p : List ℕ) where
   -- at each place of the session's path; also where there is none
   pub path-at : length p ≤ 24 → (i : ℕ) → getD (sessionOf t p .path) i 0 ≡ pathAt t p i
   unfolding sessionOf
-  path-at short i = step (le-or-lt 25 i)
-    where
-      step : (25 ≤ i) ⊎ (i < 25) → getD (each (pathAt t p) (upTo 25)) i 0 ≡ pathAt t p i
-      step (inl h) =
-          let e : length (each (pathAt t p) (upTo 25)) ≤ i = omega (arith, length-each (pathAt t p) (upTo 25), length-from 0 25) in
-          List·getD-eq-default (each (pathAt t p) (upTo 25)) 0 e ∙ sym (path-behind i (omega arith))
-      step (inr h) = let z : 0 + i ≡ i = omega arith in getD-each-from (pathAt t p) 0 25 i 0 h ∙ ap (pathAt t p) z
+  path-at short i =
+      ⊎-elim
+      (λ (h : 25 ≤ i).
+      let e : length (each (pathAt t p) (upTo 25)) ≤ i = omega (arith, length-each (pathAt t p) (upTo 25), length-from 0 25) in
+      List·getD-eq-default (each (pathAt t p) (upTo 25)) 0 e ∙ sym (path-behind i (omega arith)))
+      (λ (h : i < 25). let z : 0 + i ≡ i = omega arith in getD-each-from (pathAt t p) 0 25 i 0 h ∙ ap (pathAt t p) z)
+      (le-or-lt 25 i)
 
   -- at the text's length it is the text's node, or 0
   pub path-last : length p ≤ 24 → getD (sessionOf t p .path) (sessionOf t p .len) 0 ≡ nodeOr0 t p
@@ -94,6 +89,10 @@ module _ (t : Table) (p : List ℕ) where
   pub session-lawful : textRefusal p ≡ 0 → LawfulSession t (sessionOf t p)
   session-lawful h = record { allowed = rw letters-of h; same = rw letters-of }
 
+-- how many letters a lawful session has
+pub lawful-len : (t : Table) (s : Session) → LawfulSession t s → s .len ≡ length (lettersOf s)
+lawful-len t s l = ap (λ (u : Session). u .len) (l .same) ∙ len-of t (lettersOf s)
+
 -- no letter is the fresh session, whatever the table
 pub fresh-is : (t : Table) → freshSession ≡ sessionOf t []
 unfolding sessionOf
@@ -114,11 +113,11 @@ module _ (t : Table) (p : List ℕ) (b : ℕ) where
 
   -- it changes one place of the path
   path-other : (i : ℕ) → (i ≡ suc (length p) → ⊥) → pathAt t p i ≡ pathAt t q i
-  path-other i other = step (le-or-lt i (length p))
-    where
-      step : (i ≤ length p) ⊎ (length p < i) → pathAt t p i ≡ pathAt t q i
-      step (inl h) = rw (le-leb i (length p) h, le-leb i (length q) (omega (arith, longer)), take-append-le i p (b ∷ []) h)
-      step (inr h) = rw (lt-leb i (length p) h, lt-leb i (length q) (omega (arith, longer)))
+  path-other i other =
+      ⊎-elim
+      (λ (h : i ≤ length p). rw (le-leb i (length p) h, le-leb i (length q) (omega (arith, longer)), take-append-le i p (b ∷ []) h))
+      (λ (h : length p < i). rw (lt-leb i (length p) h, lt-leb i (length q) (omega (arith, longer))))
+      (le-or-lt i (length p))
 
   path-new : nodeOr0 t q ≡ pathAt t q (suc (length p))
   path-new = rw (le-leb (suc (length p)) (length q) (omega (arith, longer)), take-all (suc (length p)) q (omega (arith, longer)))

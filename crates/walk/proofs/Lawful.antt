@@ -1,17 +1,18 @@
 -- On the words that building writes a walk finds the node of each text that begins a name, and no other; it never finds them broken.
 -- By the search along siblings in the letter tree. Assumes nothing.
 use mathlib.Core.Path.{_≡_, refl, sym, ap, _∙_, subst}
-use mathlib.Core.Logic.{_⊎_, inl, inr}
-use mathlib.Core.Bool.{true, false}
+use mathlib.Core.Logic.{inl, ⊎-elim}
+use mathlib.Core.Bool.{true}
 use mathlib.Core.List.{List, [], _∷_, _++_, append-nil, append-assoc}
 use Prim.Native.Nat.{ℕ, zero, suc, _+_, _*_, _/_, _≤_, _<_}
 use native.Mathlib.Omega.{arith}
 use native.Mathlib.Numerals.{add-one}
 use lib.Dec.{eqb}
 use lib.ListN.{length, getD}
+use borrow.Table.Steps.{cases}
 use borrow.Author.Tests.{lt-ltb, le-ltb, eqb-true, eqb-false}
 use Rattle.base.specs.Lists.{begins, In}
-use Rattle.base.proofs.Tests.{which, le-or-lt}
+use Rattle.base.proofs.Tests.{le-or-lt}
 use Rattle.base.proofs.Members.{getD-in}
 use Rattle.base.proofs.Begins.{begins-at, begins-length, begins-append, in-or-out}
 use Rattle.rules.specs.declared.Grid.{Grid}
@@ -64,7 +65,14 @@ module _ (t : Table) (g : Grid) (words : List ℕ) (written : begins (nodeWords 
       turn : (fuel c : ℕ) → Looking (beginnings t) j b c → pastOf (beginnings t) j < c + suc fuel
           → ((n : ℕ) → Looking (beginnings t) j b n → pastOf (beginnings t) j < n + fuel → Finds t words j b fuel n)
           → Finds t words j b (suc fuel) c
-      turn fuel c l enough rest = among (le-or-lt (pastOf (beginnings t) j) c)
+      turn fuel c l enough rest =
+          ⊎-elim
+          (λ (h : pastOf (beginnings t) j ≤ c).
+          let ended : c ≡ pastOf (beginnings t) j = omega (arith, l .within) in
+          siblings-past words (pastOf (beginnings t) j) b c (suc fuel) h
+          ∙ sym (node-of-out t (textOf t j ++ (b ∷ [])) (look-none (beginnings t) tree j inside b (subst (Looking (beginnings t) j b) ended l))))
+          (λ h. let last = lastByte (textOf t c) in cases (eqb last b) (λ q. here h (eqb-true last b q)) (λ q. next h (eqb-false last b q)))
+          (le-or-lt (pastOf (beginnings t) j) c)
         where
           here : c < pastOf (beginnings t) j → lastByte (textOf t c) ≡ b → Finds t words j b (suc fuel) c
           here h e =
@@ -82,17 +90,6 @@ module _ (t : Table) (g : Grid) (words : List ℕ) (written : begins (nodeWords 
               siblings-next words (pastOf (beginnings t) j) b c fuel h (λ e. other (sym (node-row c 1 k (omega arith)) ∙ e)) (omega arith)
               ∙ ap (siblings words (pastOf (beginnings t) j) b fuel) w
               ∙ rest (pastOf (beginnings t) c) (look-next (beginnings t) tree j inside b c l h other) (omega arith)
-
-          byte : c < pastOf (beginnings t) j → (eqb (lastByte (textOf t c)) b ≡ true) ⊎ (eqb (lastByte (textOf t c)) b ≡ false) → Finds t words j b (suc fuel) c
-          byte h (inl q) = here h (eqb-true (lastByte (textOf t c)) b q)
-          byte h (inr q) = next h (eqb-false (lastByte (textOf t c)) b q)
-
-          among : (pastOf (beginnings t) j ≤ c) ⊎ (c < pastOf (beginnings t) j) → Finds t words j b (suc fuel) c
-          among (inl h) =
-              let ended : c ≡ pastOf (beginnings t) j = omega (arith, l .within) in
-              siblings-past words (pastOf (beginnings t) j) b c (suc fuel) h
-              ∙ sym (node-of-out t (textOf t j ++ (b ∷ [])) (look-none (beginnings t) tree j inside b (subst (Looking (beginnings t) j b) ended l)))
-          among (inr h) = byte h (which (eqb (lastByte (textOf t c)) b))
 
       turns : (fuel c : ℕ) → Looking (beginnings t) j b c → pastOf (beginnings t) j < c + fuel → Finds t words j b fuel c
       turns zero c l enough = absurd (omega (arith, l .within))
@@ -116,20 +113,13 @@ module _ (t : Table) (g : Grid) (words : List ℕ) (written : begins (nodeWords 
     walk-found : (p text : List ℕ) → In p (beginnings t) → nodeFrom words (numberIn p (beginnings t)) text ≡ nodeOf t (p ++ text)
     unfolding nodeFrom
     walk-found p [] h = rw (append-nil p) (sym (node-of-in t p h))
-    walk-found p (b ∷ text) h = step (walk-found (p ++ (b ∷ [])) text) (in-or-out (p ++ (b ∷ [])) (beginnings t))
-      where
-        longer : begins (p ++ (b ∷ [])) (p ++ (b ∷ text)) ≡ true
-        longer = rw (append-assoc p (b ∷ []) text) at (begins-append (p ++ (b ∷ [])) text)
-
-        step : (In (p ++ (b ∷ [])) (beginnings t) → nodeFrom words (numberIn (p ++ (b ∷ [])) (beginnings t)) text ≡ nodeOf t ((p ++ (b ∷ [])) ++ text))
-            → In (p ++ (b ∷ [])) (beginnings t) ⊎ (In (p ++ (b ∷ [])) (beginnings t) → ⊥) → nodeFrom words (numberIn p (beginnings t)) (b ∷ text) ≡ nodeOf t (p ++ (b ∷ text))
-        step rest (inl k) =
-            ap (λ (c : Child). onFrom c (λ n. nodeFrom words n text)) (child-found p b h ∙ node-of-in t (p ++ (b ∷ [])) k)
-            ∙ rest k
-            ∙ ap (nodeOf t) (append-assoc p (b ∷ []) text)
-        step rest (inr k) =
-            ap (λ (c : Child). onFrom c (λ n. nodeFrom words n text)) (child-found p b h ∙ node-of-out t (p ++ (b ∷ [])) k)
-            ∙ sym (node-of-out t (p ++ (b ∷ text)) (λ m. k (tree .closed (p ++ (b ∷ [])) (p ++ (b ∷ text)) m longer)))
+    walk-found p (b ∷ text) h =
+        let longer : begins (p ++ (b ∷ [])) (p ++ (b ∷ text)) ≡ true = rw (append-assoc p (b ∷ []) text) at (begins-append (p ++ (b ∷ [])) text) in
+        ap (λ (c : Child). onFrom c (λ n. nodeFrom words n text)) (child-found p b h)
+        ∙ ⊎-elim
+        (λ (k : In (p ++ (b ∷ [])) (beginnings t)). rw (node-of-in t (p ++ (b ∷ [])) k) (walk-found (p ++ (b ∷ [])) text k ∙ ap (nodeOf t) (append-assoc p (b ∷ []) text)))
+        (λ k. rw (node-of-out t (p ++ (b ∷ [])) k) (sym (node-of-out t (p ++ (b ∷ text)) (λ m. k (tree .closed (p ++ (b ∷ [])) (p ++ (b ∷ text)) m longer)))))
+        (in-or-out (p ++ (b ∷ [])) (beginnings t))
 
     pub node-found : (text : List ℕ) → nodeIn words text ≡ nodeOf t text
     unfolding beginnings

@@ -1,15 +1,14 @@
 -- A text's listing: the ways that it is read; that on the words that building writes it is the one of the rules; and what that lists.
 -- Assumes nothing.
 use mathlib.Core.Path.{_≡_, refl, sym, ap, _∙_, subst}
-use mathlib.Core.Logic.{_⊎_, inl, inr}
-use mathlib.Core.Bool.{true, false}
+use mathlib.Core.Logic.{⊎-elim}
 use mathlib.Core.List.{List, []}
 use Prim.Native.Nat.{ℕ, _/_, _≤_, _<_}
 use native.Mathlib.Omega.{arith}
 use lib.ListN.{length, getD}
 use borrow.Author.Tests.{lt-ltb, le-ltb, le-leb, lt-leb}
 use Rattle.base.specs.Lists.{In, begins, each, upTo}
-use Rattle.base.proofs.Tests.{which}
+use Rattle.base.proofs.Tests.{refuted}
 use Rattle.base.proofs.Members.{keep-none}
 use Rattle.base.proofs.Runs.{in-from}
 use Rattle.base.proofs.Begins.{in-or-out}
@@ -24,7 +23,6 @@ use Rattle.grid.proofs.Listed.{listed-by}
 use Rattle.meaning.proofs.Tree.{number-in, number-out}
 use Rattle.meaning.proofs.Tables.{beginnings-of}
 use Rattle.meaning.proofs.Words.{entries-length}
-use Rattle.walk.specs.declared.listing.Listing.{Listing}
 use Rattle.walk.specs.declared.listing.Listing.the-variants.{Entries, Nowhere, Broken}
 use Rattle.walk.specs.Walks.{nodeIn}
 use Rattle.walk.specs.Nodes.{nodeOf}
@@ -58,25 +56,19 @@ module _ (t : Table) (g : Grid) (p : List ℕ) where
   -- a text that begins no name has no stand under it
   under-none : (In p (beginnings t) → ⊥) → under t p ≡ []
   unfolding under
-  under-none out = keep-none (λ i. begins p (nameOf t i)) (upTo (stands t)) (λ i k. step i k (which (begins p (nameOf t i))))
-    where
-      step : (i : ℕ) → In i (upTo (stands t)) → (begins p (nameOf t i) ≡ true) ⊎ (begins p (nameOf t i) ≡ false) → begins p (nameOf t i) ≡ false
-      step i k (inl b) = absurd (out (beginnings-of t i p (omega (arith, in-from 0 (stands t) i k)) b))
-      step i k (inr b) = b
+  under-none out =
+      keep-none (λ i. begins p (nameOf t i)) (upTo (stands t))
+      (λ i k. refuted (begins p (nameOf t i)) (λ b. out (beginnings-of t i p (omega (arith, in-from 0 (stands t) i k)) b)))
 
   pub nowhere-none : listingOf t g p ≡ Nowhere → under t p ≡ []
-  nowhere-none e = step (in-or-out p (beginnings t))
-    where
-      step : In p (beginnings t) ⊎ (In p (beginnings t) → ⊥) → under t p ≡ []
-      step (inl h) = let z : _≡_ {A = ℕ} 0 1 = cc (e, listing-in h) in absurd (omega arith)
-      step (inr h) = under-none h
+  nowhere-none e = ⊎-elim (λ h. let z : _≡_ {A = ℕ} 0 1 = cc (e, listing-in h) in absurd (omega arith)) under-none (in-or-out p (beginnings t))
 
   pub never-broken : listingOf t g p ≡ Broken → ⊥
-  never-broken e = step (in-or-out p (beginnings t))
-    where
-      step : In p (beginnings t) ⊎ (In p (beginnings t) → ⊥) → ⊥
-      step (inl h) = let z : _≡_ {A = ℕ} 0 1 = cc (e, listing-in h) in omega arith
-      step (inr h) = let z : _≡_ {A = ℕ} 0 1 = cc (e, listing-out h) in omega arith
+  never-broken e =
+      ⊎-elim
+      (λ h. let z : _≡_ {A = ℕ} 0 1 = cc (e, listing-in h) in omega arith)
+      (λ h. let z : _≡_ {A = ℕ} 0 1 = cc (e, listing-out h) in omega arith)
+      (in-or-out p (beginnings t))
 
 -- what a listing of entries is, in a lawful set: the entries of the rules, as many as there are regions
 pub record Lists (t : Table) (g : Grid) (x : Index) (p : List ℕ) (cells : Cells) (first : ℕ) : Type 0 where
@@ -97,41 +89,37 @@ module _ (t : Table) (g : Grid) (x : Index) (s : SetParts t g x) (p : List ℕ) 
       }
 
   pub entries-listed : (cells : Cells) (first : ℕ) → listingOf t g p ≡ Entries cells first → Lists t g x p cells first
-  entries-listed cells first e = step (in-or-out p (beginnings t))
-    where
-      step : In p (beginnings t) ⊎ (In p (beginnings t) → ⊥) → Lists t g x p cells first
-      step (inl h) =
-          let same = sym e ∙ listing-in t g p h in
-          subst (λ (l : Listing). Of l) (sym same) (in-lists h)
-        where
-          Of : Listing → Type 0
-          Of (Entries cells first) = Lists t g x p cells first
-          Of Nowhere = Unit {0}
-          Of Broken = Unit {0}
-      step (inr h) = let z : _≡_ {A = ℕ} 0 1 = cc (e, listing-out t g p h) in absurd (omega arith)
+  entries-listed cells first e =
+      ⊎-elim
+      (λ h.
+      let c : cellsBy (occupied t g p) ≡ cells = cc (e, listing-in t g p h) in
+      let n : getD (nodeRow t g (numberIn p (beginnings t))) 7 0 ≡ first = cc (e, listing-in t g p h) in
+      rw (c, n) at (in-lists h))
+      (λ h. let z : _≡_ {A = ℕ} 0 1 = cc (e, listing-out t g p h) in absurd (omega arith))
+      (in-or-out p (beginnings t))
 
   -- ---- the words that building writes
 
   -- from the text's node, if it has one
   pub listing-reached : listingAt (x .nodes) (nodeOf t p) ≡ listingOf t g p
   unfolding listingIn cellsBy
-  listing-reached = step (in-or-out p (beginnings t))
-    where
-      step : In p (beginnings t) ⊎ (In p (beginnings t) → ⊥) → listingAt (x .nodes) (nodeOf t p) ≡ listingOf t g p
-      step (inr h) = ap (listingAt (x .nodes)) (node-of-out t p h) ∙ sym (listing-out t g p h)
-      step (inl h) =
-          let j = numberIn p (beginnings t) in
-          let n = number-in p (beginnings t) h in
-          let written = s .nodes in
-          ap (listingAt (x .nodes)) (node-of-in t p h)
-          ∙ rw (
-            lt-leb (length (x .nodes) / 8) j (omega (arith, nodes-within t g (x .nodes) written, n .0)),
-            node-row t g (x .nodes) written j 5 (n .0) (omega arith),
-            node-row t g (x .nodes) written j 6 (n .0) (omega arith),
-            node-row t g (x .nodes) written j 7 (n .0) (omega arith),
-            n .1,
-          )
-          (sym (listing-in t g p h))
+  listing-reached =
+      ⊎-elim
+      (λ (h : In p (beginnings t)).
+      let j = numberIn p (beginnings t) in
+      let n = number-in p (beginnings t) h in
+      let written = s .nodes in
+      ap (listingAt (x .nodes)) (node-of-in t p h)
+      ∙ rw (
+        lt-leb (length (x .nodes) / 8) j (omega (arith, nodes-within t g (x .nodes) written, n .0)),
+        node-row t g (x .nodes) written j 5 (n .0) (omega arith),
+        node-row t g (x .nodes) written j 6 (n .0) (omega arith),
+        node-row t g (x .nodes) written j 7 (n .0) (omega arith),
+        n .1,
+      )
+      (sym (listing-in t g p h)))
+      (λ h. ap (listingAt (x .nodes)) (node-of-out t p h) ∙ sym (listing-out t g p h))
+      (in-or-out p (beginnings t))
 
   -- by a walk along the text
   pub listing-found : listingAt (x .nodes) (nodeIn (x .nodes) p) ≡ listingOf t g p

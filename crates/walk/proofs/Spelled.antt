@@ -1,12 +1,13 @@
 -- One entry's words: the ways that it is read; and that on the words that building writes a node's entries are the rules'.
 -- Assumes nothing.
-use mathlib.Core.Path.{_≡_, refl, sym, ap, _∙_, subst}
-use mathlib.Core.Bool.{Bool, true, false, cond, _&&_}
+use mathlib.Core.Path.{_≡_, sym, ap, _∙_}
+use mathlib.Core.Bool.{true, false, _&&_}
 use mathlib.Core.List.{List, [], _∷_}
 use Prim.Native.Nat.{ℕ, suc, _+_, _*_, _/_, _≤_, _<_}
 use native.Mathlib.Omega.{arith}
-use lib.Dec.{ltb, leb}
+use lib.Dec.{ltb}
 use lib.ListN.{length, getD}
+use borrow.Table.Steps.{cases}
 use borrow.Author.Tests.{lt-ltb, le-ltb, le-leb, ltb-true, leb-true}
 use Rattle.base.specs.Lists.{each}
 use Rattle.base.proofs.Tests.{and-parts}
@@ -30,15 +31,6 @@ use Rattle.walk.specs.Entries.{entryWord, entryIn, entryWithin, entryRea
 -- ---- on any words
 
 module _ (places : ℕ) (e : Entry) where
-  pub no-region : 64 ≤ e .region → false ≡ entryWithin places e
-  unfolding entryWithin
-  no-region h = rw (le-ltb _ _ h)
-
-  pub past-decides : e .region < 64 → leb (e .past .0) places ≡ entryWithin places e
-  unfolding entryWithin
-  past-decides h = rw (lt-ltb _ _ h)
-
-  -- both ways
   pub within-facts : entryWithin places e ≡ true → (e .region < 64) × (e .past .0 ≤ places)
   unfolding entryWithin
   within-facts q = let w = and-parts _ _ q in (ltb-true _ _ (w .0), leb-true _ _ (w .1))
@@ -62,17 +54,23 @@ module _ (words : List ℕ) (places number : ℕ) where
     entry-is h = rw (lt-ltb _ _ there, h)
 
 -- one that was read is there, and within the places
-pub read-facts : (words : List ℕ) (places number : ℕ) (x : Entry) → entryRead words places number ≡ At x → (number < length words / 4) × (entryWithin places x ≡ true)
-unfolding entryRead
-read-facts words places number x e = subst Facts e (step _ refl)
-  where
-    Facts : EntryRead → Type 0
-    Facts (At x) = (number < length words / 4) × (entryWithin places x ≡ true)
-    Facts Broken = Unit {0}
+module _ (words : List ℕ) (places number : ℕ) (r : EntryRead) (x : Entry) (read : r ≡ entryRead words places number) (e : r ≡ At x) where
+  read-facts : (ltb number (length words / 4) ≡ true) × (entryWithin places x ≡ true)
+  unfolding entryRead
+  read-facts =
+      let it = ltb number (length words / 4) && entryWithin places (entryIn words number) in
+      cases it
+      (λ q. let same : entryIn words number ≡ x = cc (rw q at read) in let w = and-parts _ _ q in (w .0, rw same at (w .1)))
+      (λ q. let z : _≡_ {A = ℕ} 0 1 = cc (rw q at read) in absurd (omega arith))
 
-    step : (b : Bool) → (ltb number (length words / 4) && entryWithin places (entryIn words number)) ≡ b → Facts (cond b (At (entryIn words number)) Broken)
-    step true h = let w = and-parts _ _ h in (ltb-true _ _ (w .0), w .1)
-    step false h = tt
+  pub read-there : number < length words / 4
+  read-there = ltb-true _ _ (read-facts .0)
+
+  pub read-within : entryWithin places x ≡ true
+  read-within = read-facts .1
+
+  pub read-region : x .region < 64
+  read-region = within-facts places x read-within .0
 
 -- entries that are read one by one stand one after the other
 spelled-by : (words : List ℕ) (places : ℕ) (d : Entry) (es : List Entry) (number : ℕ) → ((i : ℕ) → i < length es → entryRead words places (number + i) ≡ At (getD es i d))

@@ -2,12 +2,13 @@
 -- Assumes nothing.
 use mathlib.Core.Path.{_≡_, refl, sym, ap, _∙_}
 use mathlib.Core.List.{List}
-use Prim.Native.Nat.{ℕ, zero, suc, _+_, _/_, _≤_, _<_}
+use Prim.Native.Nat.{ℕ, zero, suc, _+_, _-_, _/_, _≤_, _<_}
 use native.Mathlib.Omega.{arith}
 use native.Mathlib.Numerals.{add-one}
 use lib.ListN.{length, drop, getD, drop-of-length-le}
 use lib.Seq.{drop-cons}
 use borrow.Author.Tests.{lt-ltb, le-ltb, le-leb, lt-leb, eq-eqb, ne-eqb}
+use Rattle.walk.specs.declared.Child.{Child}
 use Rattle.walk.specs.declared.Child.the-variants.{At, Nowhere, Broken}
 use Rattle.walk.specs.Walks.{node, nodeWord, siblings, childIn, onFrom, nodeFrom, nodeIn}
 
@@ -57,32 +58,25 @@ module _ (words : List ℕ) (above byte : ℕ) where
     done h = sym (s .same ∙ siblings-past words past byte c (s .fuel) h)
 
     module _ (more : c < past) where
-      -- so there is fuel for one turn more
-      left : (f : ℕ) × (s .fuel ≡ suc f)
-      left = some (s .fuel) (s .enough)
-        where
-          some : (f : ℕ) → past < c + f → (e : ℕ) × (f ≡ suc e)
-          some zero h = absurd (omega arith)
-          some (suc e) h = (e, refl)
-
-      turn : childIn words above byte ≡ siblings words past byte (suc (left .0)) c
-      turn = s .same ∙ ap (λ (f : ℕ). siblings words past byte f c) (left .1)
+      -- there is fuel for one turn more
+      turn : childIn words above byte ≡ siblings words past byte (suc (s .fuel - 1)) c
+      turn = let one : s .fuel ≡ suc (s .fuel - 1) = omega (arith, s .enough) in s .same ∙ ap (λ (f : ℕ). siblings words past byte f c) one
 
       pub found : nodeWord words c 1 ≡ byte → At (node c) ≡ childIn words above byte
-      found e = sym (turn ∙ siblings-here words past byte c (left .0) more e)
+      found e = sym (turn ∙ siblings-here words past byte c (s .fuel - 1) more e)
 
       module _ (other : nodeWord words c 1 ≡ byte → ⊥) where
         pub broken : nodeWord words c 4 ≤ c → Broken ≡ childIn words above byte
-        broken h = sym (turn ∙ siblings-back words past byte c (left .0) more other h)
+        broken h = sym (turn ∙ siblings-back words past byte c (s .fuel - 1) more other h)
 
         pub onward : c < nodeWord words c 4 → Searching words above byte past (nodeWord words c 4)
         onward h =
             record {
               within = s .within;
               small = s .small;
-              fuel = left .0;
-              enough = omega (arith, s .enough, left .1);
-              same = turn ∙ siblings-next words past byte c (left .0) more other h;
+              fuel = s .fuel - 1;
+              enough = omega (arith, s .enough);
+              same = turn ∙ siblings-next words past byte c (s .fuel - 1) more other h;
             }
 
 -- the walk to a text's node stands at node n after i letters: from here it goes on with the rest
@@ -99,16 +93,16 @@ module _ (words text : List ℕ) where
     unfolding nodeFrom
     walk-ends h = sym (w .rest ∙ rw (drop-of-length-le text h))
 
-    module _ (more : i < length text) where
-      letter : nodeIn words text ≡ onFrom (childIn words n (getD text i 0)) (λ m. nodeFrom words m (drop (i + 1) text))
+    module _ (more : i < length text) (to : Child) (there : to ≡ childIn words n (getD text i 0)) where
+      letter : nodeIn words text ≡ onFrom to (λ m. nodeFrom words m (drop (i + 1) text))
       unfolding nodeFrom
-      letter = w .rest ∙ rw (drop-cons text i 0 more, add-one)
+      letter = w .rest ∙ rw (drop-cons text i 0 more, add-one, ← there)
 
-      pub walk-on : (below : ℕ) → childIn words n (getD text i 0) ≡ At (node below) → Walking words text below (i + 1)
+      pub walk-on : (below : ℕ) → to ≡ At (node below) → Walking words text below (i + 1)
       walk-on below e = record { within = omega arith; rest = letter ∙ rw e }
 
-      pub walk-stops : childIn words n (getD text i 0) ≡ Nowhere → Nowhere ≡ nodeIn words text
+      pub walk-stops : to ≡ Nowhere → Nowhere ≡ nodeIn words text
       walk-stops e = sym (letter ∙ rw e)
 
-      pub walk-breaks : childIn words n (getD text i 0) ≡ Broken → Broken ≡ nodeIn words text
+      pub walk-breaks : to ≡ Broken → Broken ≡ nodeIn words text
       walk-breaks e = sym (letter ∙ rw e)

@@ -4,8 +4,5 @@ use Rattle.node.proofs.Gathering.{high-is}
 use Rattle.node.proofs.high_word.Statement.{statement}
 use Rattle.node.proofs.high_word.Tie as tie
 
-returns : tie.Need-returns
-returns c = λ test e. high-is _ test e
-
 pub high-word-spec : {M : Type 1} → statement M
-high-word-spec = tie.close (tie.spec (search needs) returns)
+high-word-spec = tie.close (tie.spec (search needs) (λ c. search (needs, high-is)))

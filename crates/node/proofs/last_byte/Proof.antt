@@ -6,39 +6,18 @@ use borrow.Author.Tests.{eq-eqb, ne-eqb}
 use Rattle.node.proofs.last_byte.Statement.{statement}
 use Rattle.node.proofs.last_byte.Tie as tie
 
-returns : tie.Need-returns
-returns c = simp (eq-eqb _ _ (c .if1 .taken))
-
-mul-at : tie.Need-mul-at
-mul-at c = omega (arith, c .before .before .before .before .pre .inside (omega arith))
-
-shared-slice-read-at : tie.Need-shared-slice-read-at
-shared-slice-read-at c = omega (arith, c .before .before .before .before .before .pre .inside (omega arith))
-
-cast-at-2 : tie.Need-cast-at-2
-cast-at-2 c = omega (arith, c .shared-slice-known3 .given (c .before .before .before .before .before .args .stand .0))
-
-add-at : tie.Need-add-at
-add-at c = omega (arith, c .before .before .before .before .before .before .pre .inside (omega arith), c .wide .ensures)
-
-shared-slice-read-word : tie.Need-shared-slice-read-word
-shared-slice-read-word c = omega (arith, c .before .before .before .before .before .before .before .pre .inside (omega arith), c .before .wide .ensures)
-
-returns-2 : tie.Need-returns-2
-returns-2 c = c .word .ensures ∙ simp (c .before .before .wide .ensures, ne-eqb _ _ (c .before .before .before .before .before .if1 .left))
-
 pub last-byte-spec : {M : Type 1} → statement M
 last-byte-spec =
     tie.close
     (tie.spec
-    returns
+    (λ c. search (needs, eq-eqb))
     (search needs)
-    mul-at
-    shared-slice-read-at
-    cast-at-2
+    (λ c. omega (arith, c .before .before .before .before .pre .inside (omega arith)))
+    (λ c. omega (arith, c .before .before .before .before .before .pre .inside (omega arith)))
+    (λ c. omega (arith, c .shared-slice-known3 .given (c .before .before .before .before .before .args .stand .0)))
     (search needs)
     (λ c κs. search needs)
-    add-at
-    shared-slice-read-word
+    (λ c. omega (arith, c .before .before .before .before .before .before .pre .inside (omega arith), c .wide .ensures))
+    (λ c. omega (arith, c .before .before .before .before .before .before .before .pre .inside (omega arith), c .before .wide .ensures))
     (λ c κs. search needs)
-    returns-2)
+    (λ c. c .word .ensures ∙ simp (c .before .before .wide .ensures, ne-eqb _ _ (c .before .before .before .before .before .if1 .left))))

@@ -4,8 +4,5 @@ use Rattle.node.proofs.Gathering.{low-is}
 use Rattle.node.proofs.low_word.Statement.{statement}
 use Rattle.node.proofs.low_word.Tie as tie
 
-returns : tie.Need-returns
-returns c = λ test e. low-is _ test e
-
 pub low-word-spec : {M : Type 1} → statement M
-low-word-spec = tie.close (tie.spec (search needs) returns)
+low-word-spec = tie.close (tie.spec (search needs) (λ c. search (needs, low-is)))

@@ -23,18 +23,6 @@ sum-fits c =
       omega (arith, c .word2 .ensures, c .before .before .word .ensures, c .before .before .before .value-at .ensures, c .before .grown .ensures),
     )
 
-add-t11 : tie.Need-add-t11
-add-t11 c = omega (arith, sum-fits (c .before))
-
-add-t12 : tie.Need-add-t12
-add-t12 c = omega (arith, sum-fits (c .before))
-
-add-t13 : tie.Need-add-t13
-add-t13 c = omega (arith, sum-fits (c .before))
-
-sub-t14 : tie.Need-sub-t14
-sub-t14 c = omega (arith, sum-fits (c .before))
-
 returns : tie.Need-returns
 returns c = omega (arith, c .before .word2 .ensures, c .before .before .grown .ensures, c .before .before .before .word .ensures, c .before .before .before .before .value-at .ensures)
 
@@ -46,8 +34,8 @@ past-number-spec =
     (λ c κs. search needs)
     (λ c κs. search needs)
     (λ c κs. search needs)
-    add-t11
-    add-t12
-    add-t13
-    sub-t14
+    (λ c. search (needs, sum-fits))
+    (λ c. search (needs, sum-fits))
+    (λ c. omega (arith, sum-fits (c .before)))
+    (λ c. omega (arith, sum-fits (c .before)))
     returns)

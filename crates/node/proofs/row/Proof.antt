@@ -5,9 +5,6 @@ use Rattle.node.proofs.Gathering.{length-fits, spelt-at, parent-is, pas
 use Rattle.node.proofs.row.Statement.{statement}
 use Rattle.node.proofs.row.Tie as tie
 
-parent-requires : tie.Need-parent-requires
-parent-requires c κs = let s = c .before .before .before .before .before .before in length-fits _ _ (s .pre .grows) (s .args .cursor) (s .pre .on)
-
 last-byte-requires : tie.Need-last-byte-requires
 last-byte-requires c κs =
     let s = c .before .before .before .before .before .before .before in
@@ -33,7 +30,7 @@ pub row-spec : {M : Type 1} → statement M
 row-spec =
     tie.close
     (tie.spec
-    parent-requires
+    (λ c κs. search (needs, length-fits))
     last-byte-requires
     past-number-requires
     (λ c κs. search needs)

@@ -9,17 +9,11 @@ use Rattle.range.specs.Fetches.{agree}
 use Rattle.range.proofs.agree.Statement.{statement}
 use Rattle.range.proofs.agree.Tie as tie
 
-returns : tie.Need-returns
-unfolding agree
-returns c = sym (every-not _ 0 (lt-leb _ _ (c .if1 .taken)))
-
-returns-2 : tie.Need-returns-2
-unfolding agree
-returns-2 c = sym (every-not _ 1 (lt-leb _ _ (c .if2 .taken)))
-
 returns-3 : tie.Need-returns-3
 unfolding agree every
 returns-3 c = rw (le-leb _ 1024 (c .before .if1 .left), le-leb _ _ (c .if2 .left)) (sym (and-true _))
 
 pub agree-spec : {M : Type 1} → statement M
-agree-spec = tie.close (tie.spec returns returns-2 returns-3)
+unfolding agree
+agree-spec =
+    tie.close (tie.spec (λ c. sym (every-not _ 0 (lt-leb _ _ (c .if1 .taken)))) (λ c. sym (every-not _ 1 (lt-leb _ _ (c .if2 .taken)))) returns-3)

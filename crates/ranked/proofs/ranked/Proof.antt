@@ -1,17 +1,8 @@
 -- `ranked::ranked` meets its promise: the text is refused, or its listing goes before. Assumes nothing.
 use borrow.Author.Needs.{needs}
-use mathlib.Core.Path.{sym, ap, _∙_}
-use Rattle.rules.specs.Numbers.{verdictNumber}
 use Rattle.ranked.proofs.Ways.{of-refused, of-listed}
 use Rattle.ranked.proofs.ranked.Statement.{statement}
 use Rattle.ranked.proofs.ranked.Tie as tie
-
-returns : tie.Need-returns
-returns c = of-refused _ _ _ _ _ _ _ (c .before .why .given .0 .0) (ap verdictNumber (sym (c .before .why .given .1)) ∙ c .before .before .before .text-verdict .ensures)
-
-returns-2 : tie.Need-returns-2
-returns-2 c =
-    of-listed _ _ _ _ _ _ _ _ _ (sym (c .before .before .before .before .before .before .before .before .before .before .text-verdict .ensures) ∙ ap verdictNumber (c .before .before .before .before .before .before .before .before .enum-told .given .1)) (c .before .before .before .before .before .before .before .listing-of .ensures) (c .before .before .before .before .ranked-from .ensures)
 
 pub ranked-spec : {M : Type 1} → statement M
 ranked-spec =
@@ -19,10 +10,10 @@ ranked-spec =
     (tie.spec
     (λ c κs. search needs)
     (search needs)
-    returns
+    (λ c. search (needs, of-refused))
     (search needs)
     (λ c κs. search needs)
     (λ c κs. search needs)
     (search needs)
     (search needs)
-    returns-2)
+    (λ c. search (needs, of-listed)))

@@ -15,47 +15,23 @@ searchable c =
       values-fit = c .before .before .if3 .left;
     }
 
-returns : tie.Need-returns
-returns c = from-12 _ _ _ _ _ _ _ _ (breaks _ _ (c .before .rankable .ensures) (c .if1 .taken))
-
-returns-2 : tie.Need-returns-2
-returns-2 c = from-short-found _ _ _ _ _ _ _ _ (holds _ _ (c .before .before .before .rankable .ensures) (c .before .before .if1 .left)) (c .if2 .taken)
-
-returns-3 : tie.Need-returns-3
-returns-3 c = from-short-values _ _ _ _ _ _ _ _ (holds _ _ (c .before .before .before .before .rankable .ensures) (c .before .before .before .if1 .left)) (c .before .if2 .left) (c .if3 .taken)
-
-returns-4 : tie.Need-returns-4
-returns-4 c = from-unlawful _ _ _ _ _ _ _ _ (breaks _ _ (c .before .lawful .ensures) (c .if4 .taken))
-
-best-listed-requires : tie.Need-best-listed-requires
-best-listed-requires c κs = searchable (c .before .before .before .before .before)
-
-returns-5 : tie.Need-returns-5
-returns-5 c = from-entries _ _ _ _ _ _ _ _ (searchable (c .before .before .before .before .before .before .before .before .before .before)) _ _ _ (c .before .before .before .before .before .before .before .before .at .given .1) (c .before .before .before .before .best-listed .ensures)
-
-returns-6 : tie.Need-returns-6
-returns-6 c = from-nowhere _ _ _ _ _ _ _ _ (searchable (c .before .before)) (c .enum-told .given .1)
-
-returns-7 : tie.Need-returns-7
-returns-7 c = from-broken _ _ _ _ _ _ _ _ (c .enum-told2 .given .1)
-
 pub ranked-from-spec : {M : Type 1} → statement M
 ranked-from-spec =
     tie.close
     (tie.spec
     (λ c κs. search needs)
-    returns
+    (λ c. search (needs, from-12, breaks))
     (search needs)
-    returns-2
-    returns-3
+    (λ c. search (needs, from-short-found, holds))
+    (λ c. search (needs, from-short-values, holds))
     (λ c κs. search needs)
-    returns-4
+    (λ c. search (needs, from-unlawful, breaks))
     (search needs)
-    best-listed-requires
-    (search needs)
-    (search needs)
+    (λ c κs. search (needs, searchable))
     (search needs)
     (search needs)
-    returns-5
-    returns-6
-    returns-7)
+    (search needs)
+    (search needs)
+    (λ c. search (needs, from-entries, searchable))
+    (λ c. search (needs, from-nowhere, searchable))
+    (λ c. search (needs, from-broken)))

@@ -12,30 +12,8 @@ Inv-loop held len found₀ values₀ i₀ found values i = Writing held len foun
 abbrev μ-loop : tie.MeasureT-loop
 μ-loop held len found₀ values₀ i₀ found values i = len - i
 
-loop-holds : tie.Need-loop-holds Inv-loop μ-loop
-loop-holds c = write-begin _ _ _ _ (c .before .before .pre)
-
-slice-write-found : tie.Need-slice-write-found Inv-loop μ-loop
-slice-write-found c =
-    let w = c .before .before .before .loop .inv in
-    omega (arith, stands-long _ _ _ _ _ _ _ w, w .fits .stands-fit)
-
-slice-write-values : tie.Need-slice-write-values Inv-loop μ-loop
-slice-write-values c =
-    let w = c .before .before .before .before .loop .inv in
-    omega (arith, values-long _ _ _ _ _ _ _ w, w .fits .values-fit)
-
 loop-again : tie.Need-loop-again Inv-loop μ-loop
 loop-again c = rw (c .before .stand-of .ensures, c .value-of .ensures) (write-next _ _ _ _ _ _ _ (c .before .before .before .before .loop .inv) (c .before .before .before .loop-test .taken))
-
-same-length : tie.Need-same-length Inv-loop μ-loop
-same-length c = stands-long _ _ _ _ _ _ _ (c .before .loop .inv)
-
-same-length-2 : tie.Need-same-length-2 Inv-loop μ-loop
-same-length-2 c = values-long _ _ _ _ _ _ _ (c .before .loop .inv)
-
-returns : tie.Need-returns Inv-loop μ-loop
-returns c = write-done _ _ _ _ _ _ _ (c .before .loop .inv) (c .loop-test .left)
 
 pub write-held-spec : {M : Type 1} → statement M
 write-held-spec =
@@ -43,18 +21,18 @@ write-held-spec =
     (tie.spec
     Inv-loop
     μ-loop
-    loop-holds
+    (λ c. search (needs, write-begin))
     (search needs)
     (search needs)
     (λ c κs. search needs)
     (search needs)
-    slice-write-found
+    (λ c. omega (arith, stands-long _ _ _ _ _ _ _ (c .before .before .before .loop .inv)))
     (λ c κs. search needs)
     (search needs)
-    slice-write-values
+    (λ c. omega (arith, values-long _ _ _ _ _ _ _ (c .before .before .before .before .loop .inv)))
     (search needs)
     (search needs)
     loop-again
-    same-length
-    same-length-2
-    returns)
+    (λ c. search (needs, stands-long))
+    (λ c. search (needs, values-long))
+    (λ c. search (needs, write-done)))

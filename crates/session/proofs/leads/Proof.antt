@@ -1,43 +1,29 @@
 -- `session::leads` meets its contract: each return by the tests that lead there (proofs/Steps.antt). Assumes nothing.
-use mathlib.Core.Path.{sym, ap, _∙_}
+use mathlib.Core.Path.{_≡_, sym, ap, _∙_}
 use native.Mathlib.Omega.{arith}
 use borrow.Author.Needs.{needs}
 use Rattle.base.proofs.Tests.{breaks, holds}
-use Rattle.session.specs.Strokes.{ledTo}
+use Rattle.session.specs.Strokes.{ledTo, ledOn}
 use Rattle.session.proofs.Steps.{led-over, led-full, led-unallowed, led-on}
 use Rattle.session.proofs.leads.Statement.{statement}
 use Rattle.session.proofs.leads.Tie as tie
 
-returns : tie.Need-returns
-returns c = sym (led-over _ _ _ _ (c .if1 .taken))
-
-returns-2 : tie.Need-returns-2
-returns-2 c = sym (led-full _ _ _ _ (c .if2 .taken))
-
-returns-3 : tie.Need-returns-3
-returns-3 c = sym (led-unallowed _ _ _ _ (omega arith) (breaks _ _ (c .before .allowed .ensures) (c .if3 .taken)))
-
-returns-4 : tie.Need-returns-4
-returns-4 c = sym (led-on _ _ _ _ (omega arith) (holds _ _ (c .before .before .before .before .before .allowed .ensures) (c .before .before .before .before .if3 .left)) ∙ ap ledTo (sym (c .before .before .before .next .ensures) ∙ c .before .node .given .1))
-
-returns-5 : tie.Need-returns-5
-returns-5 c = sym (led-on _ _ _ _ (omega arith) (holds _ _ (c .before .before .before .before .allowed .ensures) (c .before .before .before .if3 .left)) ∙ ap ledTo (sym (c .before .before .next .ensures) ∙ c .enum-told .given .1))
-
-returns-6 : tie.Need-returns-6
-returns-6 c = sym (led-on _ _ _ _ (omega arith) (holds _ _ (c .before .before .before .before .allowed .ensures) (c .before .before .before .if3 .left)) ∙ ap ledTo (sym (c .before .before .next .ensures) ∙ c .enum-told2 .given .1))
+-- past the tests the letter leads where the next node does
+on : (c : tie.After-next) → let a = c .before .before .before .before .before .before .args in ledOn (a .nodes .now) (a .letters) (a .last .0) (a .byte) ≡ ledTo (c .next .result)
+on c = led-on _ _ _ _ (omega arith) (holds _ _ (c .before .before .allowed .ensures) (c .before .if3 .left)) ∙ ap ledTo (sym (c .next .ensures))
 
 pub leads-spec : {M : Type 1} → statement M
 leads-spec =
     tie.close
     (tie.spec
-    returns
-    returns-2
+    (λ c. search (needs, led-over))
+    (λ c. search (needs, led-full))
     (λ c κs. search needs)
-    returns-3
+    (λ c. sym (led-unallowed _ _ _ _ (omega arith) (breaks _ _ (c .before .allowed .ensures) (c .if3 .taken))))
     (λ c κs. search needs)
     (search needs)
     (search needs)
     (search needs)
-    returns-4
-    returns-5
-    returns-6)
+    (λ c. sym (on (c .before .before .before) ∙ ap ledTo (c .before .node .given .1)))
+    (λ c. sym (on (c .before .before) ∙ ap ledTo (c .enum-told .given .1)))
+    (λ c. sym (on (c .before .before) ∙ ap ledTo (c .enum-told2 .given .1))))

@@ -5,11 +5,11 @@ use Rattle.session.proofs.Steps.{next-nowhere, next-child}
 use Rattle.session.proofs.next.Statement.{statement}
 use Rattle.session.proofs.next.Tie as tie
 
-returns : tie.Need-returns
-returns c = sym (next-nowhere _ _ _ _ (sym (c .before .lost .ensures) ∙ c .if1 .taken))
-
-returns-2 : tie.Need-returns-2
-returns-2 c = c .child-of .ensures ∙ sym (next-child _ _ _ _ (sym (c .before .before .lost .ensures) ∙ c .before .if1 .left))
-
 pub next-spec : {M : Type 1} → statement M
-next-spec = tie.close (tie.spec (λ c κs. search needs) returns (λ c κs. search needs) returns-2)
+next-spec =
+    tie.close
+    (tie.spec
+    (λ c κs. search needs)
+    (λ c. sym (next-nowhere _ _ _ _ (sym (c .before .lost .ensures) ∙ c .if1 .taken)))
+    (λ c κs. search needs)
+    (λ c. c .child-of .ensures ∙ sym (next-child _ _ _ _ (sym (c .before .before .lost .ensures) ∙ c .before .if1 .left))))

@@ -21,23 +21,8 @@ led c =
 room : (c : tie.After-known-told) → c .before .before .before .before .before .before .args .session .len < 24
 room c = led-room _ _ _ _ _ (sym (c .before .before .before .leads .ensures) ∙ c .before .node .given .1)
 
-element-write-after : tie.Need-element-write-after
-element-write-after c = room c
-
-element-write-after-2 : tie.Need-element-write-after-2
-element-write-after-2 c = omega (arith, room c)
-
-add-after-2 : tie.Need-add-after-2
-add-after-2 c = record { fits = omega (arith, room c) }
-
-returns : tie.Need-returns
-unfolding lengthened
-returns c = sym (led (c .before .before .before) ∙ ap (struck _ _) (c .before .node .given .1))
-
-returns-2 : tie.Need-returns-2
-returns-2 c = sym (led (c .before .before .before) ∙ ap (struck _ _) (c .before .why .given .1))
-
 pub with-letter-spec : {M : Type 1} → statement M
+unfolding lengthened
 with-letter-spec =
     tie.close
     (tie.spec
@@ -46,11 +31,11 @@ with-letter-spec =
     (search needs)
     (λ c κs. search needs)
     (search needs)
-    element-write-after
+    (λ c. search (needs, room))
     (search needs)
     (search needs)
-    element-write-after-2
-    add-after-2
+    (λ c. omega (arith, room c))
+    (λ c. record { fits = omega (arith, room c) })
     (search needs)
-    returns
-    returns-2)
+    (λ c. sym (led (c .before .before .before) ∙ ap (struck _ _) (c .before .node .given .1)))
+    (λ c. sym (led (c .before .before .before) ∙ ap (struck _ _) (c .before .why .given .1))))

@@ -19,14 +19,8 @@ abbrev μ-loop : tie.MeasureT-loop
 add-length : tie.Need-add-length Inv-loop μ-loop
 add-length c = let s = c .before .before .before .before .before .before in omega (arith, s .pre .on .long, length-short _ _ (s .pre .grows) (s .args .cursor .stand .0))
 
-loop-holds : tie.Need-loop-holds Inv-loop μ-loop
-loop-holds c = let s = c .before .before .before .before .before .before in stepping _ _ (s .pre .grows) (s .args .cursor) (s .pre .on)
-
 add-length-2 : tie.Need-add-length-2 Inv-loop μ-loop
 add-length-2 c = omega (arith, shared-short _ _ (c .before .before .before .before .before .before .before .before .before .before .before .pre .grows) (c .before .before .before .before .loop .stand + 1), c .value-at .ensures)
-
-loop-again : tie.Need-loop-again Inv-loop μ-loop
-loop-again c = stepping-more _ _ (c .before .before .before .before .before .before .before .before .before .before .before .pre .grows) _ _ _ _ _ _ (c .before .before .before .before .loop .inv) (search needs) (ltb-true _ _ (c .before .if1 .taken)) (c .value-at .ensures)
 
 returns : tie.Need-returns Inv-loop μ-loop
 returns c =
@@ -44,13 +38,13 @@ step-spec =
     (search needs)
     (search needs)
     add-length
-    loop-holds
+    (λ c. search (needs, stepping))
     (search needs)
     (search needs)
     (search needs)
     (λ c κs. search needs)
     add-length-2
     (search needs)
-    loop-again
+    (λ c. search (needs, stepping-more, ltb-true))
     (search needs)
     returns)

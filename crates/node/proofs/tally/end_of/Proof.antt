@@ -14,15 +14,6 @@ Inv-loop shared bytes first past₀ past = Ending shared first bytes past
 abbrev μ-loop : tie.MeasureT-loop
 μ-loop shared bytes first past₀ past = length shared - past
 
-returns : tie.Need-returns Inv-loop μ-loop
-returns c = ended _ _ _ (c .if1 .taken) (search needs)
-
-loop-holds : tie.Need-loop-holds Inv-loop μ-loop
-loop-holds c = ending _ _ _ (search needs)
-
-loop-again : tie.Need-loop-again Inv-loop μ-loop
-loop-again c = ending-more _ _ _ _ (c .before .before .before .loop .inv) (search needs) (leb-true _ _ (c .if2 .taken))
-
 returns-2 : tie.Need-returns-2 Inv-loop μ-loop
 returns-2 c =
     let s = c .before .loop .inv in
@@ -35,12 +26,12 @@ end-of-spec =
     Inv-loop
     μ-loop
     (search needs)
-    returns
+    (λ c. search (needs, ended))
     (search needs)
-    loop-holds
+    (λ c. search (needs, ending))
     (search needs)
     (search needs)
     (search needs)
-    loop-again
+    (λ c. search (needs, ending-more, leb-true))
     (search needs)
     returns-2)

@@ -12,12 +12,6 @@ Inv-loop lengths shared sum₀ end stand₀ sum stand = Growing lengths shared s
 abbrev μ-loop : tie.MeasureT-loop
 μ-loop lengths shared sum₀ end stand₀ sum stand = end - stand
 
-loop-holds : tie.Need-loop-holds Inv-loop μ-loop
-loop-holds c = growing _ _ _ _ (search needs)
-
-sub-word : tie.Need-sub-word Inv-loop μ-loop
-sub-word c = c .before .before .before .before .before .before .pre .0 .part (c .before .before .before .loop .stand) (search needs)
-
 add-sum : tie.Need-add-sum Inv-loop μ-loop
 add-sum c =
     omega (
@@ -25,26 +19,20 @@ add-sum c =
       growing-fits _ _ _ _ _ _ _ (c .before .before .before .before .before .before .before .pre .0) (search needs) (c .before .before .before .before .loop .inv) (search needs) (c .word .ensures),
     )
 
-loop-again : tie.Need-loop-again Inv-loop μ-loop
-loop-again c = growing-more _ _ _ _ _ _ _ (c .before .before .before .before .loop .inv) (search needs) (c .word .ensures)
-
-returns : tie.Need-returns Inv-loop μ-loop
-returns c = growing-end _ _ _ _ _ _ (c .before .loop .inv) (c .loop-test .left)
-
 pub grown-spec : {M : Type 1} → statement M
 grown-spec =
     tie.close
     (tie.spec
     Inv-loop
     μ-loop
-    loop-holds
+    (λ c. search (needs, growing))
     (search needs)
     (search needs)
     (search needs)
-    sub-word
+    (λ c. c .before .before .before .before .before .before .pre .0 .part (c .before .before .before .loop .stand) (search needs))
     (λ c κs. search needs)
     add-sum
     (search needs)
     (search needs)
-    loop-again
-    returns)
+    (λ c. search (needs, growing-more))
+    (λ c. search (needs, growing-end)))

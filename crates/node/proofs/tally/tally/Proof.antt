@@ -12,9 +12,6 @@ Inv-loop region score next places₀ best₀ bits₀ end stand₀ places best bi
 abbrev μ-loop : tie.MeasureT-loop
 μ-loop region score next places₀ best₀ bits₀ end stand₀ places best bits stand = end - stand
 
-loop-holds : tie.Need-loop-holds Inv-loop μ-loop
-loop-holds c = tallying _ _ _ _ _ _ _ (search needs) (search needs) (search needs)
-
 add-places : tie.Need-add-places Inv-loop μ-loop
 add-places c =
     omega (
@@ -28,16 +25,13 @@ loop-again c =
     tallying-more _ _ _ _ _ _ _ _ _ _ (c .before .before .before .before .before .before .before .before .before .loop .inv) (search needs) (c .before .before .before .before .before .before .before .region-at .ensures .0) (c .before .before .before .before .before .before .before .region-at .ensures .1)
     _ (c .before .before .before .before .chosen .ensures) _ _ (c .before .before .chosen2 .ensures) (c .larger .ensures)
 
-returns : tie.Need-returns Inv-loop μ-loop
-returns c = tallying-end _ _ _ _ _ _ _ _ _ (c .before .loop .inv) (c .loop-test .left)
-
 pub tally-spec : {M : Type 1} → statement M
 tally-spec =
     tie.close
     (tie.spec
     Inv-loop
     μ-loop
-    loop-holds
+    (λ c. search (needs, tallying))
     (λ c κs. search needs)
     (search needs)
     (search needs)
@@ -61,4 +55,4 @@ tally-spec =
     (search needs)
     (search needs)
     loop-again
-    returns)
+    (λ c. search (needs, tallying-end)))

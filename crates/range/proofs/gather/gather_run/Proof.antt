@@ -21,18 +21,6 @@ Inv-loop east north order rect found₀ before end i₀ n₀ found i n = Gatheri
 abbrev μ-loop : tie.MeasureT-loop
 μ-loop east north order rect found₀ before end i₀ n₀ found i n = end - i
 
-loop-holds : tie.Need-loop-holds Inv-loop μ-loop
-loop-holds c = record { wide = search needs; fits = search needs; room = search needs; few = omega arith; size = refl; same = refl }
-
-cast-s : tie.Need-cast-s Inv-loop μ-loop
-cast-s c = omega (arith, c .shared-slice-known2 .given (c .before .before .loop .i))
-
-same-length : tie.Need-same-length Inv-loop μ-loop
-same-length c = c .before .before .before .loop .inv .size
-
-returns : tie.Need-returns Inv-loop μ-loop
-returns c = run-breaks _ _ _ _ _ _ _ _ _ _ _ (c .before .before .before .loop .inv) (c .before .before .loop-test .taken) (c .if1 .taken)
-
 -- what the test says, of the coordinates and not of their bits
 told : (c : tie.After-in-rect Inv-loop μ-loop) →
     let a = c .before .before .before .before .before .before .before .before .before .before .before .args in
@@ -56,12 +44,6 @@ loop-again c =
     (λ w. run-miss _ _ _ _ _ _ _ _ _ _ _ (at .inv) l k _ _ (sym (told (c .before)) ∙ w .0 .left) (w .1) (w .2))
     (c .if2 .came)
 
-same-length-2 : tie.Need-same-length-2 Inv-loop μ-loop
-same-length-2 c = c .before .loop .inv .size
-
-returns-2 : tie.Need-returns-2 Inv-loop μ-loop
-returns-2 c = run-ends _ _ _ _ _ _ _ _ _ _ _ (c .before .loop .inv) (c .loop-test .left)
-
 pub gather-run-spec : {M : Type 1} → statement M
 gather-run-spec =
     tie.close
@@ -70,12 +52,12 @@ gather-run-spec =
     μ-loop
     (search needs)
     (search needs)
-    loop-holds
+    (λ c. record { wide = search needs; fits = search needs; room = search needs; few = omega arith; size = refl; same = refl })
     (search needs)
     (search needs)
-    cast-s
-    same-length
-    returns
+    (λ c. omega (arith, c .shared-slice-known2 .given (c .before .before .loop .i)))
+    (λ c. c .before .before .before .loop .inv .size)
+    (λ c. search (needs, run-breaks))
     (search needs)
     (search needs)
     (search needs)
@@ -86,5 +68,5 @@ gather-run-spec =
     (search needs)
     (search needs)
     loop-again
-    same-length-2
-    returns-2)
+    (λ c. c .before .loop .inv .size)
+    (λ c. search (needs, run-ends)))

@@ -1,13 +1,9 @@
 -- `gather::put` meets its contract: a store past the end of a list leaves it as it is.
 -- Assumes nothing.
-use mathlib.Core.Path.{sym}
 use lib.Seq.{set-out}
 use borrow.Author.Needs.{needs}
 use Rattle.range.proofs.gather.put.Statement.{statement}
 use Rattle.range.proofs.gather.put.Tie as tie
 
-returns-2 : tie.Need-returns-2
-returns-2 c = sym (set-out _ _ _ (c .if1 .left))
-
 pub put-spec : {M : Type 1} → statement M
-put-spec = tie.close (tie.spec (search needs) (search needs) (search needs) (search needs) returns-2)
+put-spec = tie.close (tie.spec (search needs) (search needs) (search needs) (search needs) (λ c. search (needs, set-out)))

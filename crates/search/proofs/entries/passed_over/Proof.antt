@@ -4,12 +4,6 @@ use Rattle.search.proofs.Keeping.{not-full, last-decides}
 use Rattle.search.proofs.entries.passed_over.Statement.{statement}
 use Rattle.search.proofs.entries.passed_over.Tie as tie
 
-returns : tie.Need-returns
-returns c = not-full _ _ _ _ (c .before .pre) (c .if1 .taken)
-
-returns-2 : tie.Need-returns-2
-returns-2 c = last-decides _ _ _ _ (c .before .before .pre) (c .before .if1 .left)
-
 pub passed-over-spec : {M : Type 1} → statement M
 passed-over-spec =
-    tie.close (tie.spec returns (search needs) (search needs) (search needs) returns-2)
+    tie.close (tie.spec (λ c. search (needs, not-full)) (search needs) (search needs) (search needs) (λ c. search (needs, last-decides)))

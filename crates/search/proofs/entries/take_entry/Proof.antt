@@ -48,9 +48,6 @@ offer-places-requires c κs =
     let p = c .before .before .before .before .before .before .before .before .before .before .before .pre in
     (p .0, record { forward = omega (arith, entry-facts _ _ (p .1 .sound) .some); inside = within-facts _ _ (p .1 .inside) .1 })
 
-returns-2 : tie.Need-returns-2
-returns-2 c = not-passed _ _ _ _ _ _ _ _ (sym (decided (c .before .before .before)) ∙ c .before .before .if1 .left) (c .offer-places .ensures)
-
 pub take-entry-spec : {M : Type 1} → statement M
 take-entry-spec =
     tie.close
@@ -64,4 +61,4 @@ take-entry-spec =
     (λ c κs. search needs)
     returns
     offer-places-requires
-    returns-2)
+    (λ c. not-passed _ _ _ _ _ _ _ _ (sym (decided (c .before .before .before)) ∙ c .before .before .if1 .left) (c .offer-places .ensures)))

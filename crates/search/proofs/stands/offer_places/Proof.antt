@@ -15,20 +15,6 @@ Inv-loop east north score grid order asked held₀ len n₀ i₀ end held n i = 
 abbrev μ-loop : tie.MeasureT-loop
 μ-loop east north score grid order asked held₀ len n₀ i₀ end held n i = end - i
 
-loop-holds : tie.Need-loop-holds Inv-loop μ-loop
-loop-holds c =
-    let p = c .before .before .before .before .pre in
-    record { searching = p .0; run = p .1; rest = refl }
-
-returns : tie.Need-returns Inv-loop μ-loop
-returns c = offer-stop _ _ _ _ _ _ _ _ _ (c .before .before .before .before .before .before .loop .inv) (c .before .before .before .before .before .loop-test .taken) _ _ (c .before .before .offer-stand .ensures) (c .enum-told .given .1)
-
-loop-again : tie.Need-loop-again Inv-loop μ-loop
-loop-again c = offer-next _ _ _ _ _ _ _ _ _ (c .before .before .before .before .before .before .before .loop .inv) (c .before .before .before .before .before .before .loop-test .taken) _ _ (c .before .before .before .offer-stand .ensures) _ (c .before .more .given .1)
-
-returns-2 : tie.Need-returns-2 Inv-loop μ-loop
-returns-2 c = offer-done _ _ _ _ _ _ _ _ _ (c .before .loop .inv) (c .loop-test .left)
-
 pub offer-places-spec : {M : Type 1} → statement M
 offer-places-spec =
     tie.close
@@ -37,14 +23,14 @@ offer-places-spec =
     μ-loop
     (search needs)
     (search needs)
-    loop-holds
+    (λ c. search (needs, refl))
     (search needs)
     (search needs)
     (λ c κs. search needs)
     (search needs)
     (search needs)
-    returns
+    (λ c. search (needs, offer-stop))
     (search needs)
     (search needs)
-    loop-again
-    returns-2)
+    (λ c. search (needs, offer-next))
+    (λ c. search (needs, offer-done)))

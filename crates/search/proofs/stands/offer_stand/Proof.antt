@@ -23,18 +23,6 @@ facts : (c : tie.Else1) →
     StandFacts (standColumns (a .east .now) (a .north .now) (a .score .now)) (a .grid) (a .stand .0)
 facts c = stand-facts _ _ _ (holds _ _ (c .before .readable-stand .ensures) (c .if1 .left))
 
-returns : tie.Need-returns
-returns c = unreadable _ _ _ _ _ _ (breaks _ _ (c .before .readable-stand .ensures) (c .if1 .taken))
-
-shared-slice-copy-out-t17 : tie.Need-shared-slice-copy-out-t17
-shared-slice-copy-out-t17 c = facts c .has-east
-
-shared-slice-copy-out-t20 : tie.Need-shared-slice-copy-out-t20
-shared-slice-copy-out-t20 c = facts (c .before) .has-north
-
-shared-slice-read-value : tie.Need-shared-slice-read-value
-shared-slice-read-value c = facts (c .before .before .before) .has-score
-
 value-requires : tie.Need-value-requires
 value-requires c κs =
     let a = c .before .before .before .before .before .before .before .args in
@@ -62,13 +50,13 @@ offer-stand-spec =
     (tie.spec
     (search needs)
     (λ c κs. search needs)
-    returns
+    (λ c. search (needs, unreadable, breaks))
     (search needs)
-    shared-slice-copy-out-t17
+    (λ c. facts c .has-east)
     (search needs)
-    shared-slice-copy-out-t20
+    (λ c. facts (c .before) .has-north)
     (search needs)
-    shared-slice-read-value
+    (λ c. facts (c .before .before .before) .has-score)
     value-requires
     key-of-requires
     (search needs)

@@ -1,29 +1,17 @@
 -- `stands::readable_stand` tests what the definition does, in its order. Assumes nothing.
 use borrow.Author.Needs.{needs}
-use mathlib.Core.Path.{_∙_}
+use mathlib.Core.Path.{sym, _∙_}
 use lib.ListN.{getD}
 use mathlib.Core.Bool.{Bool}
 use lib.IntN.{ℤ, pos}
+use borrow.Author.Tests.{le-ltb, lt-leb}
+use Rattle.base.proofs.Tests.{every-not}
 use Rattle.base.proofs.Machine.{both-arrive}
 use Rattle.rules.specs.Places.{inGrid}
-use Rattle.search.proofs.Reading.{stand-large, no-east, no-north, no-score, score-over, place-decides}
+use Rattle.search.specs.Searches.{readableStand}
+use Rattle.search.proofs.Reading.{place-decides}
 use Rattle.search.proofs.stands.readable_stand.Statement.{statement}
 use Rattle.search.proofs.stands.readable_stand.Tie as tie
-
-returns : tie.Need-returns
-returns c = stand-large _ _ _ (c .if1 .taken)
-
-returns-2 : tie.Need-returns-2
-returns-2 c = no-east _ _ _ (c .if2 .taken)
-
-returns-3 : tie.Need-returns-3
-returns-3 c = no-north _ _ _ (c .if3 .taken)
-
-returns-4 : tie.Need-returns-4
-returns-4 c = no-score _ _ _ (c .if4 .taken)
-
-returns-5 : tie.Need-returns-5
-returns-5 c = score-over _ _ _ (c .if5 .taken)
 
 returns-6 : tie.Need-returns-6
 returns-6 c =
@@ -34,16 +22,17 @@ returns-6 c =
     ∙ place-decides _ _ _ (c .before .before .before .before .before .before .before .before .if1 .left) (c .before .before .before .before .before .before .before .if2 .left) (c .before .before .before .before .before .before .if3 .left) (c .before .before .before .before .before .if4 .left) (c .before .before .before .if5 .left)
 
 pub readable-stand-spec : {M : Type 1} → statement M
+unfolding readableStand
 readable-stand-spec =
     tie.close
     (tie.spec
-    returns
-    returns-2
-    returns-3
-    returns-4
+    (λ c. sym (every-not _ 0 (le-ltb _ _ (c .if1 .taken))))
+    (λ c. sym (every-not _ 1 (le-ltb _ _ (c .if2 .taken))))
+    (λ c. sym (every-not _ 2 (le-ltb _ _ (c .if3 .taken))))
+    (λ c. sym (every-not _ 3 (le-ltb _ _ (c .if4 .taken))))
     (search needs)
     (search needs)
-    returns-5
+    (λ c. sym (every-not _ 4 (lt-leb _ _ (c .if5 .taken))))
     (search needs)
     (search needs)
     (search needs)

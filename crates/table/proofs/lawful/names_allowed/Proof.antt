@@ -16,36 +16,23 @@ Inv-loop text starts stands i₀ i = Scanning (λ k. nameAllowed (name text star
 abbrev μ-loop : tie.MeasureT-loop
 μ-loop text starts stands i₀ i = stands - i
 
-loop-holds : tie.Need-loop-holds Inv-loop μ-loop
-loop-holds c = begin _ _
-
 told : (c : tie.After-name-allowed Inv-loop μ-loop) →
     let a = c .before .before .before .before .before .before .args in
     c .name-allowed .result ≡ nameAllowed (name (a .text .now) (a .starts .now) (c .before .before .before .loop .i))
 told c = c .name-allowed .ensures ∙ ap nameAllowed (c .before .name-of .ensures)
 
-returns : tie.Need-returns Inv-loop μ-loop
-unfolding namesAllowed
-returns c = sym (fail _ _ _ (c .before .before .before .loop-test .taken) (breaks _ _ (told (c .before)) (c .if1 .taken)) (c .before .before .before .before .loop .inv))
-
-loop-again : tie.Need-loop-again Inv-loop μ-loop
-loop-again c = pass _ _ _ (search needs) (holds _ _ (told (c .before)) (c .if1 .left)) (search needs)
-
-returns-2 : tie.Need-returns-2 Inv-loop μ-loop
-unfolding namesAllowed
-returns-2 c = sym (finish _ _ _ (search needs) (c .before .loop .inv))
-
 pub names-allowed-spec : {M : Type 1} → statement M
+unfolding namesAllowed
 names-allowed-spec =
     tie.close
     (tie.spec
     Inv-loop
     μ-loop
-    loop-holds
+    (λ c. search (needs, begin))
     (λ c κs. search needs)
     (λ c κs. search needs)
-    returns
+    (λ c. sym (fail _ _ _ (search needs) (breaks _ _ (told (c .before)) (c .if1 .taken)) (c .before .before .before .before .loop .inv)))
     (search needs)
     (search needs)
-    loop-again
-    returns-2)
+    (λ c. search (needs, pass, holds, told))
+    (λ c. sym (finish _ _ _ (search needs) (c .before .loop .inv))))

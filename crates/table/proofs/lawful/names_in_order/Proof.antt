@@ -1,6 +1,6 @@
 -- `lawful::names_in_order` tests each name and the next: the invariant is Scanning.
 -- Assumes nothing.
-use Prim.Native.Nat.{_+_, _-_, _<_}
+use Prim.Native.Nat.{_+_, _-_}
 use mathlib.Core.Path.{_≡_, sym, _∙_, ap₂}
 use borrow.Author.Needs.{needs}
 use Rattle.base.proofs.Tests.{breaks, holds}
@@ -16,43 +16,27 @@ Inv-loop text starts stands i₀ i = Scanning (λ k. inOrder (name text starts k
 abbrev μ-loop : tie.MeasureT-loop
 μ-loop text starts stands i₀ i = stands - i
 
-loop-holds : tie.Need-loop-holds Inv-loop μ-loop
-loop-holds c = begin _ _
-
 told : (c : tie.After-in-order Inv-loop μ-loop) →
     let a = c .before .before .before .before .before .before .before .args in
     let i = c .before .before .before .before .loop .i in
     c .in-order .result ≡ inOrder (name (a .text .now) (a .starts .now) i) (name (a .text .now) (a .starts .now) (i + 1))
 told c = c .in-order .ensures ∙ ap₂ inOrder (c .before .before .name-of .ensures) (c .before .name-of2 .ensures)
 
-returns : tie.Need-returns Inv-loop μ-loop
-unfolding namesInOrder
-returns c =
-    let at = c .before .before .before .before .before .loop in
-    let more : at .i < c .before .before .before .before .before .before .before .before .args .stands - 1 = search needs in
-    sym (fail _ _ _ more (breaks _ _ (told (c .before)) (c .if1 .taken)) (at .inv))
-
-loop-again : tie.Need-loop-again Inv-loop μ-loop
-loop-again c = pass _ _ _ (search needs) (holds _ _ (told (c .before)) (c .if1 .left)) (search needs)
-
-returns-2 : tie.Need-returns-2 Inv-loop μ-loop
-unfolding namesInOrder
-returns-2 c = sym (finish _ _ _ (search needs) (c .before .loop .inv))
-
 pub names-in-order-spec : {M : Type 1} → statement M
+unfolding namesInOrder
 names-in-order-spec =
     tie.close
     (tie.spec
     Inv-loop
     μ-loop
-    loop-holds
+    (λ c. search (needs, begin))
     (search needs)
     (λ c κs. search needs)
     (search needs)
     (λ c κs. search needs)
     (λ c κs. search needs)
-    returns
+    (λ c. sym (fail _ _ _ (search needs) (breaks _ _ (told (c .before)) (c .if1 .taken)) (c .before .before .before .before .before .loop .inv)))
     (search needs)
     (search needs)
-    loop-again
-    returns-2)
+    (λ c. pass _ _ _ (search needs) (holds _ _ (told (c .before)) (c .if1 .left)) (search needs))
+    (λ c. sym (finish _ _ _ (search needs) (c .before .loop .inv))))

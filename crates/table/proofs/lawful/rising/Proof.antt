@@ -1,6 +1,6 @@
 -- `lawful::rising` tests each start against the next: the invariant is Scanning.
 -- Assumes nothing.
-use Prim.Native.Nat.{_+_, _-_, _<_}
+use Prim.Native.Nat.{_+_, _-_}
 use mathlib.Core.Path.{sym}
 use lib.Dec.{leb}
 use lib.ListN.{length, getD}
@@ -17,38 +17,22 @@ Inv-loop starts i₀ i = Scanning (λ k. leb (getD starts k 0) (getD starts (k +
 abbrev μ-loop : tie.MeasureT-loop
 μ-loop starts i₀ i = length starts - i
 
-loop-holds : tie.Need-loop-holds Inv-loop μ-loop
-loop-holds c = begin _ _
-
-returns : tie.Need-returns Inv-loop μ-loop
-unfolding rising
-returns c =
-    let at = c .before .before .before .before .loop in
-    let more : at .i < length (c .before .before .before .before .before .args .starts .now) - 1 = search needs in
-    sym (fail _ _ _ more (lt-leb _ _ (c .if1 .taken)) (at .inv))
-
-loop-again : tie.Need-loop-again Inv-loop μ-loop
-loop-again c = pass _ _ _ (search needs) (le-leb _ _ (c .if1 .left)) (search needs)
-
-returns-2 : tie.Need-returns-2 Inv-loop μ-loop
-unfolding rising
-returns-2 c = sym (finish _ _ _ (search needs) (c .before .loop .inv))
-
 pub rising-spec : {M : Type 1} → statement M
+unfolding rising
 rising-spec =
     tie.close
     (tie.spec
     Inv-loop
     μ-loop
-    loop-holds
+    (λ c. search (needs, begin))
     (search needs)
     (search needs)
     (search needs)
     (search needs)
     (search needs)
     (search needs)
-    returns
+    (λ c. sym (fail _ _ _ (search needs) (lt-leb _ _ (c .if1 .taken)) (c .before .before .before .before .loop .inv)))
     (search needs)
     (search needs)
-    loop-again
-    returns-2)
+    (λ c. pass _ _ _ (search needs) (le-leb _ _ (c .if1 .left)) (search needs))
+    (λ c. sym (finish _ _ _ (search needs) (c .before .loop .inv))))

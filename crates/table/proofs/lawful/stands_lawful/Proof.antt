@@ -21,9 +21,6 @@ Inv-loop east north score grid i₀ i = Scanning (standLawful east north score g
 abbrev μ-loop : tie.MeasureT-loop
 μ-loop east north score grid i₀ i = length score - i
 
-loop-holds : tie.Need-loop-holds Inv-loop μ-loop
-loop-holds c = begin _ _
-
 told : (c : tie.After-holds Inv-loop μ-loop) →
     let a = c .before .before .before .before .before .before .args in
     c .holds .result ≡ inGrid (a .grid) (placeIn (a .east .now) (a .north .now) (c .before .before .before .before .loop .i))
@@ -33,40 +30,24 @@ told c =
     let in-grid : ℤ → ℤ → Bool = λ e n. inGrid (a .grid) (record { east = e; north = n }) in
     c .holds .ensures ∙ both-arrive in-grid (getD (a .east .now) i (pos 0)) (getD (a .north .now) i (pos 0)) (search needs) (search needs)
 
-returns : tie.Need-returns Inv-loop μ-loop
-unfolding standsLawful
-returns c =
-    let at = c .before .before .before .before .before .loop in
-    sym (fail _ _ _ (c .before .before .before .before .loop-test .taken) (stand-off _ _ _ _ _ (breaks _ _ (told (c .before)) (c .if1 .taken))) (at .inv))
-
-returns-2 : tie.Need-returns-2 Inv-loop μ-loop
-unfolding standsLawful
-returns-2 c = sym (fail _ _ _ (c .before .before .before .before .before .before .loop-test .taken) (stand-over _ _ _ _ _ (c .if2 .taken)) (c .before .before .before .before .before .before .before .loop .inv))
-
-loop-again : tie.Need-loop-again Inv-loop μ-loop
-loop-again c = pass _ _ _ (search needs) (stand-in _ _ _ _ _ (holds _ _ (told (c .before .before .before)) (c .before .before .if1 .left)) (c .if2 .left)) (search needs)
-
-returns-3 : tie.Need-returns-3 Inv-loop μ-loop
-unfolding standsLawful
-returns-3 c = sym (finish _ _ _ (search needs) (c .before .loop .inv))
-
 pub stands-lawful-spec : {M : Type 1} → statement M
+unfolding standsLawful
 stands-lawful-spec =
     tie.close
     (tie.spec
     Inv-loop
     μ-loop
-    loop-holds
+    (λ c. search (needs, begin))
     (search needs)
     (search needs)
     (search needs)
     (search needs)
     (λ c κs. search needs)
-    returns
+    (λ c. sym (fail _ _ _ (search needs) (stand-off _ _ _ _ _ (breaks _ _ (told (c .before)) (c .if1 .taken))) (c .before .before .before .before .before .loop .inv)))
     (search needs)
     (search needs)
-    returns-2
+    (λ c. sym (fail _ _ _ (search needs) (stand-over _ _ _ _ _ (c .if2 .taken)) (c .before .before .before .before .before .before .before .loop .inv)))
     (search needs)
     (search needs)
-    loop-again
-    returns-3)
+    (λ c. search (needs, pass, stand-in, holds, told))
+    (λ c. sym (finish _ _ _ (search needs) (c .before .loop .inv))))

@@ -1,6 +1,6 @@
 -- `names::name_allowed` tests the length, then the bytes.
 -- Assumes nothing.
-use mathlib.Core.Path.{sym, _∙_}
+use mathlib.Core.Path.{sym}
 use borrow.Author.Tests.{lt-leb}
 use borrow.Author.Needs.{needs}
 use Rattle.base.proofs.Tests.{every-not}
@@ -9,16 +9,12 @@ use Rattle.rules.proofs.Bytes.{name-bytes}
 use Rattle.table.proofs.names.name_allowed.Statement.{statement}
 use Rattle.table.proofs.names.name_allowed.Tie as tie
 
-returns : tie.Need-returns
-unfolding nameAllowed
-returns c = sym (every-not _ 0 (lt-leb _ _ (c .if1 .taken)))
-
-returns-2 : tie.Need-returns-2
-unfolding nameAllowed
-returns-2 c = sym (every-not _ 1 (lt-leb _ _ (c .if2 .taken)))
-
-returns-3 : tie.Need-returns-3
-returns-3 c = c .bytes-allowed .ensures ∙ sym (name-bytes _ (search needs) (search needs))
-
 pub name-allowed-spec : {M : Type 1} → statement M
-name-allowed-spec = tie.close (tie.spec returns returns-2 (λ c κs. search needs) returns-3)
+unfolding nameAllowed
+name-allowed-spec =
+    tie.close
+    (tie.spec
+    (λ c. sym (every-not _ 0 (lt-leb _ _ (c .if1 .taken))))
+    (λ c. sym (every-not _ 1 (lt-leb _ _ (c .if2 .taken))))
+    (λ c κs. search needs)
+    (λ c. search (needs, name-bytes)))

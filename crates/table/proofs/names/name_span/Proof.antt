@@ -12,16 +12,6 @@ use Rattle.table.proofs.Parts.{nowhere, found}
 use Rattle.table.proofs.names.name_span.Statement.{statement}
 use Rattle.table.proofs.names.name_span.Tie as tie
 
-returns : tie.Need-returns
-unfolding spanned
-returns c = nowhere _ _ _ (every-not _ 0 (le-ltb _ _ (c .if1 .taken)))
-
-cast-from : tie.Need-cast-from
-cast-from c = omega (arith, c .shared-slice-known .given (c .before .before .before .args .stand .0))
-
-cast-past : tie.Need-cast-past
-cast-past c = omega (arith, c .shared-slice-known2 .given (c .before .before .before .before .args .stand .0 + 1))
-
 returns-2 : tie.Need-returns-2
 unfolding spanned
 returns-2 c =
@@ -39,18 +29,19 @@ returns-3 c =
     found _ _ _ (search needs) (search needs) (search needs) (omega (arith, c .before .before .shared-slice-known2 .given (i + 1)))
 
 pub name-span-spec : {M : Type 1} → statement M
+unfolding spanned
 name-span-spec =
     tie.close
     (tie.spec
     (search needs)
     (search needs)
-    returns
+    (λ c. nowhere _ _ _ (every-not _ 0 (le-ltb _ _ (c .if1 .taken))))
     (search needs)
     (search needs)
-    cast-from
+    (λ c. omega (arith, c .shared-slice-known .given (c .before .before .before .args .stand .0)))
     (search needs)
     (search needs)
     (search needs)
-    cast-past
+    (λ c. omega (arith, c .shared-slice-known2 .given (c .before .before .before .before .args .stand .0 + 1)))
     returns-2
     returns-3)

@@ -6,12 +6,6 @@ use Rattle.table.proofs.Parts.{rest, no-rest}
 use Rattle.table.proofs.names.rest_span.Statement.{statement}
 use Rattle.table.proofs.names.rest_span.Tie as tie
 
-returns : tie.Need-returns
-returns c = rest _ _ _ _ (c .before .before .before .name-span .ensures) _ (sym (c .before .begins .ensures) ∙ c .if1 .taken)
-
-returns-2 : tie.Need-returns-2
-returns-2 c = no-rest _ _ _ _ (c .before .before .before .name-span .ensures) _ (sym (c .before .begins .ensures) ∙ c .if1 .left)
-
 pub rest-span-spec : {M : Type 1} → statement M
 rest-span-spec =
     tie.close
@@ -22,5 +16,5 @@ rest-span-spec =
     (search needs)
     (λ c κs. search needs)
     (search needs)
-    returns
-    returns-2)
+    (λ c. rest _ _ _ _ (c .before .before .before .name-span .ensures) _ (sym (c .before .begins .ensures) ∙ c .if1 .taken))
+    (λ c. no-rest _ _ _ _ (c .before .before .before .name-span .ensures) _ (sym (c .before .begins .ensures) ∙ c .if1 .left)))

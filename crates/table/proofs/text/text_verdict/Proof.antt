@@ -7,17 +7,12 @@ use Rattle.rules.specs.Names.{textRefusal}
 use Rattle.table.proofs.text.text_verdict.Statement.{statement}
 use Rattle.table.proofs.text.text_verdict.Tie as tie
 
-returns : tie.Need-returns
-unfolding textRefusal
-returns c = rw (lt-ltb _ _ (c .if1 .taken))
-
-returns-2 : tie.Need-returns-2
-unfolding textRefusal
-returns-2 c = rw (le-ltb _ _ (c .before .before .if1 .left), breaks _ _ (c .before .bytes-allowed .ensures) (c .if2 .taken))
-
-returns-3 : tie.Need-returns-3
-unfolding textRefusal
-returns-3 c = rw (le-ltb _ _ (c .before .before .if1 .left), holds _ _ (c .before .bytes-allowed .ensures) (c .if2 .left))
-
 pub text-verdict-spec : {M : Type 1} → statement M
-text-verdict-spec = tie.close (tie.spec returns (λ c κs. search needs) returns-2 returns-3)
+unfolding textRefusal
+text-verdict-spec =
+    tie.close
+    (tie.spec
+    (λ c. rw (lt-ltb _ _ (c .if1 .taken)))
+    (λ c κs. search needs)
+    (λ c. rw (le-ltb _ _ (c .before .before .if1 .left), breaks _ _ (c .before .bytes-allowed .ensures) (c .if2 .taken)))
+    (λ c. rw (le-ltb _ _ (c .before .before .if1 .left), holds _ _ (c .before .bytes-allowed .ensures) (c .if2 .left))))

@@ -1,14 +1,10 @@
 -- `entry::within` tests what the definition does. Assumes nothing.
 use borrow.Author.Needs.{needs}
-use Rattle.walk.proofs.Spelled.{no-region, past-decides}
+use borrow.Author.Tests.{lt-ltb, le-ltb}
+use Rattle.walk.specs.Entries.{entryWithin}
 use Rattle.walk.proofs.entry.within.Statement.{statement}
 use Rattle.walk.proofs.entry.within.Tie as tie
 
-returns : tie.Need-returns
-returns c = no-region _ _ (c .if1 .taken)
-
-returns-2 : tie.Need-returns-2
-returns-2 c = past-decides _ _ (c .before .if1 .left)
-
 pub within-spec : {M : Type 1} → statement M
-within-spec = tie.close (tie.spec (search needs) returns (search needs) returns-2)
+unfolding entryWithin
+within-spec = tie.close (tie.spec (search needs) (λ c. rw (le-ltb _ _ (c .if1 .taken))) (search needs) (λ c. rw (lt-ltb _ _ (c .before .if1 .left))))

@@ -5,10 +5,14 @@ use Rattle.walk.specs.Listings.{listingAt}
 use Rattle.walk.proofs.listing.listing_at.Statement.{statement}
 use Rattle.walk.proofs.listing.listing_at.Tie as tie
 
-returns : tie.Need-returns
-returns c = c .entries-of .ensures ∙ ap (listingAt _) (sym (c .before .before .at .given .1))
-
 pub listing-at-spec : {M : Type 1} → statement M
 listing-at-spec =
     tie.close
-    (tie.spec (search needs) (λ c κs. search needs) (search needs) (search needs) returns (λ c. search needs) (λ c. search needs))
+    (tie.spec
+    (search needs)
+    (λ c κs. search needs)
+    (search needs)
+    (search needs)
+    (λ c. c .entries-of .ensures ∙ ap (listingAt _) (sym (c .before .before .at .given .1)))
+    (λ c. search needs)
+    (λ c. search needs))

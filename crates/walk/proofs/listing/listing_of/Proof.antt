@@ -5,8 +5,6 @@ use Rattle.walk.specs.Listings.{listingAt}
 use Rattle.walk.proofs.listing.listing_of.Statement.{statement}
 use Rattle.walk.proofs.listing.listing_of.Tie as tie
 
-returns : tie.Need-returns
-returns c = c .listing-at .ensures ∙ ap (listingAt _) (c .before .node-of .ensures)
-
 pub listing-of-spec : {M : Type 1} → statement M
-listing-of-spec = tie.close (tie.spec (λ c κs. search needs) (λ c κs. search needs) returns)
+listing-of-spec =
+    tie.close (tie.spec (λ c κs. search needs) (λ c κs. search needs) (λ c. c .listing-at .ensures ∙ ap (listingAt _) (c .before .node-of .ensures)))
