@@ -46,10 +46,10 @@ pub answer-spec : {M : Type 1} → statement M
 answer-spec =
     tie.close
     (tie.spec
-    (search needs)
-    (search needs)
-    (search needs)
-    (search needs)
+    (λ c. search needs)
+    (λ c. search needs)
+    (λ c. search needs)
+    (λ c. search needs)
     returns
     (λ c. counted (handed (c .before .before .before .before .before .before .before .before .before .before .before .before) .1 .text))
     (λ c. record { fits = omega (arith, handed (c .before .before .before .before .before .before .before .before .before .before .before .before) .1 .few) })

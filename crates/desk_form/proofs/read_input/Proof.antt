@@ -67,18 +67,18 @@ read-input-spec =
     tie.close
     (tie.spec
     (λ c. search (needs, too-long))
-    (search needs)
-    (search needs)
-    (search needs)
+    (λ c. search needs)
+    (λ c. search needs)
+    (λ c. search needs)
     returns-2
-    (search needs)
+    (λ c. search needs)
     read-stands-requires
-    (search needs)
-    (search needs)
+    (λ c. search needs)
+    (λ c. search needs)
     returns-3
     (λ c κs. stands c .reached .within)
-    (search needs)
-    (search needs)
+    (λ c. search needs)
+    (λ c. search needs)
     returns-4
     returns-5
     returns-6)

@@ -8,4 +8,4 @@ returns : tie.Need-returns
 returns c = told-kept _ _ _ _ _ _ _ (c .of-range .ensures) (c .before .before .before .range .ensures)
 
 pub krz-range-spec : {M : Type 1} → statement M
-krz-range-spec = tie.close (tie.spec (λ c κs. search needs) (λ c κs. search needs) (search needs) returns)
+krz-range-spec = tie.close (tie.spec (λ c κs. search needs) (λ c κs. search needs) (λ c. search needs) returns)

@@ -9,4 +9,4 @@ returns c = told-kept _ _ _ _ _ _ _ (c .of-range .ensures) (c .before .before .b
 
 pub krz-range-typed-spec : {M : Type 1} → statement M
 krz-range-typed-spec =
-    tie.close (tie.spec (λ c κs. search needs) (λ c κs. search needs) (search needs) returns)
+    tie.close (tie.spec (λ c κs. search needs) (λ c κs. search needs) (λ c. search needs) returns)

@@ -9,4 +9,4 @@ returns c = told-kept _ _ _ _ _ _ _ (c .of-ranked .ensures) (c .before .before .
 
 pub krz-ranked-spec : {M : Type 1} → statement M
 krz-ranked-spec =
-    tie.close (tie.spec (λ c κs. search needs) (λ c κs. search needs) (search needs) (search needs) returns)
+    tie.close (tie.spec (λ c κs. search needs) (λ c κs. search needs) (λ c. search needs) (λ c. search needs) returns)

@@ -9,4 +9,4 @@ returns : tie.Need-returns
 returns c = told _ _ _ _ _ (search needs)
 
 pub krz-rest-spec : {M : Type 1} → statement M
-krz-rest-spec = tie.close (tie.spec (λ c κs. search needs) (search needs) (search needs) (search needs) returns)
+krz-rest-spec = tie.close (tie.spec (λ c κs. search needs) (λ c. search needs) (λ c. search needs) (λ c. search needs) returns)

@@ -23,4 +23,4 @@ returns-2 c =
     rw (toZ-ofZ (s .fits .edge), turned (s .args .edge) (negsuc 999999) ∙ ap not (rw (toZ-ofZ (s .fits .edge)) at (c .if1 .left)))
 
 pub edge-lawful-spec : {M : Type 1} → statement M
-edge-lawful-spec = tie.close (tie.spec (search needs) returns returns-2)
+edge-lawful-spec = tie.close (tie.spec (λ c. search needs) returns returns-2)

@@ -28,4 +28,4 @@ unfolding inGrid
 returns-2 c = rw (holds _ _ (east-is (c .before .before .before .before)) (c .before .before .before .if1 .left)) (north-is c)
 
 pub holds-spec : {M : Type 1} → statement M
-holds-spec = tie.close (tie.spec (search needs) returns (search needs) returns-2)
+holds-spec = tie.close (tie.spec (λ c. search needs) returns (λ c. search needs) returns-2)

@@ -40,4 +40,4 @@ returns-4 c =
 pub lawful-spec : {M : Type 1} → statement M
 lawful-spec =
     tie.close
-    (tie.spec (search needs) returns (search needs) returns-2 returns-3 returns-4)
+    (tie.spec (λ c. search needs) returns (λ c. search needs) returns-2 returns-3 returns-4)

@@ -29,4 +29,4 @@ returns-3 c =
 pub locate-spec : {M : Type 1} → statement M
 locate-spec =
     tie.close
-    (tie.spec (search needs) returns (search needs) returns-2 region-of-requires returns-3)
+    (tie.spec (λ c. search needs) returns (λ c. search needs) returns-2 region-of-requires returns-3)

@@ -28,4 +28,4 @@ returns c = rw (x-is (c .before), edge-is c)
 
 pub strip-spec : {M : Type 1} → statement M
 strip-spec =
-    tie.close (tie.spec (search needs) (search needs) sub-into (search needs) cast-result returns)
+    tie.close (tie.spec (λ c. search needs) (λ c. search needs) sub-into (λ c. search needs) cast-result returns)

@@ -39,4 +39,4 @@ returns-2 c =
 pub within-spec : {M : Type 1} → statement M
 within-spec =
     tie.close
-    (tie.spec (search needs) (search needs) returns (search needs) (search needs) add-result returns-2)
+    (tie.spec (λ c. search needs) (λ c. search needs) returns (λ c. search needs) (λ c. search needs) add-result returns-2)

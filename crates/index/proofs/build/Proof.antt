@@ -64,9 +64,9 @@ build-spec =
     tie.close
     (tie.spec
     (λ c κs. search needs)
-    (search needs)
+    (λ c. search needs)
     returns
-    (search needs)
+    (λ c. search needs)
     lengths-requires
     shares-requires
     regions-requires
@@ -77,7 +77,7 @@ build-spec =
     array-share-prefix-region
     slice-aggregate-put-index-3
     put-index-requires
-    (search needs)
-    (search needs)
-    (search needs)
+    (λ c. search needs)
+    (λ c. search needs)
+    (λ c. search needs)
     returns-2)

@@ -64,8 +64,8 @@ check-spec =
     tie.close
     (tie.spec
     (λ c κs. search needs)
-    (search needs)
-    (search needs)
+    (λ c. search needs)
+    (λ c. search needs)
     returns
     lengths-requires
     shares-requires

@@ -24,7 +24,7 @@ pub letters-verdict-spec : {M : Type 1} → statement M
 letters-verdict-spec =
     tie.close
     (tie.spec
-    (search needs)
+    (λ c. search needs)
     returns
     array-share-prefix-text
     slice-aggregate-text-verdict

@@ -21,12 +21,12 @@ ranked-typed-spec =
     tie.close
     (tie.spec
     (λ c κs. search needs)
-    (search needs)
+    (λ c. search needs)
     returns
-    (search needs)
+    (λ c. search needs)
     (λ c κs. search needs)
     (λ c κs. search needs)
     (λ c κs. search needs)
-    (search needs)
-    (search needs)
+    (λ c. search needs)
+    (λ c. search needs)
     returns-2)

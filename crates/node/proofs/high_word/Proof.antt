@@ -5,4 +5,4 @@ use Rattle.node.proofs.high_word.Statement.{statement}
 use Rattle.node.proofs.high_word.Tie as tie
 
 pub high-word-spec : {M : Type 1} → statement M
-high-word-spec = tie.close (tie.spec (search needs) (λ c. search (needs, high-is)))
+high-word-spec = tie.close (tie.spec (λ c. search needs) (λ c. search (needs, high-is)))

@@ -11,11 +11,11 @@ last-byte-spec =
     tie.close
     (tie.spec
     (λ c. search (needs, eq-eqb))
-    (search needs)
+    (λ c. search needs)
     (λ c. omega (arith, c .before .before .before .before .pre .inside (omega arith)))
     (λ c. omega (arith, c .before .before .before .before .before .pre .inside (omega arith)))
     (λ c. omega (arith, c .shared-slice-known3 .given (c .before .before .before .before .before .args .stand .0)))
-    (search needs)
+    (λ c. search needs)
     (λ c κs. search needs)
     (λ c. omega (arith, c .before .before .before .before .before .before .pre .inside (omega arith), c .wide .ensures))
     (λ c. omega (arith, c .before .before .before .before .before .before .before .pre .inside (omega arith), c .before .wide .ensures))

@@ -5,4 +5,4 @@ use Rattle.node.proofs.low_word.Statement.{statement}
 use Rattle.node.proofs.low_word.Tie as tie
 
 pub low-word-spec : {M : Type 1} → statement M
-low-word-spec = tie.close (tie.spec (search needs) (λ c. search (needs, low-is)))
+low-word-spec = tie.close (tie.spec (λ c. search needs) (λ c. search (needs, low-is)))

@@ -10,7 +10,7 @@ parent-spec =
     tie.close
     (tie.spec
     (λ c. search (needs, eq-eqb))
-    (search needs)
+    (λ c. search needs)
     (λ c κs. search needs)
     (λ c. omega (arith, c .wide .ensures))
     (λ c. omega (arith, c .wide .ensures))

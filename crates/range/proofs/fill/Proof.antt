@@ -12,18 +12,18 @@ pub fill-spec : {M : Type 1} → statement M
 fill-spec =
     tie.close
     (tie.spec
-    (search needs)
+    (λ c. search needs)
     (λ c κs. search needs)
-    (search needs)
-    (search needs)
+    (λ c. search needs)
+    (λ c. search needs)
     (λ c κs. search needs)
     (λ c. search (needs, fill-breaks))
-    (search needs)
+    (λ c. search needs)
     (λ c. search (needs, fill-over))
-    (search needs)
+    (λ c. search needs)
     (λ c κs. search needs)
     (λ c κs. search needs)
-    (search needs)
+    (λ c. search needs)
     returns-3
-    (search needs)
+    (λ c. search needs)
     (λ c. search (needs, fill-writes)))

@@ -10,10 +10,10 @@ range-spec =
     tie.close
     (tie.spec
     (λ c κs. search needs)
-    (search needs)
+    (λ c. search needs)
     (λ c. search (needs, of-refused))
-    (search needs)
+    (λ c. search needs)
     (λ c κs. search needs)
     (λ c κs. search needs)
-    (search needs)
+    (λ c. search needs)
     (λ c. search (needs, of-listed)))

@@ -30,5 +30,5 @@ range-listed-spec =
     (λ c κs. search (needs, holds))
     (λ c κs. search needs)
     fill-requires
-    (search needs)
+    (λ c. search needs)
     (λ c. search (needs, all-answers, holds, not-false)))

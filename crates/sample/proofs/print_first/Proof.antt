@@ -25,16 +25,16 @@ pub print-first-spec : {M : Type 1} → statement M
 print-first-spec =
     tie.close
     (tie.spec
-    (search needs)
-    (search needs)
-    (search needs)
+    (λ c. search needs)
+    (λ c. search needs)
+    (λ c. search needs)
     (λ c κs. search needs)
-    (search needs)
+    (λ c. search needs)
     slice-aggregate-print-index
-    (search needs)
+    (λ c. search needs)
     slice-aggregate-print-index-2
     slice-aggregate-print-index-3
     slice-aggregate-print-index-4
     slice-aggregate-print-index-5
     (λ c κs. search needs)
-    (search needs))
+    (λ c. search needs))

@@ -31,11 +31,11 @@ best-listed-spec =
     (tie.spec
     (λ c κs. search needs)
     (λ c κs. search needs)
-    (search needs)
+    (λ c. search needs)
     write-held-requires
     cast-t24
-    (search needs)
-    (search needs)
-    (search needs)
+    (λ c. search needs)
+    (λ c. search needs)
+    (λ c. search needs)
     returns
     returns-2)

@@ -22,16 +22,16 @@ write-held-spec =
     Inv-loop
     μ-loop
     (λ c. search (needs, write-begin))
-    (search needs)
-    (search needs)
+    (λ c. search needs)
+    (λ c. search needs)
     (λ c κs. search needs)
-    (search needs)
+    (λ c. search needs)
     (λ c. omega (arith, stands-long _ _ _ _ _ _ _ (c .before .before .before .loop .inv)))
     (λ c κs. search needs)
-    (search needs)
+    (λ c. search needs)
     (λ c. omega (arith, values-long _ _ _ _ _ _ _ (c .before .before .before .before .loop .inv)))
-    (search needs)
-    (search needs)
+    (λ c. search needs)
+    (λ c. search needs)
     loop-again
     (λ c. search (needs, stands-long))
     (λ c. search (needs, values-long))

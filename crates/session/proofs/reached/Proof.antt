@@ -9,10 +9,10 @@ pub reached-spec : {M : Type 1} → statement M
 reached-spec =
     tie.close
     (tie.spec
-    (search needs)
+    (λ c. search needs)
     (λ c. search (needs, reached-over))
-    (search needs)
-    (search needs)
+    (λ c. search needs)
+    (λ c. search needs)
     (λ c κs. search needs)
     (λ c. sym (reached-nowhere _ (search needs) (sym (c .before .lost .ensures) ∙ c .if2 .taken)))
     (λ c. sym (reached-node _ (search needs) (sym (c .before .lost .ensures) ∙ c .if2 .left))))

@@ -11,14 +11,14 @@ unfolding shortened
 rubbed-out-spec =
     tie.close
     (tie.spec
-    (search needs)
+    (λ c. search needs)
     (λ c κs. search needs)
     (λ c. search (needs, rubbed-over))
     (λ c κs. search needs)
     (λ c. search (needs, rubbed-none))
-    (search needs)
-    (search needs)
-    (search needs)
-    (search needs)
-    (search needs)
+    (λ c. search needs)
+    (λ c. search needs)
+    (λ c. search needs)
+    (λ c. search needs)
+    (λ c. search needs)
     (λ c. sym (rubbed-last _ (c .before .before .if1 .left) (c .before .if2 .left))))

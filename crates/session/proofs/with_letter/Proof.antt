@@ -26,16 +26,16 @@ unfolding lengthened
 with-letter-spec =
     tie.close
     (tie.spec
-    (search needs)
-    (search needs)
-    (search needs)
+    (λ c. search needs)
+    (λ c. search needs)
+    (λ c. search needs)
     (λ c κs. search needs)
-    (search needs)
+    (λ c. search needs)
     (λ c. search (needs, room))
-    (search needs)
-    (search needs)
+    (λ c. search needs)
+    (λ c. search needs)
     (λ c. omega (arith, room c))
     (λ c. record { fits = omega (arith, room c) })
-    (search needs)
+    (λ c. search needs)
     (λ c. sym (led (c .before .before .before) ∙ ap (struck _ _) (c .before .node .given .1)))
     (λ c. sym (led (c .before .before .before) ∙ ap (struck _ _) (c .before .why .given .1))))

@@ -51,8 +51,8 @@ check-spec =
     (λ c κs. search needs)
     loop-holds
     check-node-requires
-    (search needs)
-    (search needs)
+    (λ c. search needs)
+    (λ c. search needs)
     returns
     loop-less
     loop-again

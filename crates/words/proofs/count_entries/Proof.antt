@@ -46,6 +46,6 @@ count-entries-spec =
     loop-holds
     regions-under-requires
     step-requires
-    (search needs)
+    (λ c. search needs)
     loop-again
     returns)

@@ -14,4 +14,4 @@ returns : tie.Need-returns
 returns c = omega (arith, c .grown .ensures, node-count _ _ (c .before .before .before .pre))
 
 pub count-nodes-spec : {M : Type 1} → statement M
-count-nodes-spec = tie.close (tie.spec (search needs) (λ c κs. search needs) add-result returns)
+count-nodes-spec = tie.close (tie.spec (λ c. search needs) (λ c κs. search needs) add-result returns)

@@ -44,8 +44,8 @@ write-spec =
     (λ c κs. search needs)
     loop-holds
     write-node-requires
-    (search needs)
+    (λ c. search needs)
     loop-again
-    (search needs)
-    (search needs)
+    (λ c. search needs)
+    (λ c. search needs)
     returns)

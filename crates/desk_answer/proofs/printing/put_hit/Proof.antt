@@ -29,12 +29,12 @@ pub put-hit-spec : {M : Type 1} → statement M
 put-hit-spec =
     tie.close
     (tie.spec
-    (search needs)
-    (search needs)
-    (search needs)
+    (λ c. search needs)
+    (λ c. search needs)
+    (λ c. search needs)
     (λ c κs. number-room _ _ _ _ (search needs) (search needs))
-    (search needs)
+    (λ c. search needs)
     put-line-requires
-    (search needs)
+    (λ c. search needs)
     put-number-requires-2
     returns)

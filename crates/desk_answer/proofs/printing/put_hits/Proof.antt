@@ -27,15 +27,15 @@ put-hits-spec =
     (tie.spec
     Inv-loop
     μ-loop
-    (search needs)
+    (λ c. search needs)
     (λ c κs. number-room _ _ _ _ (search needs) (search needs))
     (λ c. search (needs, none-listed))
-    (search needs)
-    (search needs)
-    (search needs)
-    (search needs)
+    (λ c. search needs)
+    (λ c. search needs)
+    (λ c. search needs)
+    (λ c. search needs)
     put-hit-requires
-    (search needs)
-    (search needs)
+    (λ c. search needs)
+    (λ c. search needs)
     (λ c. search (needs, listed-more))
     (λ c. search (needs, all-listed)))

@@ -26,12 +26,12 @@ pub index-made-spec : {M : Type 1} → statement M
 index-made-spec =
     tie.close
     (tie.spec
-    (search needs)
-    (search needs)
+    (λ c. search needs)
+    (λ c. search needs)
     returns
-    (search needs)
-    (search needs)
-    (search needs)
-    (search needs)
+    (λ c. search needs)
+    (λ c. search needs)
+    (λ c. search needs)
+    (λ c. search needs)
     returns-2
     returns-3)

@@ -79,11 +79,11 @@ read-stands-spec =
     (tie.spec
     Inv-loop
     μ-loop
-    (search needs)
+    (λ c. search needs)
     loop-holds
     (λ c κs. c .before .loop .inv .within)
-    (search needs)
-    (search needs)
+    (λ c. search needs)
+    (λ c. search needs)
     (λ c. long (c .before .before .before .before) .text)
     (λ c. long (c .before .before .before .before) .starts ∙ length-set {A = ℕ} (c .before .before .before .before .before .before .before .before .before .args .starts .now) 0 0)
     (λ c. long (c .before .before .before .before) .east)
@@ -97,7 +97,7 @@ read-stands-spec =
     cast-lay-numbers
     lay-numbers-requires
     add-i
-    (search needs)
+    (λ c. search needs)
     loop-again
     (λ c. long (c .before) .text)
     (λ c. long (c .before) .starts ∙ length-set {A = ℕ} (c .before .before .before .before .before .before .args .starts .now) 0 0)

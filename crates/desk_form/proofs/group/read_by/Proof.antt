@@ -73,23 +73,23 @@ pub read-by-spec : {M : Type 1} → statement M
 read-by-spec =
     tie.close
     (tie.spec
-    (search needs)
-    (search needs)
-    (search needs)
+    (λ c. search needs)
+    (λ c. search needs)
+    (λ c. search needs)
     returns
     add-signed-line
-    (search needs)
+    (λ c. search needs)
     (λ c κs. bytes (c .before) .reached .within)
-    (search needs)
-    (search needs)
+    (λ c. search needs)
+    (λ c. search needs)
     returns-2
-    (search needs)
+    (λ c. search needs)
     (λ c κs. east (c .before) .within)
-    (search needs)
-    (search needs)
+    (λ c. search needs)
+    (λ c. search needs)
     returns-3
     (λ c κs. north c .within)
-    (search needs)
-    (search needs)
+    (λ c. search needs)
+    (λ c. search needs)
     returns-4
     returns-5)

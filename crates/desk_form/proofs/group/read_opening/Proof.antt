@@ -66,24 +66,24 @@ pub read-opening-spec : {M : Type 1} → statement M
 read-opening-spec =
     tie.close
     (tie.spec
-    (search needs)
-    (search needs)
-    (search needs)
-    (search needs)
+    (λ c. search needs)
+    (λ c. search needs)
+    (λ c. search needs)
+    (λ c. search needs)
     returns
-    (search needs)
+    (λ c. search needs)
     (λ c κs. west (c .before) .within)
-    (search needs)
-    (search needs)
+    (λ c. search needs)
+    (λ c. search needs)
     returns-2
-    (search needs)
+    (λ c. search needs)
     (λ c κs. south (c .before) .within)
-    (search needs)
-    (search needs)
+    (λ c. search needs)
+    (λ c. search needs)
     returns-3
-    (search needs)
+    (λ c. search needs)
     (λ c κs. cell (c .before) .within)
-    (search needs)
-    (search needs)
+    (λ c. search needs)
+    (λ c. search needs)
     returns-4
     returns-5)

@@ -41,15 +41,15 @@ pub read-question-spec : {M : Type 1} → statement M
 read-question-spec =
     tie.close
     (tie.spec
-    (search needs)
-    (search needs)
-    (search needs)
-    (search needs)
-    (search needs)
+    (λ c. search needs)
+    (λ c. search needs)
+    (λ c. search needs)
+    (λ c. search needs)
+    (λ c. search needs)
     returns
-    (search needs)
+    (λ c. search needs)
     (λ c κs. four (c .before) .reached .within)
-    (search needs)
-    (search needs)
+    (λ c. search needs)
+    (λ c. search needs)
     returns-2
     returns-3)

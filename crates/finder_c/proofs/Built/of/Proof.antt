@@ -12,4 +12,4 @@ returns-2 c = rw (c .before .before .answer2 .given .1, c .number .ensures)
 
 pub of-spec : {M : Type 1} → statement M
 of-spec =
-    tie.close (tie.spec (search needs) (search needs) (λ c κs. search needs) returns returns-2)
+    tie.close (tie.spec (λ c. search needs) (λ c. search needs) (λ c κs. search needs) returns returns-2)

@@ -17,4 +17,4 @@ returns c =
 
 pub strips-spec : {M : Type 1} → statement M
 strips-spec =
-    tie.close (tie.spec (search needs) (search needs) (search needs) returns)
+    tie.close (tie.spec (λ c. search needs) (λ c. search needs) (λ c. search needs) returns)

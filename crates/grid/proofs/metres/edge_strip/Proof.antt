@@ -13,4 +13,4 @@ returns c =
     rw (toZ-ofZ {w = w64} (sfits-of (c .floor-div .ok)), c .floor-div .ensures, toZ-ofZ {w = w64} (sfits-of (d .ok)), d .ensures, toZ-ofZ (s .fits .edge), toZ-ofZ (s .fits .origin))
 
 pub edge-strip-spec : {M : Type 1} → statement M
-edge-strip-spec = tie.close (tie.spec (search needs) (search needs) returns)
+edge-strip-spec = tie.close (tie.spec (λ c. search needs) (λ c. search needs) returns)

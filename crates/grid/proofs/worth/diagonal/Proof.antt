@@ -13,4 +13,4 @@ unfolding diagonal²
 returns c = search needs
 
 pub diagonal-spec : {M : Type 1} → statement M
-diagonal-spec = tie.close (tie.spec (search needs) (λ c. omega (arith, cell-squared _ (cell-small _ (c .before .pre)))) (λ c. omega (arith, cell-squared _ (cell-small _ (c .before .pre)))) returns)
+diagonal-spec = tie.close (tie.spec (λ c. search needs) (λ c. omega (arith, cell-squared _ (cell-small _ (c .before .pre)))) (λ c. omega (arith, cell-squared _ (cell-small _ (c .before .pre)))) returns)

@@ -36,4 +36,4 @@ returns c = rw (c .squares .ensures, across-is (c .before .before .before .befor
 
 pub distance-spec : {M : Type 1} → statement M
 distance-spec =
-    tie.close (tie.spec (search needs) (search needs) squares-requires returns)
+    tie.close (tie.spec (λ c. search needs) (λ c. search needs) squares-requires returns)

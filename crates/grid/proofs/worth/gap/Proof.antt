@@ -26,10 +26,10 @@ pub gap-spec : {M : Type 1} → statement M
 gap-spec =
     tie.close
     (tie.spec
-    (search needs)
+    (λ c. search needs)
     (λ c. omega (arith, low-less c))
     (λ c. omega (arith, low-less c))
-    (search needs)
+    (λ c. search needs)
     nearest-requires
-    (search needs)
+    (λ c. search needs)
     returns)

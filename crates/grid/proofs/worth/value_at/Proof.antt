@@ -32,11 +32,11 @@ value-at-spec =
     (λ c κs. search needs)
     (λ c. omega (arith, weighted-most _ _ _ (c .before .pre .0)))
     mul-by-score-2
-    (search needs)
-    (search needs)
-    (search needs)
+    (λ c. search needs)
+    (λ c. search needs)
+    (λ c. search needs)
     mul-by-place
-    (search needs)
+    (λ c. search needs)
     mul-by-place-2
     add-result
     returns)

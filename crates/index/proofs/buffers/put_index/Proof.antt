@@ -43,7 +43,7 @@ put-index-spec =
     returns
     put-order-requires
     write-requires
-    (search needs)
-    (search needs)
-    (search needs)
+    (λ c. search needs)
+    (λ c. search needs)
+    (λ c. search needs)
     returns-2)

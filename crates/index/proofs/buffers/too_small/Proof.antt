@@ -16,4 +16,4 @@ returns-3 c = rw (le-ltb _ _ (c .before .before .before .if1 .left), le-ltb _ _ 
 
 pub too-small-spec : {M : Type 1} → statement M
 too-small-spec =
-    tie.close (tie.spec returns (search needs) (search needs) returns-2 (search needs) (search needs) returns-3)
+    tie.close (tie.spec returns (λ c. search needs) (λ c. search needs) returns-2 (λ c. search needs) (λ c. search needs) returns-3)

@@ -32,11 +32,11 @@ lengths-spec =
     Inv-loop
     μ-loop
     (λ c. search needs)
-    (search needs)
+    (λ c. search needs)
     (λ c κs. search needs)
     cast-column
-    (search needs)
-    (search needs)
-    (search needs)
+    (λ c. search needs)
+    (λ c. search needs)
+    (λ c. search needs)
     loop-again
     returns)

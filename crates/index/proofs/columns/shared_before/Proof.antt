@@ -23,10 +23,10 @@ shared-before-spec =
     tie.close
     (tie.spec
     (λ c. search needs)
-    (search needs)
-    (search needs)
+    (λ c. search needs)
+    (λ c. search needs)
     (λ c κs. search needs)
-    (search needs)
+    (λ c. search needs)
     (λ c κs. search needs)
     (λ c κs. search needs)
     cast-result

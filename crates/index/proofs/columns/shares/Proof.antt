@@ -27,8 +27,8 @@ shares-spec =
     μ-loop
     (λ c. search needs)
     (λ c κs. search needs)
-    (search needs)
-    (search needs)
-    (search needs)
+    (λ c. search needs)
+    (λ c. search needs)
+    (λ c. search needs)
     loop-again
     returns)

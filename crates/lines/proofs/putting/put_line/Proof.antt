@@ -17,7 +17,7 @@ put-line-spec =
     (tie.spec
     (λ c κs. omega (arith, simp line-long at (c .before .before .before .before .pre)))
     (λ c κs. omega (arith, simp line-long at (c .before .before .before .before .before .before .before .before .pre)))
-    (search needs)
+    (λ c. search needs)
     (λ c κs. omega (arith, simp line-long at (c .before .before .before .before .before .before .before .before .before .before .before .before .before .pre)))
-    (search needs)
+    (λ c. search needs)
     returns)

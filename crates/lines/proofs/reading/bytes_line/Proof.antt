@@ -36,12 +36,12 @@ pub bytes-line-spec : {M : Type 1} → statement M
 bytes-line-spec =
     tie.close
     (tie.spec
-    (search needs)
-    (search needs)
-    (search needs)
-    (search needs)
+    (λ c. search needs)
+    (λ c. search needs)
+    (λ c. search needs)
+    (λ c. search needs)
     returns
-    (search needs)
+    (λ c. search needs)
     (λ c κs. fits c)
     returns-2
     returns-3)

@@ -16,4 +16,4 @@ returns-3 c =
 
 pub decimal-in-spec : {M : Type 1} → statement M
 decimal-in-spec =
-    tie.close (tie.spec (λ c. search (needs, no-digit)) (search needs) (λ c. search (needs, leading-zero, eqb-true)) (search needs) returns-3)
+    tie.close (tie.spec (λ c. search (needs, no-digit)) (λ c. search needs) (λ c. search (needs, leading-zero, eqb-true)) (λ c. search needs) returns-3)

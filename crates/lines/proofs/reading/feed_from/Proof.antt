@@ -20,9 +20,9 @@ feed-from-spec =
     Inv-loop
     μ-loop
     (λ c. search (needs, seek))
-    (search needs)
+    (λ c. search needs)
     (λ c. search (needs, sought))
-    (search needs)
-    (search needs)
+    (λ c. search needs)
+    (λ c. search needs)
     (λ c. search (needs, seek-on))
     (λ c. search (needs, not-there)))

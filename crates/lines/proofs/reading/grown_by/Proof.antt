@@ -35,15 +35,15 @@ grown-by-spec =
     Inv-loop
     μ-loop
     (λ c. search (needs, grown-none))
-    (search needs)
+    (λ c. search needs)
     returns
-    (search needs)
-    (search needs)
+    (λ c. search needs)
+    (λ c. search needs)
     (λ c. omega (arith, ltb-false))
     (λ c. omega (arith, ltb-false))
     returns-2
-    (search needs)
-    (search needs)
-    (search needs)
+    (λ c. search needs)
+    (λ c. search needs)
+    (λ c. search needs)
     (λ c. search (needs, grown-one, ltb-false))
     returns-3)

@@ -52,23 +52,23 @@ pub signed-in-spec : {M : Type 1} → statement M
 signed-in-spec =
     tie.close
     (tie.spec
-    (search needs)
-    (search needs)
-    (search needs)
-    (search needs)
-    (search needs)
+    (λ c. search needs)
+    (λ c. search needs)
+    (λ c. search needs)
+    (λ c. search needs)
+    (λ c. search needs)
     returns
     cast-t11
     returns-2
     (λ c. sign-there (c .before .before .before .before .args .digits .now) (minus c))
     (λ c. sign-there (c .before .before .before .before .args .digits .now) (minus c))
-    (search needs)
-    (search needs)
-    (search needs)
-    (search needs)
+    (λ c. search needs)
+    (λ c. search needs)
+    (λ c. search needs)
+    (λ c. search needs)
     returns-3
     returns-4
-    (search needs)
+    (λ c. search needs)
     cast-before
     sub-t18
     returns-5)

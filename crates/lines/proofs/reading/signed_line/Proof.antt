@@ -38,16 +38,16 @@ pub signed-line-spec : {M : Type 1} → statement M
 signed-line-spec =
     tie.close
     (tie.spec
-    (search needs)
-    (search needs)
-    (search needs)
+    (λ c. search needs)
+    (λ c. search needs)
+    (λ c. search needs)
     returns
     (λ c. value-part c .forward)
     (λ c. value-part c .forward)
     (λ c. omega (arith, value-part c .reached .within))
-    (search needs)
-    (search needs)
-    (search needs)
+    (λ c. search needs)
+    (λ c. search needs)
+    (λ c. search needs)
     returns-2
     add-t10
     returns-3)

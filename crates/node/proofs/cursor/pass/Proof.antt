@@ -23,11 +23,11 @@ pass-spec =
     μ-loop
     (λ c. search (needs, passing))
     (λ c κs. search needs)
-    (search needs)
-    (search needs)
+    (λ c. search needs)
+    (λ c. search needs)
     add-next
-    (search needs)
-    (search needs)
-    (search needs)
+    (λ c. search needs)
+    (λ c. search needs)
+    (λ c. search needs)
     (λ c. search (needs, passing-more))
     (λ c. search (needs, passing-end)))

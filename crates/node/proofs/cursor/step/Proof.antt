@@ -34,17 +34,17 @@ step-spec =
     (tie.spec
     Inv-loop
     μ-loop
-    (search needs)
-    (search needs)
-    (search needs)
+    (λ c. search needs)
+    (λ c. search needs)
+    (λ c. search needs)
     add-length
     (λ c. search (needs, stepping))
-    (search needs)
-    (search needs)
-    (search needs)
+    (λ c. search needs)
+    (λ c. search needs)
+    (λ c. search needs)
     (λ c κs. search needs)
     add-length-2
-    (search needs)
+    (λ c. search needs)
     (λ c. search (needs, stepping-more, ltb-true))
-    (search needs)
+    (λ c. search needs)
     returns)

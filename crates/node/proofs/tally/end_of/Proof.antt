@@ -25,13 +25,13 @@ end-of-spec =
     (tie.spec
     Inv-loop
     μ-loop
-    (search needs)
+    (λ c. search needs)
     (λ c. search (needs, ended))
-    (search needs)
+    (λ c. search needs)
     (λ c. search (needs, ending))
-    (search needs)
-    (search needs)
-    (search needs)
+    (λ c. search needs)
+    (λ c. search needs)
+    (λ c. search needs)
     (λ c. search (needs, ending-more, leb-true))
-    (search needs)
+    (λ c. search needs)
     returns-2)

@@ -26,13 +26,13 @@ grown-spec =
     Inv-loop
     μ-loop
     (λ c. search (needs, growing))
-    (search needs)
-    (search needs)
-    (search needs)
+    (λ c. search needs)
+    (λ c. search needs)
+    (λ c. search needs)
     (λ c. c .before .before .before .before .before .before .pre .0 .part (c .before .before .before .loop .stand) (search needs))
     (λ c κs. search needs)
     add-sum
-    (search needs)
-    (search needs)
+    (λ c. search needs)
+    (λ c. search needs)
     (λ c. search (needs, growing-more))
     (λ c. search (needs, growing-end)))

@@ -8,4 +8,4 @@ returns : tie.Need-returns
 returns c = (c .wide .ensures, omega (arith, c .before .before .before .before .pre .0 .inside (c .before .before .before .before .args .stand .0) (search needs), c .wide .ensures))
 
 pub region-at-spec : {M : Type 1} → statement M
-region-at-spec = tie.close (tie.spec (search needs) (search needs) (λ c κs. search needs) returns)
+region-at-spec = tie.close (tie.spec (λ c. search needs) (λ c. search needs) (λ c κs. search needs) returns)

@@ -5,4 +5,4 @@ use Rattle.node.proofs.tally.value_at.Statement.{statement}
 use Rattle.node.proofs.tally.value_at.Tie as tie
 
 pub value-at-spec : {M : Type 1} → statement M
-value-at-spec = tie.close (tie.spec (search needs) (λ c. search (needs, List·getD-eq-default)) (search needs) (search needs))
+value-at-spec = tie.close (tie.spec (λ c. search needs) (λ c. search (needs, List·getD-eq-default)) (λ c. search needs) (λ c. search needs))

@@ -50,23 +50,23 @@ gather-run-spec =
     (tie.spec
     Inv-loop
     μ-loop
-    (search needs)
-    (search needs)
+    (λ c. search needs)
+    (λ c. search needs)
     (λ c. record { wide = search needs; fits = search needs; room = search needs; few = omega arith; size = refl; same = refl })
-    (search needs)
-    (search needs)
+    (λ c. search needs)
+    (λ c. search needs)
     (λ c. omega (arith, c .shared-slice-known2 .given (c .before .before .loop .i)))
     (λ c. c .before .before .before .loop .inv .size)
     (λ c. search (needs, run-breaks))
-    (search needs)
-    (search needs)
-    (search needs)
-    (search needs)
+    (λ c. search needs)
+    (λ c. search needs)
+    (λ c. search needs)
+    (λ c. search needs)
     (λ c κs. search needs)
     (λ c κs. search needs)
     add-n
-    (search needs)
-    (search needs)
+    (λ c. search needs)
+    (λ c. search needs)
     loop-again
     (λ c. c .before .loop .inv .size)
     (λ c. search (needs, run-ends)))

@@ -6,4 +6,4 @@ use Rattle.range.proofs.gather.put.Statement.{statement}
 use Rattle.range.proofs.gather.put.Tie as tie
 
 pub put-spec : {M : Type 1} → statement M
-put-spec = tie.close (tie.spec (search needs) (search needs) (search needs) (search needs) (λ c. search (needs, set-out)))
+put-spec = tie.close (tie.spec (λ c. search needs) (λ c. search needs) (λ c. search needs) (λ c. search needs) (λ c. search (needs, set-out)))

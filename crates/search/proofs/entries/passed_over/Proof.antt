@@ -6,4 +6,4 @@ use Rattle.search.proofs.entries.passed_over.Tie as tie
 
 pub passed-over-spec : {M : Type 1} → statement M
 passed-over-spec =
-    tie.close (tie.spec (λ c. search (needs, not-full)) (search needs) (search needs) (search needs) (λ c. search (needs, last-decides)))
+    tie.close (tie.spec (λ c. search (needs, not-full)) (λ c. search needs) (λ c. search needs) (λ c. search needs) (λ c. search (needs, last-decides)))

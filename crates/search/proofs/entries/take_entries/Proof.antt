@@ -40,17 +40,17 @@ take-entries-spec =
     μ-loop
     loop-holds
     (λ c κs. search needs)
-    (search needs)
-    (search needs)
+    (λ c. search needs)
+    (λ c. search needs)
     (λ c. search (needs, unread))
     (λ c κs. search (needs, read-within))
     (λ c. search (needs, unusable, breaks))
     (λ c κs. search (needs, read-within, holds))
-    (search needs)
-    (search needs)
+    (λ c. search needs)
+    (λ c. search needs)
     (λ c. search (needs, take-stop, holds))
-    (search needs)
+    (λ c. search needs)
     add-e
-    (search needs)
+    (λ c. search needs)
     (λ c. search (needs, take-next, holds))
     (λ c. search (needs, take-done)))

@@ -53,11 +53,11 @@ take-entry-spec =
     tie.close
     (tie.spec
     bound-requires
-    (search needs)
-    (search needs)
+    (λ c. search needs)
+    (λ c. search needs)
     shared-slice-read-t16
     key-of-requires
-    (search needs)
+    (λ c. search needs)
     (λ c κs. search needs)
     returns
     offer-places-requires

@@ -17,8 +17,8 @@ usable-spec =
     (tie.spec
     (λ c. sym (every-not _ 0 (lt-leb _ _ (c .if1 .taken))))
     (λ c. sym (every-not _ 1 (le-ltb _ _ (c .if2 .taken))))
-    (search needs)
-    (search needs)
+    (λ c. search needs)
+    (λ c. search needs)
     (λ c. omega (arith, c .before .before .if2 .left, within-facts _ _ (c .before .before .before .before .before .before .pre) .1))
     (λ c. omega (arith, c .shared-slice-known .given (c .before .before .before .before .before .before .args .entry .first .0)))
     (λ c. search (needs, first-decides)))

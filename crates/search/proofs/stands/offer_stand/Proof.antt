@@ -48,17 +48,17 @@ pub offer-stand-spec : {M : Type 1} → statement M
 offer-stand-spec =
     tie.close
     (tie.spec
-    (search needs)
+    (λ c. search needs)
     (λ c κs. search needs)
     (λ c. search (needs, unreadable, breaks))
-    (search needs)
+    (λ c. search needs)
     (λ c. facts c .has-east)
-    (search needs)
+    (λ c. search needs)
     (λ c. facts (c .before) .has-north)
-    (search needs)
+    (λ c. search needs)
     (λ c. facts (c .before .before .before) .has-score)
     value-requires
     key-of-requires
-    (search needs)
+    (λ c. search needs)
     (λ c κs. search needs)
     returns-2)

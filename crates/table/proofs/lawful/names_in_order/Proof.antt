@@ -30,13 +30,13 @@ names-in-order-spec =
     Inv-loop
     μ-loop
     (λ c. search (needs, begin))
-    (search needs)
+    (λ c. search needs)
     (λ c κs. search needs)
-    (search needs)
+    (λ c. search needs)
     (λ c κs. search needs)
     (λ c κs. search needs)
     (λ c. sym (fail _ _ _ (search needs) (breaks _ _ (told (c .before)) (c .if1 .taken)) (c .before .before .before .before .before .loop .inv)))
-    (search needs)
-    (search needs)
+    (λ c. search needs)
+    (λ c. search needs)
     (λ c. pass _ _ _ (search needs) (holds _ _ (told (c .before)) (c .if1 .left)) (search needs))
     (λ c. sym (finish _ _ _ (search needs) (c .before .loop .inv))))

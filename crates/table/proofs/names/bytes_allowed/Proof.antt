@@ -26,10 +26,10 @@ bytes-allowed-spec =
     Inv-loop
     μ-loop
     (λ c. search (needs, read-begin))
-    (search needs)
+    (λ c. search needs)
     (λ c κs. search needs)
     returns
-    (search needs)
-    (search needs)
+    (λ c. search needs)
+    (λ c. search needs)
     (λ c. search (needs, read-pass, holds))
     (λ c. sym (read-finish _ _ _ (search needs) (c .before .loop .inv))))

@@ -33,15 +33,15 @@ unfolding spanned
 name-span-spec =
     tie.close
     (tie.spec
-    (search needs)
-    (search needs)
+    (λ c. search needs)
+    (λ c. search needs)
     (λ c. nowhere _ _ _ (every-not _ 0 (le-ltb _ _ (c .if1 .taken))))
-    (search needs)
-    (search needs)
+    (λ c. search needs)
+    (λ c. search needs)
     (λ c. omega (arith, c .shared-slice-known .given (c .before .before .before .args .stand .0)))
-    (search needs)
-    (search needs)
-    (search needs)
+    (λ c. search needs)
+    (λ c. search needs)
+    (λ c. search needs)
     (λ c. omega (arith, c .shared-slice-known2 .given (c .before .before .before .before .args .stand .0 + 1)))
     returns-2
     returns-3)

@@ -11,10 +11,10 @@ rest-span-spec =
     tie.close
     (tie.spec
     (λ c κs. search needs)
-    (search needs)
-    (search needs)
-    (search needs)
+    (λ c. search needs)
+    (λ c. search needs)
+    (λ c. search needs)
     (λ c κs. search needs)
-    (search needs)
+    (λ c. search needs)
     (λ c. rest _ _ _ _ (c .before .before .before .name-span .ensures) _ (sym (c .before .begins .ensures) ∙ c .if1 .taken))
     (λ c. no-rest _ _ _ _ (c .before .before .before .name-span .ensures) _ (sym (c .before .begins .ensures) ∙ c .if1 .left)))

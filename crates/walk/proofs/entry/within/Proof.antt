@@ -7,4 +7,4 @@ use Rattle.walk.proofs.entry.within.Tie as tie
 
 pub within-spec : {M : Type 1} → statement M
 unfolding entryWithin
-within-spec = tie.close (tie.spec (search needs) (λ c. rw (le-ltb _ _ (c .if1 .taken))) (search needs) (λ c. rw (lt-ltb _ _ (c .before .if1 .left))))
+within-spec = tie.close (tie.spec (λ c. search needs) (λ c. rw (le-ltb _ _ (c .if1 .taken))) (λ c. search needs) (λ c. rw (lt-ltb _ _ (c .before .if1 .left))))

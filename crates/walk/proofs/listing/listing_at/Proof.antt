@@ -9,10 +9,10 @@ pub listing-at-spec : {M : Type 1} → statement M
 listing-at-spec =
     tie.close
     (tie.spec
-    (search needs)
+    (λ c. search needs)
     (λ c κs. search needs)
-    (search needs)
-    (search needs)
+    (λ c. search needs)
+    (λ c. search needs)
     (λ c. c .entries-of .ensures ∙ ap (listingAt _) (sym (c .before .before .at .given .1)))
     (λ c. search needs)
     (λ c. search needs))

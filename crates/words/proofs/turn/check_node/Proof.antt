@@ -61,15 +61,15 @@ check-node-spec =
     (tie.spec
     gather-requires
     row-requires
-    (search needs)
-    (search needs)
-    (search needs)
+    (λ c. search needs)
+    (λ c. search needs)
+    (λ c. search needs)
     has-words-requires
     returns
-    (search needs)
-    (search needs)
+    (λ c. search needs)
+    (λ c. search needs)
     has-entries-requires
     returns-2
-    (search needs)
+    (λ c. search needs)
     advance-requires
     returns-3)

@@ -50,15 +50,15 @@ write-node-spec =
     (tie.spec
     gather-requires
     row-requires
-    (search needs)
-    (search needs)
-    (search needs)
+    (λ c. search needs)
+    (λ c. search needs)
+    (λ c. search needs)
     put-words-requires
-    (search needs)
-    (search needs)
+    (λ c. search needs)
+    (λ c. search needs)
     put-entries-requires
-    (search needs)
+    (λ c. search needs)
     advance-requires
-    (search needs)
-    (search needs)
+    (λ c. search needs)
+    (λ c. search needs)
     returns)

@@ -11,4 +11,4 @@ returns : tie.Need-returns
 returns c = sym (ap (drop 1) (from-low (c .before .args .self) (search needs) (search needs)))
 
 pub but-least-spec : {M : Type 1} → statement M
-but-least-spec = tie.close (tie.spec (search needs) returns (λ c. search (needs, some-high)) (λ c. search (needs, from-high, some-high)))
+but-least-spec = tie.close (tie.spec (λ c. search needs) returns (λ c. search (needs, some-high)) (λ c. search (needs, from-high, some-high)))

@@ -27,4 +27,4 @@ returns-2 c =
     rw (one-shifted 32 (span .past) (omega arith), one-shifted 32 (span .first) (omega arith)) (sym (word-between (span .first) (span .past) 8 (c .before .pre)))
 
 pub mask-spec : {M : Type 1} → statement M
-mask-spec = tie.close (tie.spec returns (search needs) (search needs) sub-result returns-2)
+mask-spec = tie.close (tie.spec returns (λ c. search needs) (λ c. search needs) sub-result returns-2)
