@@ -1,4 +1,4 @@
--- `finder_c::krz_type` meets its contract: a walk of its MIR, by hand. The borrow is opened, the record is copied out whole and passed by value to `typed` beside the nodes, and the record that comes back is stored whole; the borrow is closed at it, and the verdict's number is what is answered.
+-- `finder_c::krz_type` meets its contract: a walk of its MIR, by hand. The borrow is opened, the record is copied out whole and passed by value to `with_letter` beside the nodes, and the record that comes back is stored whole; the borrow is closed at it, and the verdict's number is what is answered.
 -- What is owned of the other parameters is let go. Assumes nothing.
 use mathlib.Core.Path.{_≡_, refl, sym, ap, subst}
 use mathlib.Core.List.{List, [], _∷_}

@@ -1,4 +1,4 @@
--- `session::type_byte` meets its contract: a walk of its MIR, by hand. The borrow is opened, the record is copied out whole and passed by value to `typed` beside the nodes, and the record that comes back is stored whole; the borrow is closed at it.
+-- `session::type_byte` meets its contract: a walk of its MIR, by hand. The borrow is opened, the record is copied out whole and passed by value to `with_letter` beside the nodes, and the record that comes back is stored whole; the borrow is closed at it.
 -- A `&[u32]` is Copy: what the nodes own is had twice, once for the callee and once for the exit. A Session and a Stroke own only facts, so what they own is dropped and made anew. Assumes nothing.
 use mathlib.Core.Path.{_≡_, refl, sym, ap, subst}
 use mathlib.Core.List.{List, [], _∷_}
