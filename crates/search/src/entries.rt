@@ -6,8 +6,8 @@ ghost use mathlib.Core.List.{[]};
 ghost use lib.ListN.{length, take};
 ghost use Rattle.base.specs.Lent.{given, after};
 ghost use Rattle.walk.specs.Entries.{entryWithin};
-ghost use Rattle.best.specs.Holds.{Holds};
-ghost use Rattle.search.specs.Searches.{standColumnsIn, Asks, Searching, usable, MayTake, passedOver, entryTaken, entriesTaken, Keeps};
+ghost use Rattle.best.specs.Keys.{keyOf};
+ghost use Rattle.search.specs.Searches.{standColumnsIn, Asks, Searching, usable, MayTake, boundHit, passedOver, entryTaken, entriesTaken, Keeps};
 use super::Kept;
 use crate::stands::offer_places;
 use best::Held;
@@ -34,18 +34,34 @@ fn usable(order: &[u32], entry: Entry) -> bool
     (order[entry.first.0 as usize] as usize) < Stand::MOST
 }
 
-// Whether k are held and the last of them goes before this key.
-fn passed_over(held: &Held, len: usize, k: usize, key: u64) -> bool
-    requires { ⌜ Holds (now held) len k ⌝ }
-    ensures { λ r. ⌜ r ≡ passedOver k (take len (given held)) key ⌝ }
+// The key of a stand with the entry's bound for its value and the entry's first number: no stand of the entry has a larger one.
+fn bound_key(grid: Grid, order: &[u32], entry: Entry, asked: Ranking) -> u64
+    requires { ⌜ Asks grid asked × MayTake (now order) entry ⌝ }
+    ensures { λ r. ⌜ r ≡ keyOf (boundHit grid asked (given order) entry) ⌝ }
 {
-    if len < k {
-        return false;
-    }
-    key < held[len - 1]
+    let most = bound(grid, asked.weight, entry.score, entry.region, asked.place);
+    let stand = Stand(order[entry.first.0 as usize]);
+    key_of(most, stand)
 }
 
-// No stand of the entry has a larger key than its bound would have with its first number.
+// Whether k are held and the last of them goes before every stand of the entry. The bound is not reckoned before k are held.
+fn passed_over(
+    grid: Grid,
+    order: &[u32],
+    entry: Entry,
+    asked: Ranking,
+    held: &Held,
+    len: usize,
+) -> bool
+    requires { ⌜ Searching grid asked (now held) len × MayTake (now order) entry ⌝ }
+    ensures { λ r. ⌜ r ≡ passedOver (asked .k) (take len (given held)) (keyOf (boundHit grid asked (given order) entry)) ⌝ }
+{
+    if len < asked.k as usize {
+        return false;
+    }
+    bound_key(grid, order, entry, asked) < held[len - 1]
+}
+
 fn take_entry(
     east: &[i32],
     north: &[i32],
@@ -60,11 +76,7 @@ fn take_entry(
     requires { ⌜ Searching grid asked (now held) len × MayTake (now order) entry ⌝ }
     ensures { λ r. ⌜ Keeps (entryTaken (standColumnsIn east north score) grid asked (given order) entry (take len (given held))) (asked .k) (after held) r ⌝ }
 {
-    let most = bound(grid, asked.weight, entry.score, entry.region, asked.place);
-    let first = entry.first.0 as usize;
-    let stand = Stand(order[first]);
-    let key = key_of(most, stand);
-    if passed_over(held, len, asked.k as usize, key) {
+    if passed_over(grid, order, entry, asked, held, len) {
         return Kept::Held(len);
     }
     offer_places(
