@@ -7,7 +7,8 @@ use mathlib.Core.List.{List, _∷_}
 use Prim.Native.Nat.{ℕ, suc, _-_, _≤_, _<_}
 use native.Mathlib.Omega.{arith}
 use lib.ListN.{length, take, drop, getD}
-use lib.Seq.{slice, slice-cons}
+use lib.Seq.{slice, slice-cons, take-all}
+use borrow.Author.Tests.{le-leb}
 use Rattle.base.specs.Lists.{In, firstOf, begins}
 use Rattle.base.proofs.Members.{in-at, drop-take}
 use Rattle.base.proofs.Begins.{begins-part, begins-length}
@@ -25,7 +26,7 @@ use Rattle.meaning.proofs.Listing.{under-rises, order-means, standsIn, in-regio
 use Rattle.meaning.proofs.Entries.{entries-mean}
 use Rattle.walk.specs.Entries.{asRead}
 use Rattle.best.proofs.Keys.{key-most}
-use Rattle.search.specs.Searches.{StandColumns, standColumns, readableStand, boundHit}
+use Rattle.search.specs.Searches.{StandColumns, standColumns, readableStand, boundHit, asLong, cut}
 use Rattle.search.proofs.Reading.{stand-read}
 use Rattle.ranked.proofs.Offers.{Sound}
 
@@ -45,6 +46,18 @@ module _ (t : Table) (g : Grid) (l : LawfulTable t g) where
         scored = l .scored i h;
         inside = l .placed i h;
       })
+
+  -- the columns have one length
+  pub long-enough : asLong (tableColumns t) ≡ true
+  unfolding asLong
+  long-enough =
+      let s = l .shaped in
+      rw (le-leb (length (t .east)) (length (t .north)) (omega (arith, s .easts, s .norths)), le-leb (length (t .east)) (length (t .score)) (omega (arith, s .easts)))
+
+  pub cut-same : cut (tableColumns t) ≡ tableColumns t
+  cut-same =
+      let s = l .shaped in
+      rw (take-all (length (t .east)) (t .north) (omega (arith, s .easts, s .norths)), take-all (length (t .east)) (t .score) (omega (arith, s .easts)))
 
   -- no stand is worth more than the bound of its region with no smaller a score
   within-bound : (q : Ranking) (i score : ℕ) → i < stands t → scoreOf t i ≤ score → hitOf t g q i .value ≤ boundOf g (q .weight) score (regionOfStand g t i) (q .place)

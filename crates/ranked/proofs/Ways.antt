@@ -43,10 +43,10 @@ use Rattle.walk.proofs.Asked.{from-kept, text-refused, text-listed}
 use Rattle.best.specs.Keys.{keyOf, hitOfKey}
 use Rattle.best.specs.Holds.{bestOf}
 use Rattle.best.proofs.Streams.{found-hits}
-use Rattle.search.specs.Searches.{Searchable, StandColumns, Search, broken, keys, entriesTaken, Answers, BestListed}
+use Rattle.search.specs.Searches.{Searchable, StandColumns, Search, broken, keys, entriesTaken, Answers, listedSearch, BestListed}
 use Rattle.search.proofs.Asking.{some-asked}
 use Rattle.ranked.specs.Promises.{RankedFrom}
-use Rattle.ranked.proofs.Entries.{tableColumns}
+use Rattle.ranked.proofs.Entries.{tableColumns, long-enough, cut-same}
 use Rattle.ranked.proofs.Under.{listed-best}
 
 -- on a lawful set, what the keys held of a text's listing come to is what its ranking does
@@ -61,7 +61,10 @@ module _ (t : Table) (g : Grid) (x : Index) (parts : SetParts t g x) (p : List �
 
   found-exact : 0 < q .k → (regions : Cells) (first : ℕ) → listingOf t g p ≡ Entries regions first → (o : Outcome)
       → BestListed (tableColumns t) g q (x .order) (x .entries) regions first rooms o → o ≡ rankedOutcome 0 (q .k) (ranking t g p q) rooms
-  found-exact some regions first e o w = subst (λ (s : Search). Answers s (q .k) rooms o) (listed-best t g x parts p q some regions first e) w ∙ best-come
+  found-exact some regions first e o w =
+      let cut-all : listedSearch (tableColumns t) g q (x .order) (x .entries) regions first ≡ entriesTaken (tableColumns t) g q (x .order) (x .entries) (length (regionsIn regions)) first [] =
+      rw (long-enough t g (parts .table), cut-same t g (parts .table)) in
+      subst (λ (s : Search). Answers s (q .k) rooms o) (cut-all ∙ listed-best t g x parts p q some regions first e) w ∙ best-come
 
 module _ (c : StandColumns) (g : Grid) (order entries : List ℕ) (at : Listing) (q : Ranking) (found values : List ℕ) where
   abbrev rooms : List (List ℕ)
@@ -124,7 +127,7 @@ module _ (c : StandColumns) (g : Grid) (order entries : List ℕ) (at : Listing)
               rw (s .asks .ranking)
               (found-exact t g x (set-parts t g x (l .lawful)) p q rooms (some-asked g q (s .asks)) regions first (sym (l .listing) ∙ e) o
               (subst (λ (c : StandColumns). BestListed c g q order entries regions first rooms o) same w));
-          harmless = harmless-of o (entriesTaken c g q order entries (length (regionsIn regions)) first []) w;
+          harmless = harmless-of o (listedSearch c g q order entries regions first) w;
         }
 
 -- ---- from a text

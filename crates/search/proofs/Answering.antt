@@ -2,20 +2,24 @@
 -- Assumes nothing.
 use mathlib.Core.Path.{_≡_, sym, ap, _∙_}
 use mathlib.Core.List.{List, [], _∷_}
-use Prim.Native.Nat.{ℕ, _≤_}
+use Prim.Native.Nat.{ℕ, _≤_, _<_}
 use native.Mathlib.Omega.{arith}
 use lib.ListN.{length, take}
 use lib.Seq.{take-all, length-take-le}
-use borrow.Author.Tests.{le-leb}
+use borrow.Author.Tests.{le-leb, lt-leb}
 use Rattle.base.specs.Lists.{each}
 use Rattle.base.proofs.Members.{each-each, length-each}
+use Rattle.rules.specs.declared.Grid.{Grid}
+use Rattle.rules.specs.declared.Ranking.{Ranking}
 use Rattle.rules.specs.declared.Refusal.the-variants.{NotLawful}
 use Rattle.rules.specs.declared.RankedAnswer.the-variants.{Found, Refused}
-use Rattle.rules.specs.Outcomes.{rankedOutcome, rankedCame}
+use Rattle.rules.specs.Outcomes.{Outcome, rankedOutcome, rankedCame}
+use Rattle.grid.specs.declared.cells.Cells.{Cells}
+use Rattle.grid.specs.Cells.{regionsIn}
 use Rattle.best.specs.Keys.{hitOfKey}
 use Rattle.search.specs.declared.Kept.{Kept}
 use Rattle.search.specs.declared.Kept.the-variants as kept
-use Rattle.search.specs.Searches.{Search, Written, Answers, Keeps}
+use Rattle.search.specs.Searches.{StandColumns, Search, Written, asLong, cut, entriesTaken, Answers, BestListed, Keeps}
 use Rattle.search.proofs.Keeping.{held-is, broken-is}
 
 -- the keys l, of which there are at most k, written to rooms of k places
@@ -44,3 +48,24 @@ module _ (s : Search) (k : ℕ) (room : List ℕ) (r : Kept) (w : Keeps s k room
       let h = held-is s k room r w len e in
       let all : length (take len room) ≡ len = length-take-le len room (omega (arith, h .1 .size, h .1 .within, h .1 .fits)) in
       rw (h .0) (ap (λ (n : ℕ). rankedCame (Found n) found′ values′) (sym all) ∙ held-come k (take len room) found values found′ values′ (omega (arith, h .1 .within)) f v t)
+
+-- ---- columns of one length
+
+module _ (c : StandColumns) (g : Grid) (q : Ranking) (order entries : List ℕ) (regions : Cells) (first : ℕ) where
+  pub short-north : (found values : List ℕ) → length (c .north) < length (c .east)
+      → BestListed c g q order entries regions first (found ∷ values ∷ []) (rankedCame (Refused NotLawful) found values)
+  unfolding asLong
+  short-north found values h = rw (lt-leb (length (c .east)) (length (c .north)) h)
+
+  module _ (north : length (c .east) ≤ length (c .north)) where
+    pub short-score : (found values : List ℕ) → length (c .score) < length (c .east)
+        → BestListed c g q order entries regions first (found ∷ values ∷ []) (rankedCame (Refused NotLawful) found values)
+    unfolding asLong
+    short-score found values h = rw (le-leb (length (c .east)) (length (c .north)) north, lt-leb (length (c .east)) (length (c .score)) h)
+
+    pub cut-taken : length (c .east) ≤ length (c .score) → (rooms : List (List ℕ)) (o : Outcome)
+        → Answers (entriesTaken (cut c) g q order entries (length (regionsIn regions)) first []) (q .k) rooms o
+        → BestListed c g q order entries regions first rooms o
+    unfolding asLong
+    cut-taken score rooms o w =
+        rw (le-leb (length (c .east)) (length (c .north)) north, le-leb (length (c .east)) (length (c .score)) score) w

@@ -2,10 +2,11 @@
 // `stands` offers stands, `entries` passes the listed entries over or takes them. The words may be anything:
 // those that no building writes are Broken, and nothing outside them is read.
 ghost use mathlib.Core.List.{[], _∷_};
-ghost use lib.ListN.{take};
+ghost use lib.ListN.{length, take};
 ghost use Rattle.base.specs.Lent.{given, after};
 ghost use Rattle.rules.specs.Outcomes.{rankedCame};
-ghost use Rattle.search.specs.Searches.{standColumnsIn, Searchable, Writable, Written, BestListed};
+ghost use Rattle.grid.specs.Cells.{regionsIn};
+ghost use Rattle.search.specs.Searches.{standColumnsIn, Searchable, Writable, Written, entriesTaken, Answers, BestListed};
 
 mod entries;
 mod stands;
@@ -41,8 +42,8 @@ fn write_held(held: &Held, len: usize, found: &mut [u32], values: &mut [u64])
     }
 }
 
-// The k best stands that are listed, best first.
-pub fn best_listed(
+// The k best stands of the listed entries, best first.
+fn best_taken(
     east: &[i32],
     north: &[i32],
     score: &[u32],
@@ -56,7 +57,7 @@ pub fn best_listed(
     values: &mut [u64],
 ) -> RankedAnswer
     requires { ⌜ Searchable grid asked (now found) (now values) ⌝ }
-    ensures { λ r. ⌜ BestListed (standColumnsIn east north score) grid asked (given order) (given entries) regions first (given found ∷ given values ∷ []) (rankedCame r (after found) (after values)) ⌝ }
+    ensures { λ r. ⌜ Answers (entriesTaken (standColumnsIn east north score) grid asked (given order) (given entries) (length (regionsIn regions)) first []) (asked .k) (given found ∷ given values ∷ []) (rankedCame r (after found) (after values)) ⌝ }
 {
     let mut held: Held = [0; Ranking::K_MOST as usize];
     match take_entries(
@@ -77,4 +78,43 @@ pub fn best_listed(
         }
         Kept::Broken => RankedAnswer::Refused(Refusal::NotLawful),
     }
+}
+
+// The k best stands that are listed, best first. The columns are cut to one length, so that a stand's number is held against it once.
+pub fn best_listed(
+    east: &[i32],
+    north: &[i32],
+    score: &[u32],
+    grid: Grid,
+    order: &[u32],
+    entries: &[u32],
+    regions: Cells,
+    first: u32,
+    asked: Ranking,
+    found: &mut [u32],
+    values: &mut [u64],
+) -> RankedAnswer
+    requires { ⌜ Searchable grid asked (now found) (now values) ⌝ }
+    ensures { λ r. ⌜ BestListed (standColumnsIn east north score) grid asked (given order) (given entries) regions first (given found ∷ given values ∷ []) (rankedCame r (after found) (after values)) ⌝ }
+{
+    let stands = east.len();
+    if north.len() < stands {
+        return RankedAnswer::Refused(Refusal::NotLawful);
+    }
+    if score.len() < stands {
+        return RankedAnswer::Refused(Refusal::NotLawful);
+    }
+    best_taken(
+        east,
+        &north[..stands],
+        &score[..stands],
+        grid,
+        order,
+        entries,
+        regions,
+        first,
+        asked,
+        found,
+        values,
+    )
 }

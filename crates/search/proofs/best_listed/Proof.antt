@@ -1,41 +1,20 @@
--- `search::best_listed` meets its contract: its ways out are the laws of proofs/Answering.antt. Assumes nothing.
+-- `search::best_listed` meets its contract: columns that are too short are refused, else all are cut to one length. Assumes nothing.
 use borrow.Author.Needs.{needs}
-use native.Mathlib.Omega.{arith}
-use Rattle.search.proofs.Keeping.{held-is}
-use Rattle.search.proofs.Answering.{broken-words, found-best}
+use mathlib.Core.Path.{sym}
+use lib.Seq.{length-take-le}
+use Rattle.search.proofs.Answering.{short-north, short-score, cut-taken}
 use Rattle.search.proofs.best_listed.Statement.{statement}
 use Rattle.search.proofs.best_listed.Tie as tie
-
-write-held-requires : tie.Need-write-held-requires
-write-held-requires c κs =
-    let h = held-is _ _ _ _ (c .before .before .before .before .before .before .take-entries .ensures) _ (c .before .before .before .before .len .given .1) .1 in
-    let p = c .before .before .before .before .before .before .before .before .before .before .before .before .before .before .pre in
-    record { size = h .size; few = omega (arith, h .within, h .fits); stands-fit = omega (arith, h .within, p .stands-fit); values-fit = omega (arith, h .within, p .values-fit) }
-
-cast-t24 : tie.Need-cast-t24
-cast-t24 c = let h = held-is _ _ _ _ (c .before .before .before .before .before .before .before .before .before .before .before .take-entries .ensures) _ (c .before .before .before .before .before .before .before .before .before .len .given .1) .1 in omega (arith, h .within, h .fits)
-
-returns : tie.Need-returns
-returns c =
-    let p = c .before .before .before .before .before .before .before .before .before .before .before .before .before .before .before .before .before .before .before .pre in
-    rw (c .before .before .before .before .before .before .before .before .before .before .before .before .before .count .ensures) at (found-best _ _ _ _ (c .before .before .before .before .before .before .before .before .before .before .before .take-entries .ensures) _ _ (p .stands-fit) (p .values-fit) _ _ _ (c .before .before .before .before .before .before .before .before .before .len .given .1) (c .before .before .before .before .write-held .ensures))
-
-returns-2 : tie.Need-returns-2
-returns-2 c =
-    let a = c .before .before .before .before .before .before .before .before .before .before .args in
-    rw (c .before .before .before .before .count .ensures) at (broken-words _ _ _ _ (c .before .before .take-entries .ensures) (a .found .now) (a .values .now) (c .enum-told .given .1))
 
 pub best-listed-spec : {M : Type 1} → statement M
 best-listed-spec =
     tie.close
     (tie.spec
-    (λ c κs. search needs)
-    (λ c κs. search needs)
+    (λ c. short-north _ _ _ _ _ _ _ _ _ (c .if1 .taken))
+    (λ c. short-score _ _ _ _ _ _ _ (c .before .if1 .left) _ _ (c .if2 .taken))
+    (λ c. sym (length-take-le _ _ (c .before .before .if1 .left)))
+    (λ c. sym (length-take-le _ _ (c .before .before .if2 .left)))
+    (λ c κs. c .before .before .before .before .before .before .before .before .before .before .before .pre)
     (λ c. search needs)
-    write-held-requires
-    cast-t24
     (λ c. search needs)
-    (λ c. search needs)
-    (λ c. search needs)
-    returns
-    returns-2)
+    (λ c. cut-taken _ _ _ _ _ _ _ (c .before .before .before .before .before .before .before .before .before .before .if1 .left) (c .before .before .before .before .before .before .before .before .before .if2 .left) _ _ (c .before .before .before .before .best-taken .ensures)))
