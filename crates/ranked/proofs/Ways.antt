@@ -32,7 +32,6 @@ use Rattle.rules.proofs.Lawful.{SetParts, set-parts}
 use Rattle.rules.proofs.Outcomes.{settled-refused}
 use Rattle.meaning.proofs.Tables.{in-under}
 use Rattle.grid.specs.declared.cells.Cells.{Cells}
-use Rattle.grid.specs.Cells.{regionsIn}
 use Rattle.walk.specs.declared.listing.Listing.{Listing}
 use Rattle.walk.specs.declared.listing.Listing.the-variants.{Entries, Nowhere, Broken}
 use Rattle.walk.specs.Walks.{nodeIn}
@@ -43,7 +42,7 @@ use Rattle.walk.proofs.Asked.{from-kept, text-refused, text-listed}
 use Rattle.best.specs.Keys.{keyOf, hitOfKey}
 use Rattle.best.specs.Holds.{bestOf}
 use Rattle.best.proofs.Streams.{found-hits}
-use Rattle.search.specs.Searches.{Searchable, StandColumns, Search, broken, keys, entriesTaken, Answers, listedSearch, BestListed}
+use Rattle.search.specs.Searches.{Searchable, StandColumns, Search, broken, keys, Answers, listedTaken, listedSearch, BestListed}
 use Rattle.search.proofs.Asking.{some-asked}
 use Rattle.ranked.specs.Promises.{RankedFrom}
 use Rattle.ranked.proofs.Entries.{tableColumns, long-enough, cut-same}
@@ -62,7 +61,7 @@ module _ (t : Table) (g : Grid) (x : Index) (parts : SetParts t g x) (p : List �
   found-exact : 0 < q .k → (regions : Cells) (first : ℕ) → listingOf t g p ≡ Entries regions first → (o : Outcome)
       → BestListed (tableColumns t) g q (x .order) (x .entries) regions first rooms o → o ≡ rankedOutcome 0 (q .k) (ranking t g p q) rooms
   found-exact some regions first e o w =
-      let cut-all : listedSearch (tableColumns t) g q (x .order) (x .entries) regions first ≡ entriesTaken (tableColumns t) g q (x .order) (x .entries) (length (regionsIn regions)) first [] =
+      let cut-all : listedSearch (tableColumns t) g q (x .order) (x .entries) regions first ≡ listedTaken (tableColumns t) g q (x .order) (x .entries) regions first =
       rw (long-enough t g (parts .table), cut-same t g (parts .table)) in
       subst (λ (s : Search). Answers s (q .k) rooms o) (cut-all ∙ listed-best t g x parts p q some regions first e) w ∙ best-come
 

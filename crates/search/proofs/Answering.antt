@@ -15,11 +15,10 @@ use Rattle.rules.specs.declared.Refusal.the-variants.{NotLawful}
 use Rattle.rules.specs.declared.RankedAnswer.the-variants.{Found, Refused}
 use Rattle.rules.specs.Outcomes.{Outcome, rankedOutcome, rankedCame}
 use Rattle.grid.specs.declared.cells.Cells.{Cells}
-use Rattle.grid.specs.Cells.{regionsIn}
 use Rattle.best.specs.Keys.{hitOfKey}
 use Rattle.search.specs.declared.Kept.{Kept}
 use Rattle.search.specs.declared.Kept.the-variants as kept
-use Rattle.search.specs.Searches.{StandColumns, Search, Written, asLong, cut, entriesTaken, Answers, BestListed, Keeps}
+use Rattle.search.specs.Searches.{StandColumns, Search, Written, Answers, BestTaken, asLong, cut, BestListed, Keeps}
 use Rattle.search.proofs.Keeping.{held-is, broken-is}
 
 -- the keys l, of which there are at most k, written to rooms of k places
@@ -64,7 +63,7 @@ module _ (c : StandColumns) (g : Grid) (q : Ranking) (order entries : List ℕ) 
     short-score found values h = rw (le-leb (length (c .east)) (length (c .north)) north, lt-leb (length (c .east)) (length (c .score)) h)
 
     pub cut-taken : length (c .east) ≤ length (c .score) → (rooms : List (List ℕ)) (o : Outcome)
-        → Answers (entriesTaken (cut c) g q order entries (length (regionsIn regions)) first []) (q .k) rooms o
+        → BestTaken (cut c) g q order entries regions first rooms o
         → BestListed c g q order entries regions first rooms o
     unfolding asLong
     cut-taken score rooms o w =

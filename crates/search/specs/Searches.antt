@@ -159,6 +159,13 @@ abbrev pub Answers : Search → ℕ → List (List ℕ) → Outcome → Type 0
 Answers broken k rooms o = o ≡ refused 7 rooms
 Answers (keys l) k rooms o = o ≡ rankedOutcome 0 k (each hitOfKey l) rooms
 
+-- of a listing: an entry for each of its regions
+abbrev pub listedTaken : StandColumns → Grid → Ranking → List ℕ → List ℕ → Cells → ℕ → Search
+listedTaken c g q order entries regions first = entriesTaken c g q order entries (length (regionsIn regions)) first []
+
+abbrev pub BestTaken : StandColumns → Grid → Ranking → List ℕ → List ℕ → Cells → ℕ → List (List ℕ) → Outcome → Type 0
+BestTaken c g q order entries regions first rooms o = Answers (listedTaken c g q order entries regions first) (q .k) rooms o
+
 -- whether north and score have a word for each that east has
 unfoldable pub asLong : StandColumns → Bool
 asLong c = leb (length (c .east)) (length (c .north)) && leb (length (c .east)) (length (c .score))
@@ -167,9 +174,8 @@ asLong c = leb (length (c .east)) (length (c .north)) && leb (length (c .east)) 
 abbrev pub cut : StandColumns → StandColumns
 cut c = standColumns (c .east) (take (length (c .east)) (c .north)) (take (length (c .east)) (c .score))
 
--- of a listing: an entry for each of its regions
 abbrev pub listedSearch : StandColumns → Grid → Ranking → List ℕ → List ℕ → Cells → ℕ → Search
-listedSearch c g q order entries regions first = cond (asLong c) (entriesTaken (cut c) g q order entries (length (regionsIn regions)) first []) broken
+listedSearch c g q order entries regions first = cond (asLong c) (listedTaken (cut c) g q order entries regions first) broken
 
 abbrev pub BestListed : StandColumns → Grid → Ranking → List ℕ → List ℕ → Cells → ℕ → List (List ℕ) → Outcome → Type 0
 BestListed c g q order entries regions first rooms o = Answers (listedSearch c g q order entries regions first) (q .k) rooms o

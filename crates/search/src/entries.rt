@@ -62,6 +62,7 @@ fn passed_over(
     bound_key(grid, order, entry, asked) < held[len - 1]
 }
 
+// One entry: passed over, or its stands offered.
 fn take_entry(
     east: &[i32],
     north: &[i32],

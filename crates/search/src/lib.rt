@@ -1,12 +1,10 @@
 // The search behind the ranked question: from a text's listing to its k best stands, written to the caller's rooms.
 // `stands` offers stands, `entries` passes the listed entries over or takes them. The words may be anything:
 // those that no building writes are Broken, and nothing outside them is read.
-ghost use mathlib.Core.List.{[], _∷_};
-ghost use lib.ListN.{length, take};
+ghost use lib.ListN.{take};
 ghost use Rattle.base.specs.Lent.{given, after};
-ghost use Rattle.rules.specs.Outcomes.{rankedCame};
-ghost use Rattle.grid.specs.Cells.{regionsIn};
-ghost use Rattle.search.specs.Searches.{standColumnsIn, Searchable, Writable, Written, entriesTaken, Answers, BestListed};
+ghost use Rattle.rules.specs.Outcomes.{roomsIn, rankedCameIn};
+ghost use Rattle.search.specs.Searches.{standColumnsIn, Searchable, Writable, Written, BestTaken, BestListed};
 
 mod entries;
 mod stands;
@@ -57,7 +55,7 @@ fn best_taken(
     values: &mut [u64],
 ) -> RankedAnswer
     requires { ⌜ Searchable grid asked (now found) (now values) ⌝ }
-    ensures { λ r. ⌜ Answers (entriesTaken (standColumnsIn east north score) grid asked (given order) (given entries) (length (regionsIn regions)) first []) (asked .k) (given found ∷ given values ∷ []) (rankedCame r (after found) (after values)) ⌝ }
+    ensures { λ r. ⌜ BestTaken (standColumnsIn east north score) grid asked (given order) (given entries) regions first (roomsIn found values) (rankedCameIn r found values) ⌝ }
 {
     let mut held: Held = [0; Ranking::K_MOST as usize];
     match take_entries(
@@ -95,7 +93,7 @@ pub fn best_listed(
     values: &mut [u64],
 ) -> RankedAnswer
     requires { ⌜ Searchable grid asked (now found) (now values) ⌝ }
-    ensures { λ r. ⌜ BestListed (standColumnsIn east north score) grid asked (given order) (given entries) regions first (given found ∷ given values ∷ []) (rankedCame r (after found) (after values)) ⌝ }
+    ensures { λ r. ⌜ BestListed (standColumnsIn east north score) grid asked (given order) (given entries) regions first (roomsIn found values) (rankedCameIn r found values) ⌝ }
 {
     let stands = east.len();
     if north.len() < stands {
