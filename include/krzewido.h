@@ -17,6 +17,9 @@
  *   score   0 to 1,000 for each stand
  * Names stand in byte order, a shorter one before a longer one that begins with it; equal names are two stands.
  *
+ * A typed text, given to a call or letter by letter, has at most 24 bytes, each a to z, 0 to 9, space, or A to Z. A capital is read as its
+ * small letter before it is judged or stored: "Ki" finds what "ki" finds, and the session holds "ki". In a name a capital is refused.
+ *
  * The index is three buffers of words that krz_build fills: order, nodes, entries. Table, grid and index together are a set, passed to
  * every call in the same order. A set is lawful if krz_check says so; a set that krz_build has just written is. Words are in the machine's
  * byte order: saved and brought to a machine of the other order, they are no lawful index there.
@@ -67,12 +70,12 @@ enum krz_refusal {
     KRZ_NOT_REFUSED = 0,
     KRZ_TABLE_MISSHAPEN = 1,           /* over 1,024 stands, parts of unequal length, or starts that do not go from 0 to the text's end */
     KRZ_GRID_OUTSIDE_LIMITS = 2,       /* an edge or the cell side */
-    KRZ_NAME_NOT_ALLOWED = 3,          /* a name's length or a byte of it */
+    KRZ_NAME_NOT_ALLOWED = 3,          /* a name's length or a byte of it, a capital among them */
     KRZ_NAMES_OUT_OF_ORDER = 4,        /* a name stands before a smaller one */
     KRZ_STAND_NOT_ALLOWED = 5,         /* a stand outside the grid, or a score over 1,000 */
     KRZ_BUFFER_TOO_SMALL = 6,          /* a buffer has no room for the index */
     KRZ_NOT_LAWFUL = 7,                /* set or session is not lawful, and the call noticed; never given for a lawful one */
-    KRZ_TEXT_BYTE_NOT_ALLOWED = 8,     /* a byte of the text, or the byte typed */
+    KRZ_TEXT_BYTE_NOT_ALLOWED = 8,     /* a byte of the text, or the byte typed; never A to Z */
     KRZ_TEXT_TOO_LONG = 9,             /* over 24 bytes, or a 25th typed */
     KRZ_NOTHING_TO_RUB_OUT = 10,       /* no letter stands */
     KRZ_RECT_REVERSED = 11,            /* west over east or south over north */
@@ -170,7 +173,7 @@ krz_found krz_ranked(
 /* The session of no letters. */
 krz_session krz_fresh(void);
 
-/* Types a letter. It is kept also where no name begins so. Gives the refusal: 7, 9, 8, and then the session is as it was. */
+/* Types a letter, a capital as its small letter. It is kept also where no name begins so. Gives the refusal: 7, 9, 8, and then the session is as it was. */
 uint32_t krz_type(
     const uint8_t *text, size_t text_len, const uint32_t *starts, size_t starts_len,
     const int32_t *east, size_t east_len, const int32_t *north, size_t north_len,

@@ -79,6 +79,7 @@ int main(void)
     const krz_rect wide = {0, 80, 0, 80};
     const krz_rect reversed = {1, 0, 0, 0};
     const uint8_t *ki = (const uint8_t *)"ki";
+    const uint8_t *capitals = (const uint8_t *)"Ki";
     const uint8_t *kibo = (const uint8_t *)"kibo";
     krz_session session = krz_fresh();
     uint32_t found[KRZ_K_MOST];
@@ -98,6 +99,8 @@ int main(void)
 
     printf("range ki: ");
     show_range(krz_range(SET, ki, 2, near, found, KRZ_K_MOST), found, "ki");
+    printf("range Ki: ");
+    show_range(krz_range(SET, capitals, 2, near, found, KRZ_K_MOST), found, "Ki");
     printf("range kibo, three places: ");
     show_range(krz_range(SET, kibo, 4, wide, found, 3), found, "kibo");
     printf("range kibo, two places: ");
@@ -110,11 +113,12 @@ int main(void)
     show_ranked(krz_ranked(SET, ki, 2, here, 8, 17, found, KRZ_K_MOST, values, KRZ_K_MOST), found, values, "ki");
 
     rub_out(&session);
-    keys(&session, "kiz");
+    keys(&session, "Kiz");
+    printf("letters: %.*s\n", (int)session.len, (const char *)session.text);
     printf("range kiz: ");
     show_range(krz_range_typed(SET, session, wide, found, KRZ_K_MOST), found, "kiz");
     rub_out(&session);
-    keys(&session, "B");
+    keys(&session, "[");
     printf("range ki, typed: ");
     show_range(krz_range_typed(SET, session, near, found, KRZ_K_MOST), found, "ki");
     printf("ranked ki, typed, weight 16, k 2: ");

@@ -4,7 +4,8 @@ use crate::dice::Dice;
 use crate::records::{Place, Ranking, Rect, Set};
 use crate::tables::{metre, ALLOWED};
 
-/// A text to ask for: mostly the beginning of a name, now and then with another letter, too long, or with a byte that is not allowed.
+/// A text to ask for: mostly the beginning of a name, now and then with another letter, too long, or with a byte that is not allowed;
+/// and some of its letters as capitals.
 pub fn text(dice: &mut Dice, set: &Set) -> Vec<u8> {
     let mut text = Vec::new();
     if !set.score.is_empty() && !dice.once_in(8) {
@@ -13,9 +14,12 @@ pub fn text(dice: &mut Dice, set: &Set) -> Vec<u8> {
     }
     match dice.below(16) {
         0 => text.push(dice.one_of(ALLOWED)),
-        1 => text.push(dice.one_of(b"A_\0\xff{`/:")),
+        1 => text.push(dice.one_of(b"@[_\0\xff{`/:")),
         2 => text.resize(24 + dice.below(3), b'a'),
         _ => {}
+    }
+    if dice.once_in(3) {
+        text.iter_mut().filter(|_| dice.once_in(2)).for_each(u8::make_ascii_uppercase);
     }
     text
 }

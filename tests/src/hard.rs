@@ -111,12 +111,12 @@ fn range<'a>(set: &'a Owned, text: &'a [u8], room: usize) -> Vec<Hard<'a>> {
     all
 }
 
-/// Behind each beginning of a text the letter that leads on, the first and the last allowed byte, one that is not; and a rub-out.
+/// Behind each beginning of a text the letter that leads on, the first and the last allowed byte, a capital, a byte that is not allowed; and a rub-out.
 fn strokes<'a>(set: &'a Owned, text: &[u8]) -> Vec<Hard<'a>> {
     let mut all = Vec::new();
     for length in 0..=text.len() {
         let before = session(&set.lent(), &text[..length]);
-        let keys = [text.get(length).copied().unwrap_or(b'a'), b' ', b'z', b'Z'];
+        let keys = [text.get(length).copied().unwrap_or(b'a'), b' ', b'z', b'Z', b'{'];
         for byte in keys {
             let mut session = Box::new(before);
             let words = format!("the key {:?} behind {}", byte as char, letters(&text[..length]));
@@ -157,9 +157,12 @@ fn others(set: &Owned) -> Vec<Hard<'_>> {
     for (corner, place) in places(&set.lent()) {
         all.push(hard("krz_region", format!("of {corner}"), move || told(finder::region(set.grid, place))));
     }
-    for (stand, text) in [(0, &set.name(0)[..0]), (0, set.name(0)), (set.score.len() - 1, set.name(set.score.len() - 1))] {
-        let rest = move || told(finder::rest(&set.text, &set.starts, stand as u32, text));
-        all.push(hard("krz_rest", format!("stand {stand}, {}", letters(text)), rest));
+    for stand in [0, set.score.len() - 1] {
+        for length in 0..=set.name(stand).len() {
+            let text = &set.name(stand)[..length];
+            let rest = move || told(finder::rest(&set.text, &set.starts, stand as u32, text));
+            all.push(hard("krz_rest", format!("stand {stand}, {}", letters(text)), rest));
+        }
     }
     all
 }

@@ -14,6 +14,11 @@ fn allowed(byte: u8) -> bool {
     byte.is_ascii_lowercase() || byte.is_ascii_digit() || byte == b' '
 }
 
+/// A typed text as it is read: capitals as small letters.
+pub fn folded(text: &[u8]) -> Vec<u8> {
+    text.to_ascii_lowercase()
+}
+
 /// Where a stand's name lies in the text: between its two starts, if they rise and stay in the text.
 fn span(text: &[u8], starts: &[u32], stand: usize) -> std::ops::Range<usize> {
     match (starts.get(stand), starts.get(stand + 1)) {
@@ -28,7 +33,7 @@ pub fn name<'a>(set: &Set<'a>, stand: usize) -> &'a [u8] {
 
 pub fn rest(text: &[u8], starts: &[u32], stand: u32, typed: &[u8]) -> Part {
     let span = span(text, starts, stand as usize);
-    match text[span.clone()].strip_prefix(typed) {
+    match text[span.clone()].strip_prefix(folded(typed).as_slice()) {
         Some(left) => Part { start: (span.start + typed.len()) as u32, length: left.len() as u32 },
         None => Part { start: 0, length: 0 },
     }
@@ -204,7 +209,7 @@ pub fn check(set: &Set) -> Checked {
 pub fn text_refusal(text: &[u8]) -> u32 {
     if 24 < text.len() {
         9
-    } else if !text.iter().all(|&b| allowed(b)) {
+    } else if !folded(text).into_iter().all(allowed) {
         8
     } else {
         0
@@ -231,7 +236,7 @@ pub fn ranked_refusal(grid: Grid, text: &[u8], asked: Ranking) -> u32 {
 /// The stands that a range question finds, by region and then by number.
 pub fn range(set: &Set, text: &[u8], rect: Rect) -> Vec<u32> {
     let inside = |p: Place| rect.west <= p.east && p.east <= rect.east && rect.south <= p.north && p.north <= rect.north;
-    let mut found: Vec<usize> = under(set, text).into_iter().filter(|&i| inside(place(set, i))).collect();
+    let mut found: Vec<usize> = under(set, &folded(text)).into_iter().filter(|&i| inside(place(set, i))).collect();
     found.sort_by_key(|&i| (region_of(set.grid, place(set, i)), i));
     found.into_iter().map(|i| i as u32).collect()
 }
@@ -253,7 +258,7 @@ pub fn value(set: &Set, asked: Ranking, stand: usize) -> u64 {
 
 /// The stands that a ranked question finds, best first, each with its value.
 pub fn ranked(set: &Set, text: &[u8], asked: Ranking) -> Vec<(u32, u64)> {
-    let mut all: Vec<(u32, u64)> = under(set, text).into_iter().map(|i| (i as u32, value(set, asked, i))).collect();
+    let mut all: Vec<(u32, u64)> = under(set, &folded(text)).into_iter().map(|i| (i as u32, value(set, asked, i))).collect();
     all.sort_by_key(|&(stand, value)| (std::cmp::Reverse(value), stand));
     all.truncate(asked.k as usize);
     all
@@ -290,7 +295,7 @@ impl Typist {
         let Some(letters) = session.text.get(..session.len as usize) else {
             return false;
         };
-        text_refusal(letters) == 0 && session == self.session(letters)
+        letters.iter().all(|&b| allowed(b)) && session == self.session(letters)
     }
 }
 
@@ -298,7 +303,7 @@ impl Typist {
 pub fn type_refusal(letters: &[u8], byte: u8) -> u32 {
     if letters.len() == 24 {
         9
-    } else if !allowed(byte) {
+    } else if !allowed(byte.to_ascii_lowercase()) {
         8
     } else {
         0

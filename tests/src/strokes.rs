@@ -29,7 +29,7 @@ impl Key {
     /// The letters that stand once it is taken.
     fn after(self, letters: &[u8]) -> Vec<u8> {
         match self {
-            Key::Letter(byte) => [letters, &[byte]].concat(),
+            Key::Letter(byte) => [letters, &scan::folded(&[byte])].concat(),
             Key::RubOut => letters[..letters.len().saturating_sub(1)].to_vec(),
         }
     }
@@ -42,15 +42,20 @@ impl Key {
     }
 }
 
-/// A byte that goes on with a name, or another.
+/// A byte that goes on with a name, now and then as a capital, or another.
 pub fn letter(dice: &mut Dice, set: &Owned, letters: &[u8]) -> u8 {
     let lent = set.lent();
     let names = (0..set.score.len()).map(|i| scan::name(&lent, i)).filter(|n| n.starts_with(letters) && letters.len() < n.len());
     let next: Vec<u8> = names.map(|n| n[letters.len()]).collect();
     if next.is_empty() || dice.once_in(8) {
-        return dice.one_of(b"abkz 09A\0");
+        return dice.one_of(b"abkz 09AZ@[\0");
     }
-    next[dice.below(next.len())]
+    let byte = next[dice.below(next.len())];
+    if dice.once_in(4) {
+        byte.to_ascii_uppercase()
+    } else {
+        byte
+    }
 }
 
 /// A session from fresh on, compared record by record; now and then both questions on its letters.
@@ -110,9 +115,10 @@ pub fn compare_strokes(dice: &mut Dice, counts: &mut Counts, set: &Owned, typist
 /// One field of a session changed.
 pub fn bent(dice: &mut Dice, set: &Owned, mut session: Session) -> Session {
     let boundaries = damage::boundaries(&set.lent());
-    match dice.below(4) {
+    match dice.below(5) {
         0 => session.len = dice.one_of(&[0, 1, 24, 25, u32::MAX, session.len.wrapping_add(1)]),
         1 => session.text[dice.below(24)] = dice.word() as u8,
+        2 => session.text[dice.below((session.len as usize).clamp(1, 24))].make_ascii_uppercase(),
         _ => damage::flip(dice, &boundaries, &mut session.path),
     }
     session

@@ -1,7 +1,7 @@
 -- A loop that tests one thing after the other and leaves at the first that fails: what is still to test decides.
 -- Scanning is its invariant over the numbers below n, Reading over the elements of a list. Assumes nothing.
 use Prim.Native.Nat.{ℕ, zero, suc, _+_, _-_, _≤_, _<_}
-use mathlib.Core.Path.{_≡_, refl, _∙_}
+use mathlib.Core.Path.{_≡_, refl, ap, _∙_}
 use mathlib.Core.Bool.{Bool, true, false, _&&_}
 use mathlib.Core.List.{List, [], _∷_, _++_}
 use mathlib.Core.Logic.{⊎-elim}
@@ -10,7 +10,7 @@ use native.Mathlib.Nat.{eq-or-lt-of-le}
 use native.Mathlib.Omega.{arith}
 use lib.ListN.{length, getD, drop, drop-of-length-le}
 use lib.Seq.{drop-cons}
-use Rattle.base.specs.Lists.{all, fromOn, upTo}
+use Rattle.base.specs.Lists.{all, each, fromOn, upTo}
 use Rattle.base.proofs.Tests.{and-left, and-right, and-parts}
 
 module _ (p : ℕ → Bool) where
@@ -47,6 +47,11 @@ module _ {A : Type 0} (p : A → Bool) where
   pub all-right : (s t : List A) → all p (s ++ t) ≡ true → all p t ≡ true
   all-right [] t h = h
   all-right (x ∷ s) t h = all-right s t (and-parts (p x) (all p (s ++ t)) h .1)
+
+-- of a list by what f makes of each element
+pub all-each : {A B : Type 0} (p : B → Bool) (f : A → B) (l : List A) → all p (each f l) ≡ all (λ x. p (f x)) l
+all-each p f [] = refl
+all-each p f (x ∷ l) = ap (λ b. p (f x) && b) (all-each p f l)
 
 pub record Scanning (p : ℕ → Bool) (n i : ℕ) : Type 0 where
   pub within : i ≤ n

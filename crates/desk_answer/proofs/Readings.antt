@@ -11,6 +11,7 @@ use Rattle.base.proofs.Members.{length-each}
 use Rattle.rules.specs.declared.Grid.{Grid}
 use Rattle.rules.specs.declared.Ranking.{Ranking}
 use Rattle.rules.specs.declared.Refusal.{Refusal}
+use Rattle.rules.specs.Names.{foldedText}
 use Rattle.rules.specs.Tables.{Table, tableOf}
 use Rattle.rules.proofs.Numbers.{refusal-some}
 use Rattle.lines.specs.Writing.{ascii, signedOf, decimalOf, line}
@@ -122,7 +123,7 @@ module _ (input : List ℕ) (rooms after : Table) {bytes out out′ : List ℕ} 
       })
 
   pub replied : (stands bytes₀ : ℕ) (grid : Grid) (from past : ℕ) (ranking : Ranking) → ReadsInput input rooms (Of stands bytes₀ grid from past ranking) after
-      → bytes ≡ replyTo (tableOf (take bytes₀ (after .text)) (take (stands + 1) (after .starts)) (take stands (after .east)) (take stands (after .north)) (take stands (after .score))) grid (part from past input) ranking
+      → bytes ≡ replyTo (tableOf (take bytes₀ (after .text)) (take (stands + 1) (after .starts)) (take stands (after .east)) (take stands (after .north)) (take stands (after .score))) grid (foldedText (part from past input)) ranking
       → AnswersInput input out out′ r
   unfolding outputOf
   replied stands bytes₀ grid from past ranking reads is =
@@ -135,6 +136,6 @@ module _ (input : List ℕ) (rooms after : Table) {bytes out out′ : List ℕ} 
             let g : grid ≡ s .grid = ap (λ (a : ReadingTold). a .grid) (a .0) in
             let k : ranking ≡ s .ranking = ap (λ (a : ReadingTold). a .ranking) (a .0) in
             let table = same-table (q .text .is) (q .starts .is) (q .east .is) (q .north .is) (q .score .is) in
-            is ∙ rw (g, k, q .typed) (ap (λ u. replyTo u (s .grid) (s .text) (s .ranking)) table);
+            is ∙ rw (g, k, q .typed) (ap (λ u. replyTo u (s .grid) (foldedText (s .text)) (s .ranking)) table);
         other = λ none. let z : _≡_ {A = ℕ} 0 14 = ap (λ (a : ReadingTold). a .refusal) (reads .other none) in absurd (omega arith);
       })

@@ -21,6 +21,7 @@ ghost use mathlib.Core.Bool.{true};
 ghost use Prim.Native.Nat.{_≤_};
 ghost use lib.ListN.{length};
 ghost use Rattle.base.specs.Lent.{given, after};
+ghost use Rattle.rules.specs.Names.{foldedText};
 ghost use Rattle.rules.specs.Tables.{tableOf, tableIn};
 ghost use Rattle.rules.specs.Indexes.{indexOf, setLawful};
 ghost use Rattle.lines.specs.Puts.{Puts};
@@ -90,7 +91,7 @@ fn ask(
     asked: Ranking,
 ) -> usize
     requires { ⌜ setLawful (tableOf (now text) (now starts) (now east) (now north) (now score)) grid (indexOf (now order) (now nodes) (now entries)) ≡ true ⌝ }
-    ensures { λ r. ⌜ Puts (replyTo (tableIn text starts east north score) grid (given typed) asked) (given out) 0 (after out) r ⌝ }
+    ensures { λ r. ⌜ Puts (replyTo (tableIn text starts east north score) grid (foldedText (given typed)) asked) (given out) 0 (after out) r ⌝ }
 {
     let mut found = [0u32; HITS_MOST];
     let mut values = [0u64; HITS_MOST];
@@ -130,7 +131,7 @@ pub fn reply(
     asked: Ranking,
 ) -> usize
     requires { ⌜ length (now score) ≤ 64 ⌝ }
-    ensures { λ r. ⌜ Puts (replyTo (tableIn text starts east north score) grid (given typed) asked) (given out) 0 (after out) r ⌝ }
+    ensures { λ r. ⌜ Puts (replyTo (tableIn text starts east north score) grid (foldedText (given typed)) asked) (given out) 0 (after out) r ⌝ }
 {
     let made = index_made(
         text,

@@ -191,7 +191,11 @@ fn print_columns() {
     print_score(b"score=1000");
 }
 
+// A typed text may have capitals, and a name may not.
 fn print_texts() {
+    print_text(b"text=Ki");
+    print_text(b"text=k@");
+    print_text(b"text=k[");
     print_text(b"text=k!");
     print_text(b"text=aaaaaaaaaaaaaaaaaaaaaaaa!");
     print_text(b"text=aaaaaaaaaaaaaaaaaaaaaaaa");

@@ -11,6 +11,7 @@ use Rattle.rules.specs.declared.Grid.{Grid}
 use Rattle.rules.specs.declared.Ranking.{Ranking}
 use Rattle.rules.specs.declared.Hit.{Hit}
 use Rattle.rules.specs.Numbers.{firstGiven}
+use Rattle.rules.specs.Names.{foldedText}
 use Rattle.rules.specs.Tables.{Table, nameOf, tableRefusal}
 use Rattle.rules.specs.Questions.{rankedList, rankedRefusal}
 use Rattle.lines.specs.Writing.{ascii, decimalOf, line}
@@ -32,9 +33,9 @@ replyTo t g p q =
     let refusal : ℕ = firstGiven (tableRefusal t g) (rankedRefusal g p q) in
     cond (eqb refusal 0) (printedHits t (rankedList t g p q)) (printedRefusal refusal)
 
--- for an input of the form
+-- for an input of the form, its text read as any typed text is
 unfoldable pub outputOf : Input → List ℕ
-outputOf r = replyTo (tableFrom (r .stands)) (r .grid) (r .text) (r .ranking)
+outputOf r = replyTo (tableFrom (r .stands)) (r .grid) (foldedText (r .text)) (r .ranking)
 
 -- for any input: 14 comes before all others
 pub record Prints (input output : List ℕ) : Type 0 where

@@ -11,11 +11,12 @@ use Rattle.base.proofs.Tests.{and-parts}
 use Rattle.base.proofs.Scans.{all-right}
 use Rattle.rules.specs.declared.Grid.{Grid}
 use Rattle.rules.specs.declared.Verdict.the-variants.{Passed}
-use Rattle.rules.specs.Names.{allowed, textRefusal}
+use Rattle.rules.specs.Names.{allowed, folded, foldedText, textRefusal}
 use Rattle.rules.specs.Tables.{Table}
 use Rattle.rules.specs.Indexes.{Index, setLawful}
 use Rattle.rules.specs.Sessions.{sessionOf, lettersTyped}
 use Rattle.rules.proofs.Bytes.{text-parts, text-taken}
+use Rattle.rules.proofs.Folds.{text-same}
 use Rattle.session.specs.declared.Stroke.{Stroke}
 use Rattle.session.specs.Promises.{TypePromise}
 use Rattle.session.proofs.Letters.{type-taken, typed-allowed, rubbed-allowed}
@@ -46,41 +47,41 @@ module _ (t : Table) (g : Grid) (x : Index) (law : setLawful t g x ≡ true) whe
 
 -- ---- a text typed letter by letter
 
--- no rub-out is among them, and the letters are the text's
+-- no rub-out is among them, and the letters are the text's as they are read
 typing-rubs : (S : State) (p l : List ℕ) → rubsIn (typing S p l) ≡ 0
 typing-rubs S p [] = refl
 typing-rubs S p (b ∷ l) = typing-rubs (withSession S (sessionOf (S .table) (lettersTyped p b))) (lettersTyped p b) l
 
-typing-letters : (S : State) (p l : List ℕ) → lettersIn (typing S p l) ≡ l
+typing-letters : (S : State) (p l : List ℕ) → lettersIn (typing S p l) ≡ foldedText l
 typing-letters S p [] = refl
-typing-letters S p (b ∷ l) = ap (λ (m : List ℕ). b ∷ m) (typing-letters (withSession S (sessionOf (S .table) (lettersTyped p b))) (lettersTyped p b) l)
+typing-letters S p (b ∷ l) = ap (λ (m : List ℕ). folded b ∷ m) (typing-letters (withSession S (sessionOf (S .table) (lettersTyped p b))) (lettersTyped p b) l)
 
 text-full : (t : Table) (p : List ℕ) → length p < 24 → length (sessionOf t p .text) ≡ 24
 unfolding sessionOf
 text-full t p h = simp (length-append, length-replicate) (omega arith)
 
--- one allowed letter is accepted, and leaves the session of the letters with it
-letter-accepted : (S : State) → Lawful S → (p : List ℕ) (b : ℕ) → length p < 24 → allowed b ≡ true
-    → TypePromise (S .index .nodes) b (sessionOf (S .table) p) (sessionOf (S .table) (p ++ (b ∷ []))) Passed
+-- one letter that is allowed as it is read is accepted, and leaves the session of the letters with it
+letter-accepted : (S : State) → Lawful S → (p : List ℕ) (b : ℕ) → length p < 24 → allowed (folded b) ≡ true
+    → TypePromise (S .index .nodes) b (sessionOf (S .table) p) (sessionOf (S .table) (p ++ (folded b ∷ []))) Passed
 letter-accepted S law p b h a =
     subst (λ (k : Stroke). TypePromise (S .index .nodes) b (sessionOf (S .table) p) (k .session) (k .verdict))
-    (typed-served (S .index .nodes) (S .table) (S .grid, S .index, law, refl) p b h a)
+    (typed-served (S .index .nodes) (S .table) (S .grid, S .index, law, refl) p (folded b) h a)
     (type-keeps (S .index .nodes) (sessionOf (S .table) p) b (text-full (S .table) p h))
 
--- so a text that is allowed can be typed behind another
-typing-run : (S : State) → Lawful S → (p l : List ℕ) → S .session ≡ sessionOf (S .table) p → textRefusal (p ++ l) ≡ 0 → Run S (typing S p l)
+-- so a text that is allowed as it is read can be typed behind another
+typing-run : (S : State) → Lawful S → (p l : List ℕ) → S .session ≡ sessionOf (S .table) p → textRefusal (p ++ foldedText l) ≡ 0 → Run S (typing S p l)
 typing-run S law p [] same fine = tt
 typing-run S law p (b ∷ l) same fine =
-    let parts = text-parts (p ++ (b ∷ l)) fine in
-    let short : length p < 24 = omega (arith, parts .0, length-append p (b ∷ l)) in
-    let spelled : allowed b ≡ true = and-parts (allowed b) (all allowed l) (all-right allowed p (b ∷ l) (parts .1)) .0 in
-    let longer : lettersTyped p b ≡ p ++ (b ∷ []) = taken-typing p b (sym (type-taken p b short spelled)) in
+    let parts = text-parts (p ++ foldedText (b ∷ l)) fine in
+    let short : length p < 24 = omega (arith, parts .0, length-append p (foldedText (b ∷ l))) in
+    let spelled : allowed (folded b) ≡ true = and-parts (allowed (folded b)) (all allowed (foldedText l)) (all-right allowed p (foldedText (b ∷ l)) (parts .1)) .0 in
+    let longer : lettersTyped p b ≡ p ++ (folded b ∷ []) = taken-typing p b (sym (type-taken p b short spelled)) in
     let S′ : State = withSession S (sessionOf (S .table) (lettersTyped p b)) in (
       record {
         set = refl;
         call = rw (same, longer) (letter-accepted S law p b short spelled);
       },
-      typing-run S′ law (lettersTyped p b) l refl (rw (longer, append-assoc p (b ∷ []) l) fine),
+      typing-run S′ law (lettersTyped p b) l refl (rw (longer, append-assoc p (folded b ∷ []) (foldedText l)) fine),
     )
 
 -- no letters stand but such as may be typed
@@ -100,5 +101,7 @@ pub as-typed-afresh : (t : Table) (g : Grid) (x : Index) → setLawful t g x ≡
 as-typed-afresh t g x law run r =
     let S : State = freshState t g x in
     let l : List ℕ = standing [] run in
-    let o : Run S (typing S [] l) = typing-run S law [] l (fresh-stands t g x law .session) (standing-allowed [] (text-taken [] (omega arith) refl) run) in
-    (o, as-typed t g x law run (typing S [] l) r o (typing-rubs S [] l) (typing-letters S [] l))
+    let fine : textRefusal l ≡ 0 = standing-allowed [] (text-taken [] (omega arith) refl) run in
+    let small : foldedText l ≡ l = text-same l fine in
+    let o : Run S (typing S [] l) = typing-run S law [] l (fresh-stands t g x law .session) (rw small fine) in
+    (o, as-typed t g x law run (typing S [] l) r o (typing-rubs S [] l) (typing-letters S [] l ∙ small))

@@ -13,11 +13,12 @@ use Rattle.rules.specs.declared.Session.{Session}
 use Rattle.rules.specs.declared.Refusal.{Refusal}
 use Rattle.rules.specs.declared.Verdict.the-variants.{Passed, Refused}
 use Rattle.rules.specs.Numbers.{refusalNumber}
-use Rattle.rules.specs.Names.{textRefusal}
+use Rattle.rules.specs.Names.{folded, foldedText, textRefusal}
 use Rattle.rules.specs.Tables.{Table}
 use Rattle.rules.specs.Indexes.{Index, setLawful, butLast}
 use Rattle.rules.specs.Sessions.{sessionOf, lettersOf, LawfulSession, typeRefusal, lettersTyped, rubRefusal, lettersRubbed}
 use Rattle.rules.proofs.Bytes.{text-taken}
+use Rattle.rules.proofs.Folds.{text-same}
 use Rattle.rules.proofs.Numbers.{refusal-some}
 use Rattle.session.proofs.Letters.{typed-allowed, rubbed-allowed}
 use Rattle.session.proofs.Texts.{letters-of, session-lawful, fresh-is}
@@ -29,7 +30,7 @@ standing-append : (run more : List Done) (p : List ℕ) → standing p (run ++ m
 standing-append [] more p = refl
 standing-append (d ∷ run) more p = standing-append run more (lettersAfter p (d .deed))
 
-pub taken-typing : (p : List ℕ) (b : ℕ) → 0 ≡ typeRefusal p b → lettersTyped p b ≡ p ++ (b ∷ [])
+pub taken-typing : (p : List ℕ) (b : ℕ) → 0 ≡ typeRefusal p b → lettersTyped p b ≡ p ++ (folded b ∷ [])
 taken-typing p b e = rw (sym e)
 
 -- a refused letter changes nothing, and a rub-out is refused only where there is nothing to take
@@ -55,6 +56,10 @@ module _ (S : State) (law : Lawful S) (p : List ℕ) (fine : textRefusal p ≡ 0
   abbrev here : State
   here = withSession S (sessionOf t p)
 
+  -- its letters as a question reads them
+  read : foldedText (lettersOf (sessionOf t p)) ≡ p
+  read = ap foldedText (letters-of t p) ∙ text-same p fine
+
   came : (d : Deed) (s′ : Session) → Promises here d s′ → Came S p d s′
   came (Deed.types b v) s′ promise =
       let kept = promise .lawful t (S .grid, S .index, law, refl) (session-lawful t p fine) in
@@ -72,13 +77,13 @@ module _ (S : State) (law : Lawful S) (p : List ℕ) (fine : textRefusal p ≡ 0
       }
   came (Deed.asksRange r rooms o) s′ promise =
       record {
-        meant = subst (λ (q : List ℕ). Meant S q (Deed.asksRange r rooms o)) (letters-of t p) (promise .0 .exact (record { set = law; session = session-lawful t p fine }));
+        meant = subst (λ (q : List ℕ). Meant S q (Deed.asksRange r rooms o)) read (promise .0 .exact (record { set = law; session = session-lawful t p fine }));
         session = promise .1;
         allowed = fine;
       }
   came (Deed.asksRanked q rooms o) s′ promise =
       record {
-        meant = subst (λ (p : List ℕ). Meant S p (Deed.asksRanked q rooms o)) (letters-of t p) (promise .0 .exact (record { set = law; session = session-lawful t p fine }));
+        meant = subst (λ (p : List ℕ). Meant S p (Deed.asksRanked q rooms o)) read (promise .0 .exact (record { set = law; session = session-lawful t p fine }));
         session = promise .1;
         allowed = fine;
       }
@@ -137,7 +142,7 @@ types-stand S (d ∷ run) none p m = step (d .deed) none (m .0) (λ z. types-sta
 
     step : (e : Deed) → withRub e (rubsIn run) ≡ 0 → Meant S p e → (rubsIn run ≡ 0 → standing (lettersAfter p e) run ≡ behind (lettersAfter p e))
         → standing (lettersAfter p e) run ≡ p ++ withLetter e (lettersIn run)
-    step (Deed.types b Passed) z k below = below z ∙ ap behind (taken-typing p b k) ∙ append-assoc p (b ∷ []) (lettersIn run)
+    step (Deed.types b Passed) z k below = below z ∙ ap behind (taken-typing p b k) ∙ append-assoc p (folded b ∷ []) (lettersIn run)
     step (Deed.types b (Refused why)) z k below = below z ∙ ap behind (refused-typing p b why k)
     step (Deed.rubs Passed) z k below = absurd (omega arith)
     step (Deed.rubs (Refused why)) z k below = below z ∙ ap behind (refused-rubbing p why k)

@@ -11,6 +11,7 @@ use Rattle.rules.specs.declared.Session.{Session}
 use Rattle.rules.specs.declared.Verdict.{Verdict}
 use Rattle.rules.specs.declared.Verdict.the-variants.{Passed, Refused}
 use Rattle.rules.specs.Numbers.{verdictNumber}
+use Rattle.rules.specs.Names.{folded}
 use Rattle.rules.specs.Tables.{Table}
 use Rattle.rules.specs.Questions.{rangeList, rangeRefusal, ranking, rankedRefusal}
 use Rattle.rules.specs.Outcomes.{Outcome, rangeOutcome, rankedOutcome}
@@ -101,9 +102,9 @@ AsMeant S p (d ∷ run) = Meant S p (d .deed) × Stands (d .state) (lettersAfter
 
 -- ---- what was accepted in a run, whatever else was done between
 
--- the accepted letters in their order
+-- the accepted letters in their order, each as it is read
 abbrev pub withLetter : Deed → List ℕ → List ℕ
-withLetter (Deed.types b Passed) l = b ∷ l
+withLetter (Deed.types b Passed) l = folded b ∷ l
 withLetter (Deed.types b (Refused why)) l = l
 withLetter (Deed.rubs v) l = l
 withLetter (Deed.asksRange r rooms o) l = l

@@ -13,13 +13,14 @@ use Rattle.rules.specs.declared.Ranking.{Ranking}
 use Rattle.rules.specs.declared.Session.{Session}
 use Rattle.rules.specs.declared.Refusal.{Refusal}
 use Rattle.rules.specs.Numbers.{refusalNumber, firstGiven}
-use Rattle.rules.specs.Names.{textRefusal}
+use Rattle.rules.specs.Names.{foldedText, textRefusal}
 use Rattle.rules.specs.Tables.{Table}
 use Rattle.rules.specs.Questions.{rangeList, rectRefusal, ranking, rankingRefusal}
 use Rattle.rules.specs.Outcomes.{Outcome, refused, rangeOutcome, rankedOutcome}
 use Rattle.rules.specs.Indexes.{Index}
 use Rattle.rules.specs.Sessions.{lettersOf}
 use Rattle.rules.specs.Promises.{Kept, LawfulBoth, TypedRangePromise, TypedRankedPromise}
+use Rattle.rules.proofs.Folds.{text-same}
 use Rattle.rules.proofs.Outcomes.{settled-refused}
 use Rattle.walk.specs.declared.Child.{Child}
 use Rattle.walk.specs.declared.listing.Listing.{Listing}
@@ -40,22 +41,22 @@ module _ (s : Session) where
   unfolding lettersRefusal
   over h = rw (lt-ltb 24 (s .len) h)
 
-  pub within : s .len ≤ 24 → lettersRefusal s ≡ textRefusal (lettersOf s)
+  pub within : s .len ≤ 24 → lettersRefusal s ≡ textRefusal (foldedText (lettersOf s))
   unfolding lettersRefusal
   within h = rw (le-ltb 24 (s .len) h)
 
   -- which of the two a refusal is
-  refused-as : (n : ℕ) → n ≡ lettersRefusal s → ((24 < s .len) × (n ≡ 7)) ⊎ (n ≡ textRefusal (lettersOf s))
+  refused-as : (n : ℕ) → n ≡ lettersRefusal s → ((24 < s .len) × (n ≡ 7)) ⊎ (n ≡ textRefusal (foldedText (lettersOf s)))
   refused-as n e = step (le-or-lt (s .len) 24)
     where
-      step : (s .len ≤ 24) ⊎ (24 < s .len) → ((24 < s .len) × (n ≡ 7)) ⊎ (n ≡ textRefusal (lettersOf s))
+      step : (s .len ≤ 24) ⊎ (24 < s .len) → ((24 < s .len) × (n ≡ 7)) ⊎ (n ≡ textRefusal (foldedText (lettersOf s)))
       step (inl h) = inr (e ∙ within h)
       step (inr h) = inl (h, e ∙ over h)
 
-  taken : lettersRefusal s ≡ 0 → textRefusal (lettersOf s) ≡ 0
+  taken : lettersRefusal s ≡ 0 → textRefusal (foldedText (lettersOf s)) ≡ 0
   taken e = step (refused-as 0 (sym e))
     where
-      step : ((24 < s .len) × (_≡_ {A = ℕ} 0 7)) ⊎ (0 ≡ textRefusal (lettersOf s)) → textRefusal (lettersOf s) ≡ 0
+      step : ((24 < s .len) × (_≡_ {A = ℕ} 0 7)) ⊎ (0 ≡ textRefusal (foldedText (lettersOf s))) → textRefusal (foldedText (lettersOf s)) ≡ 0
       step (inl (h, n)) = absurd (omega arith)
       step (inr f) = sym f
 
@@ -65,36 +66,36 @@ module _ (t : Table) (g : Grid) (x : Index) (s : Session) (rooms : List (List �
   -- 7 for a length that no lawful session has, or as the letters are refused
   refused-by : {Item : Type 0} (comesTo : ℕ → List Item → Outcome) (meant : List Item) (n : ℕ) → ((m : ℕ) (list : List Item) → (m ≡ 0 → ⊥) → comesTo m list ≡ refused m rooms)
       → (why : Refusal) → refusalNumber why ≡ lettersRefusal s
-      → Kept (LawfulBoth t g x s) (comesTo (firstGiven (textRefusal (lettersOf s)) n)) meant rooms (refused (refusalNumber why) rooms)
+      → Kept (LawfulBoth t g x s) (comesTo (firstGiven (textRefusal (foldedText (lettersOf s))) n)) meant rooms (refused (refusalNumber why) rooms)
   refused-by comesTo meant n whatever why e = step (refused-as s (refusalNumber why) e)
     where
-      step : ((24 < s .len) × (refusalNumber why ≡ 7)) ⊎ (refusalNumber why ≡ textRefusal (lettersOf s))
-          → Kept (LawfulBoth t g x s) (comesTo (firstGiven (textRefusal (lettersOf s)) n)) meant rooms (refused (refusalNumber why) rooms)
+      step : ((24 < s .len) × (refusalNumber why ≡ 7)) ⊎ (refusalNumber why ≡ textRefusal (foldedText (lettersOf s)))
+          → Kept (LawfulBoth t g x s) (comesTo (firstGiven (textRefusal (foldedText (lettersOf s))) n)) meant rooms (refused (refusalNumber why) rooms)
       step (inl (h, seven)) =
           record { exact = λ l. absurd (omega (arith, lawful-short t s (l .session))); harmless = inl (ap (λ (n : ℕ). refused n rooms) seven) }
-      step (inr f) = text-refused (LawfulBoth t g x s) comesTo meant rooms (lettersOf s) n whatever why f
+      step (inr f) = text-refused (LawfulBoth t g x s) comesTo meant rooms (foldedText (lettersOf s)) n whatever why f
 
-  -- where its path leads is the listing of its letters
+  -- where its path leads is the listing of its letters, which a lawful session has folded
   served : (at : Listing) (c : Child) → at ≡ listingAt (x .nodes) c → c ≡ reached s → LawfulBoth t g x s
-      → Listed (t .east) (t .north) (t .score) g (x .order) (x .entries) at t (lettersOf s)
-  served at c e came l = node-listed t g x (lettersOf s) at (e ∙ ap (listingAt (x .nodes)) (came ∙ lawful-reached t s (l .session))) (l .set)
+      → Listed (t .east) (t .north) (t .score) g (x .order) (x .entries) at t (foldedText (lettersOf s))
+  served at c e came l = rw (text-same (lettersOf s) (l .session .allowed)) (node-listed t g x (lettersOf s) at (e ∙ ap (listingAt (x .nodes)) (came ∙ lawful-reached t s (l .session))) (l .set))
 
   module _ (r : Rect) where
     pub range-refused : (why : Refusal) → refusalNumber why ≡ lettersRefusal s → TypedRangePromise t g x s r rooms (refused (refusalNumber why) rooms)
-    range-refused = refused-by (λ n list. rangeOutcome n list rooms) (rangeList t g (lettersOf s) r) (rectRefusal r) (λ n list some. settled-refused n _ _ _ _ _ some)
+    range-refused = refused-by (λ n list. rangeOutcome n list rooms) (rangeList t g (foldedText (lettersOf s)) r) (rectRefusal r) (λ n list some. settled-refused n _ _ _ _ _ some)
 
     pub range-reached : (at : Listing) (c : Child) (o : Outcome) → lettersRefusal s ≡ 0 → at ≡ listingAt (x .nodes) c → c ≡ reached s
         → RangeFrom (t .east) (t .north) g (x .order) (x .entries) at r rooms o → TypedRangePromise t g x s r rooms o
     range-reached at c o fine e came w =
-        from-kept _ (λ t′ q. Listed (t .east) (t .north) (t′ .score) g (x .order) (x .entries) at t′ q) (λ n list. rangeOutcome n list rooms) (λ t p. rangeList t g p r) rooms o t (lettersOf s)
+        from-kept _ (λ t′ q. Listed (t .east) (t .north) (t′ .score) g (x .order) (x .entries) at t′ q) (λ n list. rangeOutcome n list rooms) (λ t p. rangeList t g p r) rooms o t (foldedText (lettersOf s))
         (rectRefusal r) (taken s fine) (served at c e came) w
 
   module _ (q : Ranking) where
     pub ranked-refused : (why : Refusal) → refusalNumber why ≡ lettersRefusal s → TypedRankedPromise t g x s q rooms (refused (refusalNumber why) rooms)
-    ranked-refused = refused-by (λ n hits. rankedOutcome n (q .k) hits rooms) (ranking t g (lettersOf s) q) (rankingRefusal g q) (λ n hits some. settled-refused n _ _ _ _ _ some)
+    ranked-refused = refused-by (λ n hits. rankedOutcome n (q .k) hits rooms) (ranking t g (foldedText (lettersOf s)) q) (rankingRefusal g q) (λ n hits some. settled-refused n _ _ _ _ _ some)
 
     pub ranked-reached : (at : Listing) (c : Child) (o : Outcome) → lettersRefusal s ≡ 0 → at ≡ listingAt (x .nodes) c → c ≡ reached s
         → RankedFrom (standColumns (t .east) (t .north) (t .score)) g (x .order) (x .entries) at q rooms o → TypedRankedPromise t g x s q rooms o
     ranked-reached at c o fine e came w =
-        from-kept _ (Listed (t .east) (t .north) (t .score) g (x .order) (x .entries) at) (λ n hits. rankedOutcome n (q .k) hits rooms) (λ t p. ranking t g p q) rooms o t (lettersOf s)
+        from-kept _ (Listed (t .east) (t .north) (t .score) g (x .order) (x .entries) at) (λ n hits. rankedOutcome n (q .k) hits rooms) (λ t p. ranking t g p q) rooms o t (foldedText (lettersOf s))
         (rankingRefusal g q) (taken s fine) (served at c e came) w

@@ -1,11 +1,11 @@
 // Reading: one line, from its key to its line feed. A value is a part of the input, or the number that it is in decimal.
 // Any bytes are taken; what is not exactly such a line is malformed.
-use table::names::begins;
+use table::names::shared;
 ghost use mathlib.Core.Path.{_≡_};
 ghost use Prim.Native.Nat.{_+_, _≤_};
 ghost use lib.ListN.{length, drop};
 ghost use Rattle.base.specs.Lent.{given};
-ghost use Rattle.base.specs.Lists.{positionIn};
+ghost use Rattle.base.specs.Lists.{begins, positionIn};
 ghost use Rattle.lines.specs.Reads.{grownBy, decimalIn, signedIn, bytesLine, unsignedLine, signedLine};
 ghost use Rattle.lines.specs.Says.{saidNumber, saidSigned, SaysBytes, SaysUnsigned, SaysSigned};
 
@@ -35,6 +35,13 @@ pub enum Decimal {
 pub enum SignedDecimal {
     Number(i32),
     Malformed,
+}
+
+// Whether a line, or a number, begins with a key.
+fn begins(line: &[u8], key: &[u8]) -> bool
+    ensures { λ r. ⌜ r ≡ begins (given key) (given line) ⌝ }
+{
+    shared(key, line) == key.len()
 }
 
 // The first line feed from `at` on, or the input's end.

@@ -20,7 +20,7 @@ use Rattle.rules.specs.declared.Refusal.the-variants.{RectReversed}
 use Rattle.rules.specs.declared.Verdict.{Verdict}
 use Rattle.rules.specs.declared.Verdict.the-variants as verdict
 use Rattle.rules.specs.Numbers.{verdictNumber}
-use Rattle.rules.specs.Names.{textRefusal}
+use Rattle.rules.specs.Names.{foldedText, textRefusal}
 use Rattle.rules.specs.Places.{regions, rectLawful, inRect}
 use Rattle.rules.specs.Tables.{Table, placeOf}
 use Rattle.rules.specs.Questions.{under, inRegion, byRegion, rangeList, rectRefusal}
@@ -92,12 +92,12 @@ module _ (east north : List ℤ) (g : Grid) (order entries : List ℕ) (at : Lis
 -- ---- from a text
 
 module _ (t : Table) (g : Grid) (x : Index) (p : List ℕ) (r : Rect) (room : List ℕ) where
-  pub of-refused : (v : Verdict) (why : Refusal) → verdictNumber v ≡ textRefusal p → v ≡ verdict.Refused why → RangePromise t g x p r (room ∷ []) (rangeCame (Refused why 0) room)
+  pub of-refused : (v : Verdict) (why : Refusal) → verdictNumber v ≡ textRefusal (foldedText p) → v ≡ verdict.Refused why → RangePromise t g x p r (room ∷ []) (rangeCame (Refused why 0) room)
   of-refused v why e q =
-      text-refused _ (λ n list. rangeOutcome n list (room ∷ [])) (rangeList t g p r) (room ∷ []) p (rectRefusal r) (λ n list some. settled-refused n _ _ _ _ _ some) why (ap verdictNumber (sym q) ∙ e)
+      text-refused _ (λ n list. rangeOutcome n list (room ∷ [])) (rangeList t g (foldedText p) r) (room ∷ []) (foldedText p) (rectRefusal r) (λ n list some. settled-refused n _ _ _ _ _ some) why (ap verdictNumber (sym q) ∙ e)
 
-  pub of-listed : (o : Outcome) (v : Verdict) (at : Listing) → verdictNumber v ≡ textRefusal p → v ≡ verdict.Passed → at ≡ listingAt (x .nodes) (nodeIn (x .nodes) p)
+  pub of-listed : (o : Outcome) (v : Verdict) (at : Listing) → verdictNumber v ≡ textRefusal (foldedText p) → v ≡ verdict.Passed → at ≡ listingAt (x .nodes) (nodeIn (x .nodes) (foldedText p))
       → RangeFrom (t .east) (t .north) g (x .order) (x .entries) at r (room ∷ []) o → RangePromise t g x p r (room ∷ []) o
   of-listed o v at e fine walked w =
-      from-kept _ (λ t′ q. Listed (t .east) (t .north) (t′ .score) g (x .order) (x .entries) at t′ q) (λ n list. rangeOutcome n list (room ∷ [])) (λ t p. rangeList t g p r) (room ∷ []) o t p
-      (rectRefusal r) (sym e ∙ ap verdictNumber fine) (text-listed t g x p at walked) w
+      from-kept _ (λ t′ q. Listed (t .east) (t .north) (t′ .score) g (x .order) (x .entries) at t′ q) (λ n list. rangeOutcome n list (room ∷ [])) (λ t p. rangeList t g p r) (room ∷ []) o t (foldedText p)
+      (rectRefusal r) (sym e ∙ ap verdictNumber fine) (text-listed t g x (foldedText p) at walked) w

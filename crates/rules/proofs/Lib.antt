@@ -1,9 +1,10 @@
--- What holds of the definitions: the small scheme, places of a grid, the order of names, lawful tables,
+-- What holds of the definitions: the small scheme, places of a grid, the order of names, folded texts, lawful tables,
 -- and that answers are told apart by their numbers.
 pub mod Scheme
 pub mod Places
 pub mod Orders
 pub mod Bytes
+pub mod Folds
 pub mod Names
 pub mod Lawful
 pub mod Refusals

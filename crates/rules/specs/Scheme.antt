@@ -12,6 +12,7 @@ use Rattle.rules.specs.declared.Ranking.{Ranking}
 use Rattle.rules.specs.declared.Hit.{Hit}
 use Rattle.rules.specs.declared.Session.{Session}
 use Rattle.rules.specs.Worth.{diagonal²}
+use Rattle.rules.specs.Names.{foldedText, restOf}
 use Rattle.rules.specs.Tables.{Table, tableRefusal}
 use Rattle.rules.specs.Questions.{regionOfStand, rangeList, rankedList}
 use Rattle.rules.specs.Indexes.{orderWords, beginnings, nodeCount, entryCount, nodeRow, entryWords}
@@ -33,6 +34,10 @@ table =
 
 abbrev pub ki : List ℕ
 ki = 107 ∷ 105 ∷ []
+
+-- "Ki" as the keypad may send it
+abbrev pub Ki : List ℕ
+Ki = 75 ∷ 105 ∷ []
 
 abbrev pub kiz : List ℕ
 kiz = 107 ∷ 105 ∷ 122 ∷ []
@@ -74,3 +79,6 @@ pub record SmallScheme : Type 0 where
   pub line11-ki : sessionOf table ki ≡ session (107 ∷ 105 ∷ replicate 22 0) 2 (0 ∷ 1 ∷ 2 ∷ replicate 22 0)
   pub line11-kiz : sessionOf table kiz ≡ session (107 ∷ 105 ∷ 122 ∷ replicate 21 0) 3 (0 ∷ 1 ∷ 2 ∷ replicate 22 0)
   pub line11-letters : lettersRubbed (lettersTyped (lettersTyped (lettersTyped [] 107) 105) 122) ≡ ki
+  pub capitals-text : foldedText Ki ≡ ki
+  pub capitals-letters : lettersTyped (lettersTyped [] 75) 105 ≡ ki
+  pub capitals-rest : restOf (table .text) (table .starts) 2 Ki ≡ 98 ∷ 111 ∷ 114 ∷ 105 ∷ []

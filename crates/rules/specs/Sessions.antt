@@ -8,7 +8,7 @@ use lib.Dec.{eqb, leb, ltb}
 use lib.ListN.{length, take, replicate}
 use Rattle.base.specs.Lists.{upTo, each, isEmpty}
 use Rattle.rules.specs.declared.Session.{Session}
-use Rattle.rules.specs.Names.{allowed, textRefusal}
+use Rattle.rules.specs.Names.{allowed, folded, textRefusal}
 use Rattle.rules.specs.Tables.{Table}
 use Rattle.rules.specs.Indexes.{beginnings, numberIn, butLast}
 
@@ -34,12 +34,12 @@ pub record LawfulSession (t : Table) (s : Session) : Type 0 where
   pub allowed : textRefusal (lettersOf s) ≡ 0
   pub same : s ≡ sessionOf t (lettersOf s)
 
--- typing a byte after the letters p: 9, then 8, or 0; and the letters that then stand
+-- typing a byte after the letters p: 9, then 8, or 0; and the letters that then stand, a capital as its small letter
 unfoldable pub typeRefusal : List ℕ → ℕ → ℕ
-typeRefusal p b = cond (leb 24 (length p)) 9 (cond (allowed b) 0 8)
+typeRefusal p b = cond (leb 24 (length p)) 9 (cond (allowed (folded b)) 0 8)
 
 abbrev pub lettersTyped : List ℕ → ℕ → List ℕ
-lettersTyped p b = cond (eqb (typeRefusal p b) 0) (p ++ (b ∷ [])) p
+lettersTyped p b = cond (eqb (typeRefusal p b) 0) (p ++ (folded b ∷ [])) p
 
 -- rubbing out: 10 where there is no letter, or 0
 abbrev pub rubRefusal : List ℕ → ℕ

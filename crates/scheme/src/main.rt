@@ -57,7 +57,7 @@ fn regions() {
     print_region(GRID, 80, 79);
 }
 
-// Lines 5 and 6, and of line 12 the one with room for three stands and for two.
+// Lines 5 and 6, with a capital and with bytes beside the capitals, and of line 12 the one with room for three stands and for two.
 fn ranges(index: Index) {
     print(b"range\n");
     let mut found = [0u32; 5];
@@ -67,19 +67,22 @@ fn ranges(index: Index) {
     print_range(index, b"kiz", rect(0, 80, 0, 80), &mut found);
     print_range(index, b"ki", rect(1, 0, 0, 9), &mut found);
     print_range(index, b"kI", rect(0, 12, 0, 9), &mut found);
+    print_range(index, b"k@", rect(0, 12, 0, 9), &mut found);
+    print_range(index, b"k[", rect(0, 12, 0, 9), &mut found);
     let mut three = [0u32; 3];
     print_range(index, b"kibo", rect(0, 80, 0, 80), &mut three);
     let mut two = [0u32; 2];
     print_range(index, b"kibo", rect(0, 80, 0, 80), &mut two);
 }
 
-// Lines 7 to 10.
+// Lines 7 to 10, and line 9 in capitals.
 fn rankings(index: Index) {
     print(b"ranked\n");
     print_ranked(index, b"ki", asked(5, 5, 0, 2));
     print_ranked(index, b"ki", asked(5, 5, 16, 2));
     print_ranked(index, b"ki", asked(5, 5, 8, 4));
     print_ranked(index, b"", asked(5, 5, 0, 3));
+    print_ranked(index, b"KI", asked(5, 5, 8, 4));
 }
 
 // The limits of line 12.
@@ -105,12 +108,12 @@ fn press(index: Index, session: Session, byte: u8) -> Session {
     print_stroke(session::with_letter(&nodes, session, byte))
 }
 
-// Line 11, and a question on the letters that stand at the end.
+// Line 11, its last letter typed as a capital, and a question on the letters that stand at the end.
 fn keys(index: Index) {
     print(b"session\n");
     let k = press(index, Session::fresh(), b'k');
     let ki = press(index, k, b'i');
-    let kiz = press(index, ki, b'z');
+    let kiz = press(index, ki, b'Z');
     print_path(kiz);
     print_ranked_typed(index, kiz, asked(5, 5, 8, 4));
     let rubbed = print_stroke(session::rubbed_out(kiz));

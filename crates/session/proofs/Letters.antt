@@ -16,7 +16,7 @@ use Rattle.base.specs.Lists.{all}
 use Rattle.base.proofs.Tests.{le-or-lt}
 use Rattle.base.proofs.Scans.{all-both, all-left}
 use Rattle.rules.specs.declared.Session.{Session}
-use Rattle.rules.specs.Names.{allowed, textRefusal}
+use Rattle.rules.specs.Names.{allowed, folded, textRefusal}
 use Rattle.rules.specs.Indexes.{butLast}
 use Rattle.rules.specs.Sessions.{lettersOf, typeRefusal, lettersTyped, rubRefusal}
 use Rattle.rules.proofs.Bytes.{text-parts, text-taken}
@@ -27,11 +27,11 @@ module _ (p : List ℕ) (b : ℕ) where
   unfolding typeRefusal
   type-full h = rw (le-leb 24 (length p) h)
 
-  pub type-unallowed : length p < 24 → allowed b ≡ false → typeRefusal p b ≡ 8
+  pub type-unallowed : length p < 24 → allowed (folded b) ≡ false → typeRefusal p b ≡ 8
   unfolding typeRefusal
   type-unallowed h k = rw (lt-leb 24 (length p) h, k)
 
-  pub type-taken : length p < 24 → allowed b ≡ true → typeRefusal p b ≡ 0
+  pub type-taken : length p < 24 → allowed (folded b) ≡ true → typeRefusal p b ≡ 0
   unfolding typeRefusal
   type-taken h k = rw (lt-leb 24 (length p) h, k)
 
@@ -41,8 +41,8 @@ typed-allowed p b e =
     ⊎-elim
     (λ (h : 24 ≤ length p). rw (type-full p b h) e)
     (λ (h : length p < 24).
-    cases (allowed b)
-    (λ a. rw (type-taken p b h a) (text-taken (p ++ (b ∷ [])) (simp length-append (omega arith)) (all-both allowed p (b ∷ []) (text-parts p e .1) (rw a))))
+    cases (allowed (folded b))
+    (λ a. rw (type-taken p b h a) (text-taken (p ++ (folded b ∷ [])) (simp length-append (omega arith)) (all-both allowed p (folded b ∷ []) (text-parts p e .1) (rw a))))
     (λ a. rw (type-unallowed p b h a) e))
     (le-or-lt 24 (length p))
 
@@ -58,7 +58,7 @@ unfolding typeRefusal
 type-not-seven p b e =
     cases (leb 24 (length p))
     (λ f. omega (arith, rw f at e))
-    (λ f. cases (allowed b) (λ a. omega (arith, rw (f, a) at e)) (λ a. omega (arith, rw (f, a) at e)))
+    (λ f. cases (allowed (folded b)) (λ a. omega (arith, rw (f, a) at e)) (λ a. omega (arith, rw (f, a) at e)))
 
 pub rub-not-seven : (p : List ℕ) → rubRefusal p ≡ 7 → ⊥
 rub-not-seven [] e = omega arith

@@ -11,7 +11,7 @@ use borrow.Table.Steps.{cases}
 use Rattle.base.proofs.Tests.{le-or-lt}
 use Rattle.rules.specs.declared.Session.{Session}
 use Rattle.rules.specs.Numbers.{verdictNumber}
-use Rattle.rules.specs.Names.{allowed}
+use Rattle.rules.specs.Names.{allowed, folded}
 use Rattle.rules.specs.Tables.{Table}
 use Rattle.rules.specs.Sessions.{sessionOf, lettersOf, LawfulSession, typeRefusal, lettersTyped, rubRefusal, lettersRubbed}
 use Rattle.rules.proofs.Bytes.{text-parts}
@@ -49,50 +49,53 @@ typing s b =
     (le-or-lt 24 (s .len))
 
 module _ (nodes : List ℕ) (s : Session) (b : ℕ) where
-  abbrev out : Stroke
-  out = typedOn nodes s b
+  abbrev letter : ℕ
+  letter = folded b
 
-  type-kept : Typing s b → Kept s out
-  type-kept (over h) = rw (typed-over nodes s b h) (λ _. refl)
-  type-kept (full h) = rw (typed-full nodes s b h) (λ _. refl)
-  type-kept (unallowed h a) = rw (typed-unallowed nodes s b h a) (λ _. refl)
-  type-kept (open-to h a) = rw (typed-arrived nodes s b h a) (led (nextOn nodes (s .len) (getD (s .path) (s .len) 0) b))
+  abbrev out : Stroke
+  out = typedOn nodes s letter
+
+  type-kept : Typing s letter → Kept s out
+  type-kept (over h) = rw (typed-over nodes s letter h) (λ _. refl)
+  type-kept (full h) = rw (typed-full nodes s letter h) (λ _. refl)
+  type-kept (unallowed h a) = rw (typed-unallowed nodes s letter h a) (λ _. refl)
+  type-kept (open-to h a) = rw (typed-arrived nodes s letter h a) (led (nextOn nodes (s .len) (getD (s .path) (s .len) 0) letter))
     where
-      led : (c : Child) → Kept s (arrived s b c)
+      led : (c : Child) → Kept s (arrived s letter c)
       led (At n) k = absurd (k refl)
       led Nowhere k = absurd (k refl)
       led Broken k = refl
 
   module _ (sized : length (s .text) ≡ 24) where
-    type-harmless : Typing s b → Harmless (λ p. typeRefusal p b) (λ p. lettersTyped p b) s out
-    type-harmless (over h) = rw (typed-over nodes s b h) (inl refl)
-    type-harmless (full h) = rw (typed-full nodes s b h, type-full (lettersOf s) b (omega (arith, letters-count s sized (omega arith)))) (inr (refl, refl))
+    type-harmless : Typing s letter → Harmless (λ p. typeRefusal p b) (λ p. lettersTyped p b) s out
+    type-harmless (over h) = rw (typed-over nodes s letter h) (inl refl)
+    type-harmless (full h) = rw (typed-full nodes s letter h, type-full (lettersOf s) b (omega (arith, letters-count s sized (omega arith)))) (inr (refl, refl))
     type-harmless (unallowed h a) =
-        rw (typed-unallowed nodes s b h a, type-unallowed (lettersOf s) b (omega (arith, letters-count s sized (omega arith))) a) (inr (refl, refl))
+        rw (typed-unallowed nodes s letter h a, type-unallowed (lettersOf s) b (omega (arith, letters-count s sized (omega arith))) a) (inr (refl, refl))
     type-harmless (open-to h a) =
-        rw (typed-arrived nodes s b h a, type-taken (lettersOf s) b (omega (arith, letters-count s sized (omega arith))) a) (led (nextOn nodes (s .len) (getD (s .path) (s .len) 0) b))
+        rw (typed-arrived nodes s letter h a, type-taken (lettersOf s) b (omega (arith, letters-count s sized (omega arith))) a) (led (nextOn nodes (s .len) (getD (s .path) (s .len) 0) letter))
       where
-        led : (c : Child) → Harmless (λ p. 0) (λ p. p ++ (b ∷ [])) s (arrived s b c)
-        led (At n) = inr (refl, letters-longer s sized b (n .0) h)
-        led Nowhere = inr (refl, letters-longer s sized b 0 h)
+        led : (c : Child) → Harmless (λ p. 0) (λ p. p ++ (letter ∷ [])) s (arrived s letter c)
+        led (At n) = inr (refl, letters-longer s sized letter (n .0) h)
+        led Nowhere = inr (refl, letters-longer s sized letter 0 h)
         led Broken = inl refl
 
   module _ (t : Table) (of : TableOf nodes t) (l : LawfulSession t s) where
-    type-lawful : Typing s b → (verdictNumber (out .verdict) ≡ typeRefusal (lettersOf s) b) × (out .session ≡ sessionOf t (lettersTyped (lettersOf s) b))
+    type-lawful : Typing s letter → (verdictNumber (out .verdict) ≡ typeRefusal (lettersOf s) b) × (out .session ≡ sessionOf t (lettersTyped (lettersOf s) b))
     type-lawful (over h) = absurd (omega (arith, lawful-len t s l, text-parts (lettersOf s) (l .allowed) .0))
-    type-lawful (full h) = rw (typed-full nodes s b h, type-full (lettersOf s) b (omega (arith, lawful-len t s l))) (refl, l .same)
-    type-lawful (unallowed h a) = rw (typed-unallowed nodes s b h a, type-unallowed (lettersOf s) b (omega (arith, lawful-len t s l)) a) (refl, l .same)
+    type-lawful (full h) = rw (typed-full nodes s letter h, type-full (lettersOf s) b (omega (arith, lawful-len t s l))) (refl, l .same)
+    type-lawful (unallowed h a) = rw (typed-unallowed nodes s letter h a, type-unallowed (lettersOf s) b (omega (arith, lawful-len t s l)) a) (refl, l .same)
     type-lawful (open-to h a) =
         let room : length (lettersOf s) < 24 = omega (arith, lawful-len t s l) in
-        let e : out ≡ passed (sessionOf t (lettersOf s ++ (b ∷ []))) = ap (λ (u : Session). typedOn nodes u b) (l .same) ∙ typed-served nodes t of (lettersOf s) b room a in
+        let e : out ≡ passed (sessionOf t (lettersOf s ++ (letter ∷ []))) = ap (λ (u : Session). typedOn nodes u letter) (l .same) ∙ typed-served nodes t of (lettersOf s) letter room a in
         rw (e, type-taken (lettersOf s) b room a) (refl, refl)
 
-pub type-keeps : (nodes : List ℕ) (s : Session) (b : ℕ) → length (s .text) ≡ 24 → TypePromise nodes b s (typedOn nodes s b .session) (typedOn nodes s b .verdict)
+pub type-keeps : (nodes : List ℕ) (s : Session) (b : ℕ) → length (s .text) ≡ 24 → TypePromise nodes b s (typedOn nodes s (folded b) .session) (typedOn nodes s (folded b) .verdict)
 type-keeps nodes s b sized =
     record {
-      lawful = λ t of l. type-lawful nodes s b t of l (typing s b);
-      harmless = type-harmless nodes s b sized (typing s b);
-      kept = type-kept nodes s b (typing s b);
+      lawful = λ t of l. type-lawful nodes s b t of l (typing s (folded b));
+      harmless = type-harmless nodes s b sized (typing s (folded b));
+      kept = type-kept nodes s b (typing s (folded b));
     }
 
 -- ---- rubbing out

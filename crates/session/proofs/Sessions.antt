@@ -10,11 +10,12 @@ use Rattle.base.proofs.Begins.{in-or-out}
 use Rattle.rules.specs.declared.Session.{Session}
 use Rattle.rules.specs.declared.Verdict.{Verdict}
 use Rattle.rules.specs.Numbers.{verdictNumber}
-use Rattle.rules.specs.Names.{allowed}
+use Rattle.rules.specs.Names.{allowed, folded}
 use Rattle.rules.specs.Tables.{Table}
 use Rattle.rules.specs.Indexes.{beginnings, butLast}
 use Rattle.rules.specs.Sessions.{nodeOr0, freshSession, lettersOf, LawfulSession, lettersTyped}
 use Rattle.rules.proofs.Bytes.{text-parts, text-taken}
+use Rattle.rules.proofs.Folds.{refusal-folded, letters-folded}
 use Rattle.rules.proofs.Numbers.{one-verdict}
 use Rattle.meaning.proofs.Walking.{node-in}
 use Rattle.walk.specs.declared.Child.the-variants.{At}
@@ -74,6 +75,10 @@ module _ (nodes : List ℕ) (b : ℕ) (s s′ : Session) (v : Verdict) (done : T
   pub type-lawful-again : LawfulSession t s′
   type-lawful-again =
       subst (LawfulSession t) (sym (done .lawful t of l .1)) (session-lawful t (lettersTyped (lettersOf s) b) (typed-allowed (lettersOf s) b (l .allowed)))
+
+-- what is promised for a byte is promised for its small letter
+pub type-folded : (nodes : List ℕ) (b : ℕ) (s s′ : Session) (v : Verdict) → TypePromise nodes (folded b) s s′ v ≡ TypePromise nodes b s s′ v
+type-folded nodes b s s′ v = λ i. KeyPromise (λ p. refusal-folded p b i) (λ p. letters-folded p b i) (TableOf nodes) s s′ v
 
 module _ (s s′ : Session) (v : Verdict) (done : RubPromise s s′ v) (t : Table) (l : LawfulSession t s) where
   pub rub-never-seven : verdictNumber v ≡ 7 → ⊥

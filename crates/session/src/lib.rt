@@ -6,10 +6,12 @@ use rules::Session;
 use rules::Stand;
 use rules::Verdict;
 use table::names::allowed;
+use table::names::folded;
 use walk::Child;
 use walk::child_of;
 ghost use mathlib.Core.Path.{_≡_};
 ghost use Rattle.base.specs.Lent.{given, after};
+ghost use Rattle.rules.specs.Names.{folded};
 ghost use Rattle.session.specs.Promises.{TypePromise, RubPromise};
 ghost use Rattle.session.specs.Strokes.{refusedStroke, lost, nextOn, ledOn, typedOn, rubbedOut, reached};
 
@@ -79,8 +81,9 @@ fn leads(nodes: &[u32], letters: usize, last: Node, byte: u8) -> Led
 // A letter typed, by value: one look among the children of the last letter's node, however long the text. One local is the session all
 // the way to the one return, changed only where the letter is taken, so that the record is copied once in and once out.
 pub fn with_letter(nodes: &[u32], session: Session, byte: u8) -> Stroke
-    ensures { λ r. ⌜ r ≡ typedOn (given nodes) session byte ⌝ }
+    ensures { λ r. ⌜ r ≡ typedOn (given nodes) session (folded byte) ⌝ }
 {
+    let letter = folded(byte);
     let mut after = session;
     let len = after.len as usize;
     let last = if len < Session::PATH {
@@ -88,9 +91,9 @@ pub fn with_letter(nodes: &[u32], session: Session, byte: u8) -> Stroke
     } else {
         0
     };
-    let verdict = match leads(nodes, len, Node(last), byte) {
+    let verdict = match leads(nodes, len, Node(last), letter) {
         Led::To(node) => {
-            after.text[len] = byte;
+            after.text[len] = letter;
             after.path[len + 1] = node;
             after.len += 1;
             Verdict::Passed

@@ -1,11 +1,12 @@
 // Names as parts of a table's text: where a name lies, how it compares, and what is left of it after a typed text.
+// The byte rule stands here, and how a typed byte is read; a name is never folded.
 // Nothing is asked of text and starts: a stand whose starts are broken has the empty name at the text's start.
 use rules::Stand;
 ghost use mathlib.Core.Path.{_≡_};
 ghost use Rattle.base.specs.Lent.{given};
 ghost use denote.Ref.{ptr};
 ghost use Rattle.base.specs.Lists.{all, begins, sharedLength};
-ghost use Rattle.rules.specs.Names.{allowed, nameAllowed, inOrder, name};
+ghost use Rattle.rules.specs.Names.{allowed, folded, foldedText, nameAllowed, inOrder, name};
 ghost use Rattle.table.specs.Parts.{Spans, RestSpans, Rest};
 
 // A part of the text: where it begins, and past its end.
@@ -23,6 +24,16 @@ pub fn allowed(b: u8) -> bool
         b'0'..=b'9' => true,
         b' ' => true,
         _ => false,
+    }
+}
+
+// A typed byte as it is read: a capital as its small letter, which stands 32 past it.
+pub fn folded(b: u8) -> u8
+    ensures { λ r. ⌜ r ≡ folded b ⌝ }
+{
+    match b {
+        b'A'..=b'Z' => b + 32,
+        _ => b,
     }
 }
 
@@ -68,11 +79,21 @@ pub fn shared(a: &[u8], b: &[u8]) -> usize
     i
 }
 
-// Whether a name, or a part of one, begins with a typed text.
-pub fn begins(name: &[u8], typed: &[u8]) -> bool
-    ensures { λ r. ⌜ r ≡ begins (given typed) (given name) ⌝ }
+// Whether a name begins with a typed text. Every letter is looked at: the name of a hit does begin so, and a loop with no way out before
+// its end the compiler takes eight letters at a time.
+fn begins(name: &[u8], typed: &[u8]) -> bool
+    ensures { λ r. ⌜ r ≡ begins (foldedText (given typed)) (given name) ⌝ }
 {
-    shared(typed, name) == typed.len()
+    if name.len() < typed.len() {
+        return false;
+    }
+    let mut same = true;
+    let mut i = 0;
+    while i < typed.len() {
+        same = same & (folded(typed[i]) == name[i]);
+        i += 1;
+    }
+    same
 }
 
 // Whether name a may stand before name b: byte order, the shorter first, equal ones either way.

@@ -8,6 +8,7 @@ use native.Mathlib.Numerals.{add-one}
 use lib.ListN.{length, drop, getD, drop-of-length-le}
 use lib.Seq.{drop-cons}
 use borrow.Author.Tests.{lt-ltb, le-ltb, le-leb, lt-leb, eq-eqb, ne-eqb}
+use Rattle.rules.specs.Names.{folded, foldedText}
 use Rattle.walk.specs.declared.Child.{Child}
 use Rattle.walk.specs.declared.Child.the-variants.{At, Nowhere, Broken}
 use Rattle.walk.specs.Walks.{node, nodeWord, siblings, childIn, onFrom, nodeFrom, nodeIn}
@@ -79,30 +80,30 @@ module _ (words : List ℕ) (above byte : ℕ) where
               same = turn ∙ siblings-next words past byte c (s .fuel - 1) more other h;
             }
 
--- the walk to a text's node stands at node n after i letters: from here it goes on with the rest
+-- the walk to a typed text's node stands at node n after i letters: from here it goes on with the rest
 pub record Walking (words text : List ℕ) (n i : ℕ) : Type 0 where
   pub within : i ≤ length text
-  pub rest : nodeIn words text ≡ nodeFrom words n (drop i text)
+  pub rest : nodeIn words (foldedText text) ≡ nodeFrom words n (foldedText (drop i text))
 
 module _ (words text : List ℕ) where
   pub walk-begins : Walking words text 0 0
   walk-begins = record { within = omega arith; rest = refl }
 
   module _ (n i : ℕ) (w : Walking words text n i) where
-    pub walk-ends : length text ≤ i → At (node n) ≡ nodeIn words text
+    pub walk-ends : length text ≤ i → At (node n) ≡ nodeIn words (foldedText text)
     unfolding nodeFrom
     walk-ends h = sym (w .rest ∙ rw (drop-of-length-le text h))
 
-    module _ (more : i < length text) (to : Child) (there : to ≡ childIn words n (getD text i 0)) where
-      letter : nodeIn words text ≡ onFrom to (λ m. nodeFrom words m (drop (i + 1) text))
+    module _ (more : i < length text) (byte : ℕ) (read : byte ≡ folded (getD text i 0)) (to : Child) (there : to ≡ childIn words n byte) where
+      letter : nodeIn words (foldedText text) ≡ onFrom to (λ m. nodeFrom words m (foldedText (drop (i + 1) text)))
       unfolding nodeFrom
-      letter = w .rest ∙ rw (drop-cons text i 0 more, add-one, ← there)
+      letter = w .rest ∙ rw (drop-cons text i 0 more, add-one, ← read, ← there)
 
       pub walk-on : (below : ℕ) → to ≡ At (node below) → Walking words text below (i + 1)
       walk-on below e = record { within = omega arith; rest = letter ∙ rw e }
 
-      pub walk-stops : to ≡ Nowhere → Nowhere ≡ nodeIn words text
+      pub walk-stops : to ≡ Nowhere → Nowhere ≡ nodeIn words (foldedText text)
       walk-stops e = sym (letter ∙ rw e)
 
-      pub walk-breaks : to ≡ Broken → Broken ≡ nodeIn words text
+      pub walk-breaks : to ≡ Broken → Broken ≡ nodeIn words (foldedText text)
       walk-breaks e = sym (letter ∙ rw e)

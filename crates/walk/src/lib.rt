@@ -2,11 +2,13 @@
 // Where they are what building writes, the node found is the text's. `listing` goes on to the node's entries, `entry` reads one.
 ghost use mathlib.Core.Path.{_≡_};
 ghost use Rattle.base.specs.Lent.{given};
+ghost use Rattle.rules.specs.Names.{foldedText};
 ghost use Rattle.walk.specs.Walks.{childIn, nodeIn};
 use rules::Node;
 use rules::layout::LAST_BYTE;
 use rules::layout::NODE_WORDS;
 use rules::layout::PAST_NODE;
+use table::names::folded;
 
 pub mod entry;
 pub mod listing;
@@ -50,12 +52,12 @@ pub fn child_of(nodes: &[u32], above: Node, byte: u8) -> Child
 
 // The node of a typed text, from the root letter by letter.
 pub fn node_of(nodes: &[u32], typed: &[u8]) -> Child
-    ensures { λ r. ⌜ r ≡ nodeIn (given nodes) (given typed) ⌝ }
+    ensures { λ r. ⌜ r ≡ nodeIn (given nodes) (foldedText (given typed)) ⌝ }
 {
     let mut at = Node(0);
     let mut i = 0;
     while i < typed.len() {
-        match child_of(nodes, at, typed[i]) {
+        match child_of(nodes, at, folded(typed[i])) {
             Child::At(below) => at = below,
             Child::Nowhere => return Child::Nowhere,
             Child::Broken => return Child::Broken,

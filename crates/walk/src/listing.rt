@@ -2,6 +2,7 @@
 // A question starts from a listing, and so it needs no nodes.
 ghost use mathlib.Core.Path.{_≡_};
 ghost use Rattle.base.specs.Lent.{given};
+ghost use Rattle.rules.specs.Names.{foldedText};
 ghost use Rattle.walk.specs.Walks.{nodeIn};
 ghost use Rattle.walk.specs.Listings.{listingIn, listingAt};
 use crate::Child;
@@ -50,7 +51,7 @@ pub fn listing_at(nodes: &[u32], at: Child) -> Listing
 
 // The listing of a typed text.
 pub fn listing_of(nodes: &[u32], typed: &[u8]) -> Listing
-    ensures { λ r. ⌜ r ≡ listingAt (given nodes) (nodeIn (given nodes) (given typed)) ⌝ }
+    ensures { λ r. ⌜ r ≡ listingAt (given nodes) (nodeIn (given nodes) (foldedText (given typed))) ⌝ }
 {
     listing_at(nodes, node_of(nodes, typed))
 }

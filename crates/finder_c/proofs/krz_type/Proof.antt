@@ -43,6 +43,7 @@ use denote.Triple.Walked.{says, Stays, stay-ref, stay-dropped, walkOf, AllGo, go
 use denote.Exit.{yes}
 use Rattle.rules.specs.declared.Session.{Session}
 use Rattle.rules.specs.Numbers.{verdictNumber}
+use Rattle.rules.specs.Names.{folded}
 use Rattle.rules.proofs.Grid as G
 use Rattle.rules.proofs.Grid.Laws as G′
 use Rattle.rules.proofs.Session as S
@@ -110,7 +111,7 @@ module _ {M : Type 1} (𝓤 : URA M) (H : Heap 𝓤) (A : Atoms 𝓤) (W : Given
   s = ref .now
 
   abbrev out : Stroke
-  out = typedOn (now ns) s n
+  out = typedOn (now ns) s (folded n)
 
   abbrev at : Vals f.signature κs
   at = (sliceVal (x .0 .ptr) (length (x .0 .now)) ∷ [], (sliceVal (x .1 .0 .ptr) (length (x .1 .0 .now)) ∷ [], (sliceVal (x .1 .1 .0 .ptr) (length (x .1 .1 .0 .now)) ∷ [], (sliceVal (x .1 .1 .1 .0 .ptr) (length (x .1 .1 .1 .0 .now)) ∷ [], (sliceVal (x .1 .1 .1 .1 .0 .ptr) (length (x .1 .1 .1 .1 .0 .now)) ∷ [], (gridVal (x .1 .1 .1 .1 .1 .0) ∷ [], (sliceVal (x .1 .1 .1 .1 .1 .1 .0 .ptr) (length (x .1 .1 .1 .1 .1 .1 .0 .now)) ∷ [], (sliceVal (x .1 .1 .1 .1 .1 .1 .1 .0 .ptr) (length (x .1 .1 .1 .1 .1 .1 .1 .0 .now)) ∷ [], (sliceVal (x .1 .1 .1 .1 .1 .1 .1 .1 .0 .ptr) (length (x .1 .1 .1 .1 .1 .1 .1 .1 .0 .now)) ∷ [], (vptr b o ∷ [], (vint w8 n ∷ [], tt)))))))))))

@@ -43,6 +43,7 @@ use denote.Triple.Table.{entered, cited}
 use denote.Triple.Walked.{says, Stays, stay-ref, stay-none, stay-none-slice, walkOf, goes-none, goes-none-slice, goes-ref, ends-at, walked, walk-meets}
 use denote.Exit.{yes}
 use Rattle.rules.specs.declared.Session.{Session}
+use Rattle.rules.specs.Names.{folded}
 use Rattle.rules.proofs.Session as S
 use Rattle.rules.proofs.Session.Laws as S′
 use Rattle.rules.proofs.Verdict as Ver
@@ -79,7 +80,7 @@ Callee 𝓤 H A mem run = tripleOf 𝓤 H A g.signature (g.spec 𝓤 H A mem run
 
 module _ {M : Type 1} (𝓤 : URA M) (H : Heap 𝓤) (A : Atoms 𝓤) (W : Given 𝓤 H A) (at-mem : Memory → SProp 𝓤) (run : Routine → Fun 𝓤) (κ₀ κ : Lft) (q₀ q : Share) (ns : RefT (List ℕ)) (b o : ℕ) (γ : GName) (s : Session) (n : ℕ) (n-fits : n < 2 ^ 8) where
   abbrev out : Stroke
-  out = typedOn (now ns) s n
+  out = typedOn (now ns) s (folded n)
 
   -- what f is passed, and what g is
   abbrev κs : Lfts 2
