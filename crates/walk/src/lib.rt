@@ -57,7 +57,9 @@ pub fn node_of(nodes: &[u32], typed: &[u8]) -> Child
     let mut at = Node(0);
     let mut i = 0;
     while i < typed.len() {
-        match child_of(nodes, at, folded(typed[i])) {
+        let byte = typed[i];
+        let letter = folded(byte);
+        match child_of(nodes, at, letter) {
             Child::At(below) => at = below,
             Child::Nowhere => return Child::Nowhere,
             Child::Broken => return Child::Broken,
