@@ -89,19 +89,15 @@ letters-same (b ∷ p) h = let t = and-parts (allowed b) (all allowed p) h in ap
 pub text-same : (p : List ℕ) → textRefusal p ≡ 0 → foldedText p ≡ p
 text-same p e = letters-same p (text-parts p e .1)
 
--- ---- a folded text is taken as the text is
+-- ---- a folded text is taken as the text is: all by folding twice
 
--- whatever is said of a text as it is read is said of its folded text
-pub as-folded : {Said : Type 1} (says : List ℕ → Said) (p : List ℕ) → says (foldedText (foldedText p)) ≡ says (foldedText p)
-as-folded says p = ap says (text-twice p)
-
--- so both questions promise for a text what they promise for its folded text
+-- both questions promise for a text what they promise for its folded text
 module _ (t : Table) (g : Grid) (x : Index) (p : List ℕ) (rooms : List (List ℕ)) (o : Outcome) where
   pub range-folded : (r : Rect) → RangePromise t g x (foldedText p) r rooms o ≡ RangePromise t g x p r rooms o
-  range-folded r = as-folded (λ l. RangeKept (setLawful t g x ≡ true) t g l r rooms o) p
+  range-folded r = ap (λ l. RangeKept (setLawful t g x ≡ true) t g l r rooms o) (text-twice p)
 
   pub ranked-folded : (q : Ranking) → RankedPromise t g x (foldedText p) q rooms o ≡ RankedPromise t g x p q rooms o
-  ranked-folded q = as-folded (λ l. RankedKept (setLawful t g x ≡ true) t g l q rooms o) p
+  ranked-folded q = ap (λ l. RankedKept (setLawful t g x ≡ true) t g l q rooms o) (text-twice p)
 
 -- the rest of a name is that after the folded text
 module _ (text starts : List ℕ) (i : ℕ) (typed : List ℕ) where

@@ -25,7 +25,7 @@ pub record Kept {Item : Type 0} (Lawful : Type 0) (comesTo : List Item → Outco
   pub exact : Lawful → o ≡ comesTo meant
   pub harmless : Harmless comesTo rooms o
 
--- of both questions on letters
+-- both questions on some letters
 abbrev pub RangeKept : Type 0 → Table → Grid → List ℕ → Rect → List (List ℕ) → Outcome → Type 0
 RangeKept Lawful t g p r rooms o = Kept Lawful (λ list. rangeOutcome (rangeRefusal p r) list rooms) (rangeList t g p r) rooms o
 
