@@ -208,8 +208,9 @@ krz_found krz_ranked_typed(
     krz_session session, krz_place place, uint32_t weight, uint32_t k,
     uint32_t *found, size_t found_len, uint64_t *values, size_t values_len);
 
-/* What is left of a stand's name after the typed text, for showing a hit: length bytes from text[start] on. Start and length are 0 for a
- * stand without two starts, with starts that fall or pass the text's end, or whose name does not begin so. Refuses nothing. */
+/* What is left of a stand's name after the typed text, for showing a hit: length bytes from text[start] on; "Ki" leaves "bori" of kibori.
+ * Start and length are 0 for a stand without two starts, with starts that fall or pass the text's end, or whose name does not begin so.
+ * Refuses nothing. */
 krz_part krz_rest(
     const uint8_t *text, size_t text_len, const uint32_t *starts, size_t starts_len,
     uint32_t stand, const uint8_t *typed, size_t typed_len);
