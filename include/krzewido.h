@@ -173,7 +173,8 @@ krz_found krz_ranked(
 /* The session of no letters. */
 krz_session krz_fresh(void);
 
-/* Types a letter, a capital as its small letter. It is kept also where no name begins so. Gives the refusal: 7, 9, 8, and then the session is as it was. */
+/* Types a letter, a capital as its small letter. It is kept also where no name begins so. Gives the refusal: 7, 9, 8, and then the session
+ * is as it was. */
 uint32_t krz_type(
     const uint8_t *text, size_t text_len, const uint32_t *starts, size_t starts_len,
     const int32_t *east, size_t east_len, const int32_t *north, size_t north_len,

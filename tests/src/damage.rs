@@ -45,10 +45,11 @@ fn flip_metres(dice: &mut Dice, boundaries: &[u32], metres: &mut [i32]) {
     }
 }
 
+/// Another byte of a name, or its capital.
 fn flip_byte(dice: &mut Dice, text: &mut [u8]) {
     if !text.is_empty() {
         let at = dice.below(text.len());
-        text[at] = dice.word() as u8;
+        text[at] = if dice.once_in(2) { text[at].to_ascii_uppercase() } else { dice.word() as u8 };
     }
 }
 

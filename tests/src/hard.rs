@@ -111,7 +111,8 @@ fn range<'a>(set: &'a Owned, text: &'a [u8], room: usize) -> Vec<Hard<'a>> {
     all
 }
 
-/// Behind each beginning of a text the letter that leads on, the first and the last allowed byte, a capital, a byte that is not allowed; and a rub-out.
+/// Behind each beginning of a text the letter that leads on, the first and the last allowed byte, a capital, a byte that is not allowed;
+/// and a rub-out.
 fn strokes<'a>(set: &'a Owned, text: &[u8]) -> Vec<Hard<'a>> {
     let mut all = Vec::new();
     for length in 0..=text.len() {
