@@ -3,13 +3,13 @@
 use mathlib.Core.Path.{_≡_, refl, sym, ap, ap₂, _∙_}
 use mathlib.Core.Bool.{true, false}
 use mathlib.Core.List.{List, [], _∷_}
-use Prim.Native.Nat.{ℕ, _+_, _≤_, _<_}
+use Prim.Native.Nat.{ℕ, _+_, _/_, _%_, _≤_, _<_}
 use native.Mathlib.Omega.{arith}
 use lib.Dec.{leb}
 use borrow.Table.Steps.{cases}
 use borrow.Author.Tests.{leb-true, le-leb, lt-leb}
 use Rattle.base.specs.Lists.{all}
-use Rattle.base.proofs.Tests.{never, and-parts}
+use Rattle.base.proofs.Tests.{never, refuted, and-parts}
 use Rattle.base.proofs.Members.{length-each}
 use Rattle.rules.specs.declared.Grid.{Grid}
 use Rattle.rules.specs.declared.Rect.{Rect}
@@ -55,6 +55,10 @@ module _ (b : ℕ) where
 
   pub read-above : 91 ≤ b → b ≡ folded b
   read-above h = sym (fold-other (above-capitals h))
+
+  -- or by the bit 32, which no capital has
+  pub read-plain : b / 32 % 2 ≡ 1 → b ≡ folded b
+  read-plain h = sym (fold-other (refuted (capital b) (λ e. let t = capital-parts e in omega (arith, t .0, t .1))))
 
 -- a small letter comes of each capital, and a byte that is allowed is no capital
 module _ (b : ℕ) where

@@ -1,18 +1,18 @@
 -- A part of a part of a text is a part of the text; a stand's name by its span, whether it begins with a typed text, and the rest of it behind that.
 -- Assumes nothing.
-use Prim.Native.Nat.{ℕ, _+_, _-_, _≤_, _<_}
-use mathlib.Core.Path.{_≡_, refl, sym, ap, _∙_}
-use mathlib.Core.Bool.{Bool, true, false, _&&_, and-true, and-assoc}
+use Prim.Native.Nat.{ℕ, suc, _+_, _-_, _≤_, _<_}
+use mathlib.Core.Path.{_≡_, sym, ap, _∙_}
+use mathlib.Core.Bool.{Bool, true, false, _&&_, and-true, and-false}
 use mathlib.Core.List.{List}
-use native.Mathlib.Numerals.{add-one}
 use native.Mathlib.Omega.{arith}
 use lib.Dec.{eqb}
-use lib.ListN.{length, getD, take, drop, length-drop, drop-of-length-le}
-use lib.Seq.{drop-cons, drop-drop, length-take-le}
+use lib.ListN.{length, getD, take, drop, length-drop}
+use lib.Seq.{take-all, take-suc, drop-cons, drop-drop, length-take-le}
+use borrow.Author.Tests.{eq-eqb, ne-eqb}
 use Rattle.base.specs.Lists.{begins}
 use Rattle.base.proofs.Tests.{refuted}
-use Rattle.base.proofs.Members.{drop-take, length-each}
-use Rattle.base.proofs.Begins.{begins-length}
+use Rattle.base.proofs.Members.{drop-take, length-each, getD-each}
+use Rattle.base.proofs.Begins.{begins-length, begins-parts}
 use Rattle.rules.specs.Names.{folded, foldedText, spanned, name, nameAt, restOf, restAt}
 use Rattle.rules.proofs.Lawful.{by-starts}
 use Rattle.table.specs.declared.names.Span.{Span}
@@ -41,28 +41,43 @@ module _ (text starts : List ℕ) (i : ℕ) where
       let s = by-starts text starts i h f o in
       record { forward = f; inside = o; holds = rw s; begins = rw s; fits = k }
 
--- a loop that holds a typed text against a name no shorter stands at letter i: what was seen and the rest of both decide
-pub record Matching (typed name : List ℕ) (same : Bool) (i : ℕ) : Type 0 where
+-- a loop that holds a typed text against a name no shorter, from the last letter down: the first i letters are left, and decide
+pub record Matching (typed name : List ℕ) (i : ℕ) : Type 0 where
   pub within : i ≤ length typed
-  pub rest : begins (foldedText typed) name ≡ same && begins (foldedText (drop i typed)) (drop i name)
+  pub rest : begins (foldedText typed) name ≡ begins (take i (foldedText typed)) name
 
 module _ (typed name : List ℕ) where
   pub match-short : length name < length typed → false ≡ begins (foldedText typed) name
   match-short h = sym (refuted _ (λ b. omega (arith, begins-length (foldedText typed) name b, length-each folded typed)))
 
-  pub match-begins : Matching typed name true 0
-  match-begins = record { within = omega arith; rest = refl }
+  pub match-begins : Matching typed name (length typed)
+  match-begins = record { within = omega arith; rest = rw (take-all (length typed) (foldedText typed) (omega (arith, length-each folded typed))) }
 
-  module _ (same : Bool) (i : ℕ) (m : Matching typed name same i) where
-    pub match-ends : length typed ≤ i → same ≡ begins (foldedText typed) name
-    match-ends h = sym (m .rest ∙ rw (drop-of-length-le typed h) (and-true same))
+  -- the last letter that is left, and those before it
+  match-last : (i : ℕ) → i < length typed → i < length name
+      → begins (take (suc i) (foldedText typed)) name ≡ begins (take i (foldedText typed)) name && eqb (folded (getD typed i 0)) (getD name i 0)
+  match-last i more long =
+      let within : i < length (foldedText typed) = omega (arith, length-each folded typed) in
+      rw
+      (take-suc (foldedText typed) i 0 within, begins-parts (take i (foldedText typed)) _ name, length-take-le i (foldedText typed) (omega arith), drop-cons name i 0 long, getD-each folded typed i 0 0 more, and-true)
 
-    pub match-on : i < length typed → length typed ≤ length name → (letter : ℕ) → letter ≡ folded (getD typed i 0) → Matching typed name (same && eqb letter (getD name i 0)) (i + 1)
-    match-on more long letter read =
-        record {
-          within = omega arith;
-          rest = m .rest ∙ rw (drop-cons typed i 0 more, drop-cons name i 0 (omega arith), add-one, ← read) (sym (and-assoc same (eqb letter (getD name i 0)) _));
-        }
+  module _ (i : ℕ) (m : Matching typed name i) where
+    pub match-ends : i ≤ 0 → true ≡ begins (foldedText typed) name
+    match-ends h = let e : i ≡ 0 = omega arith in sym (m .rest ∙ rw e)
+
+    -- one letter, however it was read
+    module _ (more : 0 < i) (long : length typed ≤ length name) (letter : ℕ) (read : letter ≡ folded (getD typed (i - 1) 0)) where
+      match-letter : begins (foldedText typed) name ≡ begins (take (i - 1) (foldedText typed)) name && eqb letter (getD name (i - 1) 0)
+      match-letter =
+          let e : i ≡ suc (i - 1) = omega arith in
+          let w = m .within in
+          m .rest ∙ ap (λ k. begins (take k (foldedText typed)) name) e ∙ rw read (match-last (i - 1) (omega arith) (omega arith))
+
+      pub match-on : letter ≡ getD name (i - 1) 0 → Matching typed name (i - 1)
+      match-on e = record { within = omega (arith, m .within); rest = match-letter ∙ rw (eq-eqb _ _ e, and-true) }
+
+      pub match-off : (letter ≡ getD name (i - 1) 0 → ⊥) → false ≡ begins (foldedText typed) name
+      match-off e = sym (match-letter ∙ rw (ne-eqb _ _ e, and-false))
 
 -- the rest of a name, by the span that holds the name
 module _ (text starts : List ℕ) (i : ℕ) (s : Span) (w : Spans text starts i s) (typed : List ℕ) where

@@ -79,21 +79,27 @@ pub fn shared(a: &[u8], b: &[u8]) -> usize
     i
 }
 
-// Whether a name begins with a typed text. Every letter is looked at: the name of a hit does begin so, and a loop with no way out before
-// its end the compiler takes eight letters at a time.
+// Whether a name begins with a typed text. Every allowed byte has the bit 32 and no capital has it: a byte with it is read as it is, so
+// that small letters cost no fold. The letters go from the last one down, which takes an instruction less at each.
 fn begins(name: &[u8], typed: &[u8]) -> bool
     ensures { λ r. ⌜ r ≡ begins (foldedText (given typed)) (given name) ⌝ }
 {
     if name.len() < typed.len() {
         return false;
     }
-    let mut same = true;
-    let mut i = 0;
-    while i < typed.len() {
-        same = same & (folded(typed[i]) == name[i]);
-        i += 1;
+    let mut i = typed.len();
+    while 0 < i {
+        i -= 1;
+        let byte = typed[i];
+        if byte / 32 % 2 == 1 {
+            if byte != name[i] {
+                return false;
+            }
+        } else if folded(byte) != name[i] {
+            return false;
+        }
     }
-    same
+    true
 }
 
 // Whether name a may stand before name b: byte order, the shorter first, equal ones either way.
