@@ -1,5 +1,6 @@
-//! The figures: how many instructions the finder takes for a question, a name typed, a build and a check, beside a scan of all stands
-//! (`plain`) and the same method in safe Rust (`port`); the most that any call takes over bad tables, and its stack; the code's size.
+//! The figures: how many instructions the finder takes for a question, a name typed, the rest of a hit's name, a build and a check, beside
+//! a scan of all stands (`plain`) and the same method in safe Rust (`port`); the most that any call takes over bad tables, and its stack;
+//! the code's size.
 //! Every answer is compared before it is counted.
 //!     figures LIBRARY              prints all of it
 //!     figures count WHAT WHO STANDS, figures worst TABLE CALL      run one of them, for valgrind to count
@@ -25,13 +26,19 @@ use villages::QUESTIONS;
 
 const SIZES: [usize; 3] = [64, 256, 1_024];
 
-const WHATS: [(&str, &str); 5] = [
+const WHATS: [(&str, &str); 6] = [
     ("ranked", "ranked, 3 letters, k = 5"),
     ("range", "range, 3 letters"),
     ("typing", "a name typed, all letters"),
+    ("rest", "the rest of a name, 3 letters"),
     ("build", "build"),
     ("check", "check"),
 ];
+
+/// Whether going over all stands can answer it.
+fn scanned(what: &str) -> bool {
+    matches!(what, "ranked" | "range" | "typing")
+}
 
 /// The villages with their index, built by the one that is not counted.
 fn indexed(stands: usize, counted: Who) -> Owned {
@@ -56,7 +63,7 @@ fn counted(what: &str, who: &str) -> String {
     }
 }
 
-/// Instructions of one question, name, build or check.
+/// Instructions of one question, name, rest, build or check.
 fn instructions(what: &str, who: &str, stands: usize) -> f64 {
     let function = counted(what, who);
     let all: u64 = counting::each_call(&function, &["count", what, who, &stands.to_string()]).into_iter().sum();
@@ -74,11 +81,11 @@ fn print_table() {
         for (what, title) in WHATS {
             let ours = instructions(what, "finder", stands);
             let port = instructions(what, "port", stands);
-            let (scan, ratio) = if matches!(what, "build" | "check") {
-                (String::from("-"), String::from("-"))
-            } else {
+            let (scan, ratio) = if scanned(what) {
                 let scan = instructions(what, "plain", stands);
                 (format!("{scan:.0}"), format!("{:.1}", scan / ours))
+            } else {
+                (String::from("-"), String::from("-"))
             };
             println!("| {stands} | {title} | {ours:.0} | {scan} | {port:.0} | {ratio} | {:.2} |", ours / port);
         }
@@ -104,7 +111,7 @@ fn compare() {
             let words = (t.order.clone(), t.nodes.clone(), t.entries.clone());
             assert_eq!(ours, round(what, Who::Port, &mut t, &asked), "{title}: finder and port");
             assert_eq!(words, (t.order.clone(), t.nodes.clone(), t.entries.clone()), "{title}: words of finder and port");
-            if !matches!(what, "build" | "check") {
+            if scanned(what) {
                 assert_eq!(ours, round(what, Who::Plain, &mut t, &asked), "{title}: finder and scan");
                 assert_eq!(ours, round(what, Who::InPlace, &mut t, &asked), "{title}: finder and port in place");
             }

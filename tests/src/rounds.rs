@@ -95,6 +95,15 @@ fn typing(who: Who, set: &Set, name: &[u8]) -> Vec<u64> {
     told
 }
 
+/// What is left of a hit's name after the letters that were typed for it.
+fn rest(who: Who, set: &Set, letters: &[u8], stand: usize) -> Vec<u64> {
+    let part = match who {
+        Who::Finder => finder::rest(set.text, set.starts, stand as u32, letters),
+        _ => port::rest(set.text, set.starts, stand as u32, letters),
+    };
+    [part.start, part.length].map(u64::from).to_vec()
+}
+
 pub fn round(what: &str, who: Who, t: &mut Owned, asked: &[Question]) -> Vec<u64> {
     let each = |q: &Question| {
         let set = black_box(t.lent());
@@ -103,6 +112,7 @@ pub fn round(what: &str, who: Who, t: &mut Owned, asked: &[Question]) -> Vec<u64
         match what {
             "range" => range(who, &set, letters, q),
             "ranked" => ranked(who, &set, letters, q),
+            "rest" => rest(who, &set, letters, q.stand),
             _ => typing(who, &set, name),
         }
     };
