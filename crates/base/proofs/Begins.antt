@@ -2,7 +2,7 @@
 -- Sharing is the invariant of a loop that compares element by element. Assumes nothing.
 use mathlib.Core.Path.{_≡_, refl, sym, ap, _∙_}
 use mathlib.Core.Logic.{_⊎_, inl, inr, ⊎-elim}
-use mathlib.Core.Bool.{true, false, _&&_, false≢true}
+use mathlib.Core.Bool.{Bool, true, false, _&&_, false≢true}
 use mathlib.Core.List.{List, [], _∷_, _++_}
 use Prim.Native.Nat.{ℕ, zero, suc, _+_, _≤_, _<_}
 use native.Mathlib.Numerals.{add-one}
@@ -56,6 +56,12 @@ begins-both p q n h k l = is-begun p q (begins-is-take p n h ∙ begins-part q n
 -- a beginning as long as the whole is the whole
 pub begins-whole : (p q : List ℕ) → begins p q ≡ true → length q ≤ length p → p ≡ q
 begins-whole p q h l = begins-is-take p q h ∙ take-all (length p) q l
+
+-- whether n begins with p, its first elements tell, as many as p has
+pub begins-first : (p n : List ℕ) → begins p (take (length p) n) ≡ begins p n
+begins-first [] n = refl
+begins-first (a ∷ p) [] = refl
+begins-first (a ∷ p) (b ∷ n) = ap (λ (r : Bool). eqb a b && r) (begins-first p n)
 
 -- element by element, and back
 pub begins-at : (p n : List ℕ) (i d : ℕ) → begins p n ≡ true → i < length p → getD n i d ≡ getD p i d

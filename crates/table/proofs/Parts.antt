@@ -7,12 +7,12 @@ use mathlib.Core.List.{List}
 use native.Mathlib.Omega.{arith}
 use lib.Dec.{eqb}
 use lib.ListN.{length, getD, take, drop, length-drop}
-use lib.Seq.{take-all, take-suc, drop-cons, drop-drop, length-take-le}
+use lib.Seq.{take-all, take-suc, take-take, drop-cons, drop-drop, length-take-le}
 use borrow.Author.Tests.{eq-eqb, ne-eqb}
 use Rattle.base.specs.Lists.{begins}
 use Rattle.base.proofs.Tests.{refuted}
 use Rattle.base.proofs.Members.{drop-take, length-each, getD-each}
-use Rattle.base.proofs.Begins.{begins-length, begins-parts}
+use Rattle.base.proofs.Begins.{begins-length, begins-first, begins-parts}
 use Rattle.rules.specs.Names.{folded, foldedText, spanned, name, nameAt, restOf, restAt}
 use Rattle.rules.proofs.Lawful.{by-starts}
 use Rattle.table.specs.declared.names.Span.{Span}
@@ -81,21 +81,34 @@ module _ (typed name : List ℕ) where
 
 -- the rest of a name, by the span that holds the name
 module _ (text starts : List ℕ) (i : ℕ) (s : Span) (w : Spans text starts i s) (typed : List ℕ) where
-  abbrev here : List ℕ
-  here = take (s .past - s .from) (drop (s .from) text)
+  abbrev nothing : Span
+  nothing = record { from = 0; past = 0 }
 
-  told : (b : Bool) → begins (foldedText typed) here ≡ b → begins (foldedText typed) (name text starts i) ≡ b
-  told b h = ap (begins (foldedText typed)) (sym (w .holds)) ∙ h
-
-  pub room : begins (foldedText typed) here ≡ true → s .from + length typed ≤ s .past
-  room h = omega (arith, begins-length (foldedText typed) here h, length-each folded typed, length-part text (s .from) (s .past) (w .forward) (w .inside), w .forward)
-
-  pub rest : begins (foldedText typed) here ≡ true → RestSpans text starts i typed (record { from = s .from + length typed; past = s .past })
+  unlike : begins (foldedText typed) (name text starts i) ≡ false → RestSpans text starts i typed nothing
   unfolding restOf restAt
-  rest h =
-      let e = told true h in
-      record { forward = room h; inside = w .inside; holds = sym (drop-part text (s .from) (s .past) (length typed)) ∙ rw (w .holds, e); begins = rw e (omega (arith, w .begins)); fits = w .fits }
+  unlike e = record { forward = omega arith; inside = omega arith; holds = rw e; begins = rw e; fits = omega arith }
 
-  pub no-rest : begins (foldedText typed) here ≡ false → RestSpans text starts i typed (record { from = 0; past = 0 })
-  unfolding restOf restAt
-  no-rest h = let e = told false h in record { forward = omega arith; inside = omega arith; holds = rw e; begins = rw e; fits = omega arith }
+  pub too-short : s .past < s .from + length typed → RestSpans text starts i typed nothing
+  too-short h =
+      let l = length-part text (s .from) (s .past) (w .forward) (w .inside) in
+      unlike (sym (match-short typed (name text starts i) (omega (arith, w .forward, l, ap length (w .holds)))))
+
+  module _ (long : s .from + length typed ≤ s .past) where
+    -- the letters that stand where the typed ones would
+    abbrev letters : List ℕ
+    letters = take (s .from + length typed - s .from) (drop (s .from) text)
+
+    told : begins (foldedText typed) letters ≡ begins (foldedText typed) (name text starts i)
+    told =
+        let e : s .from + length typed - s .from ≡ length (foldedText typed) = omega (arith, length-each folded typed) in
+        let t = take-take (length (foldedText typed)) (s .past - s .from) (drop (s .from) text) (omega (arith, length-each folded typed)) in
+        ap (λ k. begins (foldedText typed) (take k (drop (s .from) text))) e ∙ ap (begins (foldedText typed)) (sym t ∙ ap (take (length (foldedText typed))) (w .holds)) ∙ begins-first (foldedText typed) (name text starts i)
+
+    pub rest : begins (foldedText typed) letters ≡ true → RestSpans text starts i typed (record { from = s .from + length typed; past = s .past })
+    unfolding restOf restAt
+    rest h =
+        let e = sym told ∙ h in
+        record { forward = long; inside = w .inside; holds = sym (drop-part text (s .from) (s .past) (length typed)) ∙ rw (w .holds, e); begins = rw e (omega (arith, w .begins)); fits = w .fits }
+
+    pub no-rest : begins (foldedText typed) letters ≡ false → RestSpans text starts i typed nothing
+    no-rest h = unlike (sym told ∙ h)

@@ -144,12 +144,13 @@ pub fn name_of<'a>(text: &'a [u8], starts: &[u32], stand: Stand) -> &'a [u8]
 pub fn rest_span(text: &[u8], starts: &[u32], stand: Stand, typed: &[u8]) -> Span
     ensures { λ r. ⌜ RestSpans (given text) (given starts) (stand .0) (given typed) r ⌝ }
 {
-    let Span { from, past } = name_span(text, starts, stand);
-    if begins(&text[from..past], typed) {
-        return Span {
-            from: from + typed.len(),
-            past,
-        };
+    let Span { from: start, past } = name_span(text, starts, stand);
+    let from = start + typed.len();
+    if past < from {
+        return Span { from: 0, past: 0 };
+    }
+    if begins(&text[start..from], typed) {
+        return Span { from, past };
     }
     Span { from: 0, past: 0 }
 }

@@ -2,7 +2,7 @@
 -- Assumes nothing.
 use mathlib.Core.Path.{sym, _∙_}
 use borrow.Author.Needs.{needs}
-use Rattle.table.proofs.Parts.{rest, no-rest}
+use Rattle.table.proofs.Parts.{too-short, rest, no-rest}
 use Rattle.table.proofs.names.rest_span.Statement.{statement}
 use Rattle.table.proofs.names.rest_span.Tie as tie
 
@@ -12,9 +12,10 @@ rest-span-spec =
     (tie.spec
     (λ c κs. search needs)
     (λ c. search needs)
+    (λ c. too-short _ _ _ _ (c .before .name-span .ensures) _ (search needs))
+    (λ c. search needs)
     (λ c. search needs)
     (λ c. search needs)
     (λ c κs. search needs)
-    (λ c. search needs)
-    (λ c. rest _ _ _ _ (c .before .before .before .name-span .ensures) _ (sym (c .before .begins .ensures) ∙ c .if1 .taken))
-    (λ c. no-rest _ _ _ _ (c .before .before .before .name-span .ensures) _ (sym (c .before .begins .ensures) ∙ c .if1 .left)))
+    (λ c. rest _ _ _ _ (c .before .before .before .before .name-span .ensures) _ (search needs) (sym (c .before .begins .ensures) ∙ c .if2 .taken))
+    (λ c. no-rest _ _ _ _ (c .before .before .before .before .name-span .ensures) _ (search needs) (sym (c .before .begins .ensures) ∙ c .if2 .left)))
