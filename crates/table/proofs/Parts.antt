@@ -1,8 +1,8 @@
--- A part of a part of a text is a part of the text; a stand's name by its span, whether it begins with a typed text, and the rest of it behind that.
+-- Parts of a text: a stand's name by its span, whether it begins with a typed text, and the rest of it behind that.
 -- Assumes nothing.
 use Prim.Native.Nat.{ℕ, suc, _+_, _-_, _≤_, _<_}
 use mathlib.Core.Path.{_≡_, sym, ap, _∙_}
-use mathlib.Core.Bool.{Bool, true, false, _&&_, and-true, and-false}
+use mathlib.Core.Bool.{true, false, _&&_, and-true, and-false}
 use mathlib.Core.List.{List}
 use native.Mathlib.Omega.{arith}
 use lib.Dec.{eqb}
@@ -18,6 +18,7 @@ use Rattle.rules.proofs.Lawful.{by-starts}
 use Rattle.table.specs.declared.names.Span.{Span}
 use Rattle.table.specs.Parts.{Spans, RestSpans}
 
+-- a part of a part is a part of the text
 module _ (text : List ℕ) (a b : ℕ) where
   drop-part : (k : ℕ) → drop k (take (b - a) (drop a text)) ≡ take (b - (a + k)) (drop (a + k) text)
   drop-part k =
@@ -47,9 +48,6 @@ pub record Matching (typed name : List ℕ) (i : ℕ) : Type 0 where
   pub rest : begins (foldedText typed) name ≡ begins (take i (foldedText typed)) name
 
 module _ (typed name : List ℕ) where
-  pub match-short : length name < length typed → false ≡ begins (foldedText typed) name
-  match-short h = sym (refuted _ (λ b. omega (arith, begins-length (foldedText typed) name b, length-each folded typed)))
-
   pub match-begins : Matching typed name (length typed)
   match-begins = record { within = omega arith; rest = rw (take-all (length typed) (foldedText typed) (omega (arith, length-each folded typed))) }
 
@@ -91,7 +89,7 @@ module _ (text starts : List ℕ) (i : ℕ) (s : Span) (w : Spans text starts i 
   pub too-short : s .past < s .from + length typed → RestSpans text starts i typed nothing
   too-short h =
       let l = length-part text (s .from) (s .past) (w .forward) (w .inside) in
-      unlike (sym (match-short typed (name text starts i) (omega (arith, w .forward, l, ap length (w .holds)))))
+      unlike (refuted _ (λ b. omega (arith, begins-length (foldedText typed) _ b, length-each folded typed, ap length (w .holds), w .forward)))
 
   module _ (long : s .from + length typed ≤ s .past) where
     -- the letters that stand where the typed ones would

@@ -5,6 +5,8 @@ use rules::Stand;
 ghost use mathlib.Core.Path.{_≡_};
 ghost use Rattle.base.specs.Lent.{given};
 ghost use denote.Ref.{ptr};
+ghost use Prim.Native.Nat.{_≤_};
+ghost use lib.ListN.{length};
 ghost use Rattle.base.specs.Lists.{all, begins, sharedLength};
 ghost use Rattle.rules.specs.Names.{allowed, folded, foldedText, nameAllowed, inOrder, name};
 ghost use Rattle.table.specs.Parts.{Spans, RestSpans, Rest};
@@ -79,14 +81,13 @@ pub fn shared(a: &[u8], b: &[u8]) -> usize
     i
 }
 
-// Whether a name begins with a typed text. Every allowed byte has the bit 32 and no capital has it: a byte with it is read as it is, so
-// that small letters cost no fold. The letters go from the last one down, which takes an instruction less at each.
+// Whether a name, or as much of one as was typed, begins with a typed text. Every allowed byte has the bit 32 and no capital has it: a byte
+// with it is read as it is, so that small letters cost no fold. The letters go from the last one down, which takes an instruction less at
+// each.
 fn begins(name: &[u8], typed: &[u8]) -> bool
+    requires { ⌜ length (now typed) ≤ length (now name) ⌝ }
     ensures { λ r. ⌜ r ≡ begins (foldedText (given typed)) (given name) ⌝ }
 {
-    if name.len() < typed.len() {
-        return false;
-    }
     let mut i = typed.len();
     while 0 < i {
         i -= 1;

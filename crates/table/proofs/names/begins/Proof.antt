@@ -2,7 +2,7 @@
 -- Assumes nothing.
 use borrow.Author.Needs.{needs}
 use Rattle.rules.proofs.Folds.{read-plain}
-use Rattle.table.proofs.Parts.{Matching, match-short, match-begins, match-ends, match-on, match-off}
+use Rattle.table.proofs.Parts.{Matching, match-begins, match-ends, match-on, match-off}
 use Rattle.table.proofs.names.begins.Statement.{statement}
 use Rattle.table.proofs.names.begins.Tie as tie
 
@@ -18,7 +18,6 @@ begins-spec =
     (tie.spec
     Inv-loop
     μ-loop
-    (λ c. search (needs, match-short))
     (λ c. search (needs, match-begins))
     (λ c. search needs)
     (λ c. search needs)
