@@ -8,6 +8,7 @@ ghost use denote.Ref.{ptr};
 ghost use Prim.Native.Nat.{_≤_};
 ghost use lib.ListN.{length};
 ghost use Rattle.base.specs.Lists.{all, begins, sharedLength};
+ghost use mathlib.Core.Bool.{true};
 ghost use Rattle.rules.specs.Names.{allowed, folded, foldedText, nameAllowed, inOrder, name};
 ghost use Rattle.table.specs.Parts.{Spans, RestSpans, Rest};
 
@@ -37,6 +38,14 @@ pub fn folded(b: u8) -> u8
         b'A'..=b'Z' => b + 32,
         _ => b,
     }
+}
+
+// Whether a byte is known to be no capital by one bit: every allowed byte has the bit 32, and no capital has it. So a small letter costs
+// no fold.
+pub fn plain(b: u8) -> bool
+    ensures { λ r. ⌜ (r ≡ true → b ≡ folded b) ⌝ }
+{
+    b / 32 % 2 == 1
 }
 
 pub fn bytes_allowed(bytes: &[u8]) -> bool
@@ -81,9 +90,8 @@ pub fn shared(a: &[u8], b: &[u8]) -> usize
     i
 }
 
-// Whether a name, or as much of one as was typed, begins with a typed text. Every allowed byte has the bit 32 and no capital has it: a byte
-// with it is read as it is, so that small letters cost no fold. The letters go from the last one down, which takes an instruction less at
-// each.
+// Whether a name, or as much of one as was typed, begins with a typed text. The letters go from the last one down, which takes an
+// instruction less at each.
 fn begins(name: &[u8], typed: &[u8]) -> bool
     requires { ⌜ length (now typed) ≤ length (now name) ⌝ }
     ensures { λ r. ⌜ r ≡ begins (foldedText (given typed)) (given name) ⌝ }
@@ -92,7 +100,7 @@ fn begins(name: &[u8], typed: &[u8]) -> bool
     while 0 < i {
         i -= 1;
         let byte = typed[i];
-        if byte / 32 % 2 == 1 {
+        if plain(byte) {
             if byte != name[i] {
                 return false;
             }

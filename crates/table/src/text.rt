@@ -11,18 +11,20 @@ ghost use Rattle.base.specs.Lists.{all};
 ghost use Rattle.rules.specs.Numbers.{verdictNumber};
 ghost use Rattle.rules.specs.Names.{allowed, foldedText, textRefusal};
 
-// Each byte is folded before it is judged.
+// Each byte is folded before it is judged; one that is allowed as it stands is read as itself, which spares the fold.
 fn typed_allowed(typed: &[u8]) -> bool
     ensures { λ r. ⌜ r ≡ all allowed (foldedText (given typed)) ⌝ }
 {
-    let mut i = 0;
-    while i < typed.len() {
+    let mut i = typed.len();
+    while 0 < i {
+        i -= 1;
         let byte = typed[i];
-        let letter = folded(byte);
-        if !allowed(letter) {
-            return false;
+        if !allowed(byte) {
+            let letter = folded(byte);
+            if !allowed(letter) {
+                return false;
+            }
         }
-        i += 1;
     }
     true
 }

@@ -94,10 +94,10 @@ module _ (words text : List ℕ) where
     unfolding nodeFrom
     walk-ends h = sym (w .rest ∙ rw (drop-of-length-le text h))
 
-    module _ (more : i < length text) (byte : ℕ) (read : byte ≡ folded (getD text i 0)) (to : Child) (there : to ≡ childIn words n byte) where
+    module _ (more : i < length text) (to : Child) (there : to ≡ childIn words n (folded (getD text i 0))) where
       letter : nodeIn words (foldedText text) ≡ onFrom to (λ m. nodeFrom words m (foldedText (drop (i + 1) text)))
       unfolding nodeFrom
-      letter = w .rest ∙ rw (drop-cons text i 0 more, add-one, ← read, ← there)
+      letter = w .rest ∙ rw (drop-cons text i 0 more, add-one, ← there)
 
       pub walk-on : (below : ℕ) → to ≡ At (node below) → Walking words text below (i + 1)
       walk-on below e = record { within = omega arith; rest = letter ∙ rw e }

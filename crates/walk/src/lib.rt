@@ -2,13 +2,14 @@
 // Where they are what building writes, the node found is the text's. `listing` goes on to the node's entries, `entry` reads one.
 ghost use mathlib.Core.Path.{_≡_};
 ghost use Rattle.base.specs.Lent.{given};
-ghost use Rattle.rules.specs.Names.{foldedText};
+ghost use Rattle.rules.specs.Names.{folded, foldedText};
 ghost use Rattle.walk.specs.Walks.{childIn, nodeIn};
 use rules::Node;
 use rules::layout::LAST_BYTE;
 use rules::layout::NODE_WORDS;
 use rules::layout::PAST_NODE;
 use table::names::folded;
+use table::names::plain;
 
 pub mod entry;
 pub mod listing;
@@ -50,6 +51,17 @@ pub fn child_of(nodes: &[u32], above: Node, byte: u8) -> Child
     Child::Nowhere
 }
 
+// The child by a typed byte.
+fn child_typed(nodes: &[u32], above: Node, byte: u8) -> Child
+    ensures { λ r. ⌜ r ≡ childIn (given nodes) (above .0) (folded byte) ⌝ }
+{
+    if plain(byte) {
+        return child_of(nodes, above, byte);
+    }
+    let letter = folded(byte);
+    child_of(nodes, above, letter)
+}
+
 // The node of a typed text, from the root letter by letter.
 pub fn node_of(nodes: &[u32], typed: &[u8]) -> Child
     ensures { λ r. ⌜ r ≡ nodeIn (given nodes) (foldedText (given typed)) ⌝ }
@@ -57,9 +69,7 @@ pub fn node_of(nodes: &[u32], typed: &[u8]) -> Child
     let mut at = Node(0);
     let mut i = 0;
     while i < typed.len() {
-        let byte = typed[i];
-        let letter = folded(byte);
-        match child_of(nodes, at, letter) {
+        match child_typed(nodes, at, typed[i]) {
             Child::At(below) => at = below,
             Child::Nowhere => return Child::Nowhere,
             Child::Broken => return Child::Broken,

@@ -21,7 +21,6 @@ node-of-spec =
     (λ c. search (needs, walk-begins))
     (λ c. search needs)
     (λ c κs. search needs)
-    (λ c κs. search needs)
     (λ c. search needs)
     (λ c. search needs)
     (λ c. search (needs, walk-stops))

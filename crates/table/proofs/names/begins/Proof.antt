@@ -1,7 +1,6 @@
 -- `names::begins` holds letter against letter, from the last one down: the invariant is Matching.
 -- Assumes nothing.
 use borrow.Author.Needs.{needs}
-use Rattle.rules.proofs.Folds.{read-plain}
 use Rattle.table.proofs.Parts.{Matching, match-begins, match-ends, match-on, match-off}
 use Rattle.table.proofs.names.begins.Statement.{statement}
 use Rattle.table.proofs.names.begins.Tie as tie
@@ -21,10 +20,11 @@ begins-spec =
     (λ c. search (needs, match-begins))
     (λ c. search needs)
     (λ c. search needs)
+    (λ c κs. search needs)
     (λ c. search needs)
-    (λ c. search (needs, match-off, read-plain))
+    (λ c. search (needs, match-off, c .before .before .before .plain .ensures (c .before .before .if1 .taken)))
     (λ c. search needs)
-    (λ c. search (needs, match-on, read-plain))
+    (λ c. search (needs, match-on, c .before .before .before .plain .ensures (c .before .before .if1 .taken)))
     (λ c κs. search needs)
     (λ c. search needs)
     (λ c. search (needs, match-off))
