@@ -26,8 +26,9 @@ use villages::QUESTIONS;
 
 const SIZES: [usize; 3] = [64, 256, 1_024];
 
-const WHATS: [(&str, &str); 6] = [
+const WHATS: [(&str, &str); 7] = [
     ("ranked", "ranked, 3 letters, k = 5"),
+    ("whole", "ranked, a whole name, k = 5"),
     ("range", "range, 3 letters"),
     ("typing", "a name typed, all letters"),
     ("rest", "the rest of a name, 3 letters"),
@@ -37,7 +38,7 @@ const WHATS: [(&str, &str); 6] = [
 
 /// Whether going over all stands can answer it.
 fn scanned(what: &str) -> bool {
-    matches!(what, "ranked" | "range" | "typing")
+    matches!(what, "ranked" | "whole" | "range" | "typing")
 }
 
 /// The villages with their index, built by the one that is not counted.
@@ -53,6 +54,7 @@ fn indexed(stands: usize, counted: Who) -> Owned {
 /// The function that is counted, as valgrind names it; what is done to call it is not.
 fn counted(what: &str, who: &str) -> String {
     match (what, who) {
+        ("whole", _) => counted("ranked", who),
         ("typing", "finder") => String::from("krz_type"),
         ("typing", "plain") => String::from("figures::plain::any"),
         ("typing", "port") => String::from("figures::port::type_byte"),

@@ -112,6 +112,7 @@ pub fn round(what: &str, who: Who, t: &mut Owned, asked: &[Question]) -> Vec<u64
         match what {
             "range" => range(who, &set, letters, q),
             "ranked" => ranked(who, &set, letters, q),
+            "whole" => ranked(who, &set, name, q),
             "rest" => rest(who, &set, letters, q.stand),
             _ => typing(who, &set, name),
         }
