@@ -11,7 +11,8 @@ ghost use Rattle.base.specs.Lists.{all};
 ghost use Rattle.rules.specs.Numbers.{verdictNumber};
 ghost use Rattle.rules.specs.Names.{allowed, foldedText, textRefusal};
 
-// Each byte is folded before it is judged; one that is allowed as it stands is read as itself, which spares the fold.
+// What is judged is the byte folded. One that is allowed as it stands is itself when folded, which spares the fold; from the last byte down,
+// which takes an instruction less at each.
 fn typed_allowed(typed: &[u8]) -> bool
     ensures { λ r. ⌜ r ≡ all allowed (foldedText (given typed)) ⌝ }
 {
