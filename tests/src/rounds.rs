@@ -95,6 +95,11 @@ fn typing(who: Who, set: &Set, name: &[u8]) -> Vec<u64> {
     told
 }
 
+/// A stand half the table away, which is of another village.
+fn far_from(stand: usize, stands: usize) -> usize {
+    (stand + stands / 2) % stands
+}
+
 /// What is left of a hit's name after the letters that were typed for it.
 fn rest(who: Who, set: &Set, letters: &[u8], stand: usize) -> Vec<u64> {
     let part = match who {
@@ -114,6 +119,7 @@ pub fn round(what: &str, who: Who, t: &mut Owned, asked: &[Question]) -> Vec<u64
             "ranked" => ranked(who, &set, letters, q),
             "whole" => ranked(who, &set, name, q),
             "rest" => rest(who, &set, letters, q.stand),
+            "unlike" => rest(who, &set, letters, far_from(q.stand, set.score.len())),
             _ => typing(who, &set, name),
         }
     };

@@ -1,16 +1,15 @@
 -- A loop that tests one thing after the other and leaves at the first that fails: what is still to test decides.
--- Scanning is its invariant over the numbers below n, Reading over the elements of a list, ReadingDown over those from the last one down.
--- Assumes nothing.
+-- Scanning is its invariant over the numbers below n, Reading over the elements of a list. Assumes nothing.
 use Prim.Native.Nat.{ℕ, zero, suc, _+_, _-_, _≤_, _<_}
 use mathlib.Core.Path.{_≡_, refl, sym, ap, _∙_}
-use mathlib.Core.Bool.{Bool, true, false, _&&_, and-true, and-false}
+use mathlib.Core.Bool.{Bool, true, false, _&&_}
 use mathlib.Core.List.{List, [], _∷_, _++_}
 use mathlib.Core.Logic.{⊎-elim}
 use native.Mathlib.Numerals.{add-one}
 use native.Mathlib.Nat.{eq-or-lt-of-le}
 use native.Mathlib.Omega.{arith}
-use lib.ListN.{length, getD, take, drop, drop-of-length-le}
-use lib.Seq.{take-length, take-suc, drop-cons}
+use lib.ListN.{length, getD, drop, drop-of-length-le}
+use lib.Seq.{drop-cons}
 use borrow.Table.Steps.{cases}
 use Rattle.base.specs.Lists.{all, each, fromOn, upTo}
 use Rattle.base.proofs.Tests.{and-left, and-right}
@@ -38,7 +37,7 @@ module _ (p : ℕ → Bool) where
 
 -- of two lists, one after the other
 module _ {A : Type 0} (p : A → Bool) where
-  pub all-parts : (s t : List A) → all p (s ++ t) ≡ all p s && all p t
+  all-parts : (s t : List A) → all p (s ++ t) ≡ all p s && all p t
   all-parts [] t = refl
   all-parts (x ∷ s) t = cases (p x) (λ e. rw e (all-parts s t)) (λ e. rw e)
 
@@ -95,27 +94,3 @@ module _ (p : ℕ → Bool) (l : List ℕ) where
 
   pub read-finish : (i : ℕ) → length l ≤ i → Reading p l i → all p l ≡ true
   read-finish i h s = s .rest ∙ rw (drop-of-length-le l h)
-
--- the same from the last element down: the first i are left
-pub record ReadingDown (p : ℕ → Bool) (l : List ℕ) (i : ℕ) : Type 0 where
-  pub within : i ≤ length l
-  pub rest : all p l ≡ all p (take i l)
-
-module _ (p : ℕ → Bool) (l : List ℕ) where
-  pub down-begin : ReadingDown p l (length l)
-  down-begin = record { within = omega arith; rest = rw (take-length l) }
-
-  pub down-finish : (i : ℕ) → i ≤ 0 → ReadingDown p l i → all p l ≡ true
-  down-finish i h s = let e : i ≡ 0 = omega arith in s .rest ∙ rw e
-
-  module _ (i : ℕ) (more : 0 < i) (s : ReadingDown p l i) where
-    down-next : all p l ≡ all p (take (i - 1) l) && p (getD l (i - 1) 0)
-    down-next =
-        let e : i ≡ suc (i - 1) = omega arith in
-        s .rest ∙ ap (λ k. all p (take k l)) e ∙ rw (take-suc l (i - 1) 0 (omega (arith, s .within)), all-parts p (take (i - 1) l) (getD l (i - 1) 0 ∷ []), and-true)
-
-    pub down-pass : p (getD l (i - 1) 0) ≡ true → ReadingDown p l (i - 1)
-    down-pass t = record { within = omega (arith, s .within); rest = down-next ∙ rw (t, and-true) }
-
-    pub down-fail : p (getD l (i - 1) 0) ≡ false → all p l ≡ false
-    down-fail t = down-next ∙ rw (t, and-false)

@@ -1,18 +1,18 @@
 -- Parts of a text: a stand's name by its span, whether it begins with a typed text, and the rest of it behind that.
 -- Assumes nothing.
-use Prim.Native.Nat.{ℕ, suc, _+_, _-_, _≤_, _<_}
-use mathlib.Core.Path.{_≡_, sym, ap, _∙_}
-use mathlib.Core.Bool.{true, false, _&&_, and-true, and-false}
+use Prim.Native.Nat.{ℕ, _+_, _-_, _≤_, _<_, _/_, _%_}
+use mathlib.Core.Path.{_≡_, refl, sym, ap, _∙_}
+use mathlib.Core.Bool.{true, false, _&&_}
 use mathlib.Core.List.{List}
+use native.Mathlib.Numerals.{add-one}
 use native.Mathlib.Omega.{arith}
 use lib.Dec.{eqb}
-use lib.ListN.{length, getD, take, drop, length-drop}
-use lib.Seq.{take-all, take-suc, take-take, drop-cons, drop-drop, length-take-le}
-use borrow.Author.Tests.{eq-eqb, ne-eqb}
+use lib.ListN.{length, getD, take, drop, length-drop, drop-of-length-le}
+use lib.Seq.{take-take, drop-cons, drop-drop, length-take-le}
 use Rattle.base.specs.Lists.{begins}
 use Rattle.base.proofs.Tests.{refuted}
 use Rattle.base.proofs.Members.{drop-take, length-each, getD-each}
-use Rattle.base.proofs.Begins.{begins-length, begins-first, begins-parts}
+use Rattle.base.proofs.Begins.{begins-length, begins-first}
 use Rattle.rules.specs.Names.{folded, foldedText, spanned, name, nameAt, restOf, restAt}
 use Rattle.rules.proofs.Lawful.{by-starts}
 use Rattle.table.specs.declared.names.Span.{Span}
@@ -42,40 +42,45 @@ module _ (text starts : List ℕ) (i : ℕ) where
       let s = by-starts text starts i h f o in
       record { forward = f; inside = o; holds = rw s; begins = rw s; fits = k }
 
--- a loop that holds a typed text against a name no shorter, from the last letter down: the first i letters are left, and decide
+-- a loop that holds a typed text against a name no shorter: what is left of both decides
 pub record Matching (typed name : List ℕ) (i : ℕ) : Type 0 where
-  pub within : i ≤ length typed
-  pub rest : begins (foldedText typed) name ≡ begins (take i (foldedText typed)) name
+  pub rest : begins (foldedText typed) name ≡ begins (drop i (foldedText typed)) (drop i name)
 
 module _ (typed name : List ℕ) where
-  pub match-begins : Matching typed name (length typed)
-  match-begins = record { within = omega arith; rest = rw (take-all (length typed) (foldedText typed) (omega (arith, length-each folded typed))) }
+  pub match-begins : Matching typed name 0
+  match-begins = record { rest = refl }
 
-  -- the last letter that is left, and those before it
-  match-last : (i : ℕ) → i < length typed → i < length name
-      → begins (take (suc i) (foldedText typed)) name ≡ begins (take i (foldedText typed)) name && eqb (folded (getD typed i 0)) (getD name i 0)
-  match-last i more long =
-      let within : i < length (foldedText typed) = omega (arith, length-each folded typed) in
-      rw
-      (take-suc (foldedText typed) i 0 within, begins-parts (take i (foldedText typed)) _ name, length-take-le i (foldedText typed) (omega arith), drop-cons name i 0 long, getD-each folded typed i 0 0 more, and-true)
+  pub match-ends : (i : ℕ) → length typed ≤ i → Matching typed name i → true ≡ begins (foldedText typed) name
+  match-ends i h m =
+      let past : length (foldedText typed) ≤ i = omega (arith, length-each folded typed) in
+      sym (m .rest ∙ rw (drop-of-length-le (foldedText typed) past))
 
-  module _ (i : ℕ) (m : Matching typed name i) where
-    pub match-ends : i ≤ 0 → true ≡ begins (foldedText typed) name
-    match-ends h = let e : i ≡ 0 = omega arith in sym (m .rest ∙ rw e)
+  -- one letter
+  module _ (i : ℕ) (more : i < length typed) (long : length typed ≤ length name) (m : Matching typed name i) where
+    match-letter : begins (foldedText typed) name ≡ eqb (folded (getD typed i 0)) (getD name i 0) && begins (drop (i + 1) (foldedText typed)) (drop (i + 1) name)
+    match-letter =
+        m .rest ∙ rw (drop-cons (foldedText typed) i 0 (omega (arith, length-each folded typed)), drop-cons name i 0 (omega arith), getD-each folded typed i 0 0 more, add-one)
 
-    -- one letter, however it was read
-    module _ (more : 0 < i) (long : length typed ≤ length name) (letter : ℕ) (read : letter ≡ folded (getD typed (i - 1) 0)) where
-      match-letter : begins (foldedText typed) name ≡ begins (take (i - 1) (foldedText typed)) name && eqb letter (getD name (i - 1) 0)
-      match-letter =
-          let e : i ≡ suc (i - 1) = omega arith in
-          let w = m .within in
-          m .rest ∙ ap (λ k. begins (take k (foldedText typed)) name) e ∙ rw read (match-last (i - 1) (omega arith) (omega arith))
+    pub match-on : eqb (folded (getD typed i 0)) (getD name i 0) ≡ true → Matching typed name (i + 1)
+    match-on e = record { rest = match-letter ∙ rw e }
 
-      pub match-on : letter ≡ getD name (i - 1) 0 → Matching typed name (i - 1)
-      match-on e = record { within = omega (arith, m .within); rest = match-letter ∙ rw (eq-eqb _ _ e, and-true) }
+    pub match-off : eqb (folded (getD typed i 0)) (getD name i 0) ≡ false → false ≡ begins (foldedText typed) name
+    match-off e = sym (match-letter ∙ rw e)
 
-      pub match-off : (letter ≡ getD name (i - 1) 0 → ⊥) → false ≡ begins (foldedText typed) name
-      match-off e = sym (match-letter ∙ rw (ne-eqb _ _ e, and-false))
+-- the same by twos, behind an odd letter
+pub record Pairing (typed name : List ℕ) (i : ℕ) : Type 0 where
+  pub matched : Matching typed name i
+  pub pairs : ℕ
+  pub whole : length typed ≡ i + pairs + pairs
+
+module _ (typed name : List ℕ) where
+  pub pair-begins : (i : ℕ) → i ≡ length typed % 2 → Matching typed name i → Pairing typed name (length typed % 2)
+  pair-begins i e m = record { matched = rw e at m; pairs = length typed / 2; whole = omega arith }
+
+  pub pair-on : (i : ℕ) → i < length typed → Matching typed name (i + 1 + 1) → Pairing typed name i → Pairing typed name (i + 2)
+  pair-on i h m p =
+      let e : i + 1 + 1 ≡ i + 2 = omega arith in
+      record { matched = rw e at m; pairs = p .pairs - 1; whole = omega (arith, p .whole) }
 
 -- the rest of a name, by the span that holds the name
 module _ (text starts : List ℕ) (i : ℕ) (s : Span) (w : Spans text starts i s) (typed : List ℕ) where

@@ -11,14 +11,12 @@ ghost use Rattle.base.specs.Lists.{all};
 ghost use Rattle.rules.specs.Numbers.{verdictNumber};
 ghost use Rattle.rules.specs.Names.{allowed, foldedText, textRefusal};
 
-// What is judged is the byte folded. One that is allowed as it stands is itself when folded, which spares the fold; from the last byte down,
-// which takes an instruction less at each.
+// What is judged is the byte folded. One that is allowed as it stands is itself when folded, which spares the fold.
 fn typed_allowed(typed: &[u8]) -> bool
     ensures { λ r. ⌜ r ≡ all allowed (foldedText (given typed)) ⌝ }
 {
-    let mut i = typed.len();
-    while 0 < i {
-        i -= 1;
+    let mut i = 0;
+    while i < typed.len() {
         let byte = typed[i];
         if !allowed(byte) {
             let letter = folded(byte);
@@ -26,6 +24,7 @@ fn typed_allowed(typed: &[u8]) -> bool
                 return false;
             }
         }
+        i += 1;
     }
     true
 }

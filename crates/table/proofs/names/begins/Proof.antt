@@ -1,15 +1,48 @@
--- `names::begins` holds letter against letter, from the last one down: the invariant is Matching.
+-- `names::begins` holds letter against letter, behind an odd one by twos: the invariant is Pairing.
 -- Assumes nothing.
+use Prim.Native.Nat.{_-_}
+use mathlib.Core.Logic.{⊎-elim}
+use lib.ListN.{length}
 use borrow.Author.Needs.{needs}
-use Rattle.table.proofs.Parts.{Matching, match-begins, match-ends, match-on, match-off}
+use Rattle.base.proofs.Tests.{breaks, holds}
+use Rattle.table.proofs.Parts.{Pairing, match-begins, match-ends, match-on, match-off, pair-begins, pair-on}
 use Rattle.table.proofs.names.begins.Statement.{statement}
 use Rattle.table.proofs.names.begins.Tie as tie
 
 abbrev Inv-loop : tie.InvT-loop
-Inv-loop name typed i₀ i = Matching typed name i
+Inv-loop name typed i₀ i = Pairing typed name i
 
 abbrev μ-loop : tie.MeasureT-loop
-μ-loop name typed i₀ i = i
+μ-loop name typed i₀ i = length typed - i
+
+returns : tie.Need-returns Inv-loop μ-loop
+returns c =
+    let args = c .before .before .before .before .before .args in
+    match-off (args .typed .now) (args .name .now) 0 (search needs) (search needs) (match-begins _ _) (breaks _ _ (c .before .same-letter .ensures) (c .if2 .taken))
+
+loop-holds : tie.Need-loop-holds Inv-loop μ-loop
+loop-holds c =
+    ⊎-elim
+    (λ w. pair-begins _ _ 1 (search needs) (match-on _ _ 0 (search needs) (search needs) (match-begins _ _) (holds _ _ (w .1 .ensures) (w .2 .left))))
+    (λ w. pair-begins _ _ 0 (search needs) (match-begins _ _))
+    (c .if1 .came)
+
+returns-2 : tie.Need-returns-2 Inv-loop μ-loop
+returns-2 c =
+    match-off _ _ _ (search needs) (search needs) (c .before .before .before .loop .inv .matched) (breaks _ _ (c .before .same-letter2 .ensures) (c .if3 .taken))
+
+returns-3 : tie.Need-returns-3 Inv-loop μ-loop
+returns-3 c =
+    let turn = c .before .before in
+    match-off _ _ _ (search needs) (search needs) (match-on _ _ _ (search needs) (search needs) (turn .before .before .before .loop .inv .matched) (holds _ _ (turn .before .same-letter2 .ensures) (turn .if3 .left)))
+    (breaks _ _ (c .before .same-letter3 .ensures) (c .if4 .taken))
+
+loop-again : tie.Need-loop-again Inv-loop μ-loop
+loop-again c =
+    let turn = c .before .before in
+    pair-on _ _ _ (search needs)
+    (match-on _ _ _ (search needs) (search needs) (match-on _ _ _ (search needs) (search needs) (turn .before .before .before .loop .inv .matched) (holds _ _ (turn .before .same-letter2 .ensures) (turn .if3 .left))) (holds _ _ (c .before .same-letter3 .ensures) (c .if4 .left)))
+    (turn .before .before .before .loop .inv)
 
 pub begins-spec : {M : Type 1} → statement M
 begins-spec =
@@ -17,17 +50,15 @@ begins-spec =
     (tie.spec
     Inv-loop
     μ-loop
-    (λ c. search (needs, match-begins))
-    (λ c. search needs)
+    (λ c κs. search needs)
+    returns
+    loop-holds
+    (λ c κs. search needs)
+    returns-2
     (λ c. search needs)
     (λ c κs. search needs)
+    returns-3
     (λ c. search needs)
-    (λ c. search (needs, match-off, c .before .before .before .plain .ensures (c .before .before .if1 .taken)))
     (λ c. search needs)
-    (λ c. search (needs, match-on, c .before .before .before .plain .ensures (c .before .before .if1 .taken)))
-    (λ c κs. search needs)
-    (λ c. search needs)
-    (λ c. search (needs, match-off))
-    (λ c. search needs)
-    (λ c. search (needs, match-on))
-    (λ c. search (needs, match-ends)))
+    loop-again
+    (λ c. match-ends _ _ _ (search needs) (c .before .loop .inv .matched)))
