@@ -32,7 +32,7 @@ const WHATS: [(&str, &str); 8] = [
     ("range", "range, 3 letters"),
     ("typing", "a name typed, all letters"),
     ("rest", "the rest of a name, 3 letters"),
-    ("unlike", "of one that does not begin so"),
+    ("unlike", "the rest of a name that begins otherwise"),
     ("build", "build"),
     ("check", "check"),
 ];
