@@ -26,13 +26,14 @@ use villages::QUESTIONS;
 
 const SIZES: [usize; 3] = [64, 256, 1_024];
 
-const WHATS: [(&str, &str); 8] = [
+const WHATS: [(&str, &str); 9] = [
     ("ranked", "ranked, 3 letters, k = 5"),
     ("whole", "ranked, a whole name, k = 5"),
     ("range", "range, 3 letters"),
     ("typing", "a name typed, all letters"),
     ("rest", "the rest of a name, 3 letters"),
-    ("unlike", "the rest of a name that begins otherwise"),
+    ("unlike-odd", "of one that begins otherwise, 3 letters"),
+    ("unlike-even", "of one that begins otherwise, 4 letters"),
     ("build", "build"),
     ("check", "check"),
 ];
@@ -56,7 +57,7 @@ fn indexed(stands: usize, counted: Who) -> Owned {
 fn counted(what: &str, who: &str) -> String {
     match (what, who) {
         ("whole", _) => counted("ranked", who),
-        ("unlike", _) => counted("rest", who),
+        ("unlike-odd" | "unlike-even", _) => counted("rest", who),
         ("typing", "finder") => String::from("krz_type"),
         ("typing", "plain") => String::from("figures::plain::any"),
         ("typing", "port") => String::from("figures::port::type_byte"),

@@ -119,7 +119,8 @@ pub fn round(what: &str, who: Who, t: &mut Owned, asked: &[Question]) -> Vec<u64
             "ranked" => ranked(who, &set, letters, q),
             "whole" => ranked(who, &set, name, q),
             "rest" => rest(who, &set, letters, q.stand),
-            "unlike" => rest(who, &set, letters, far_from(q.stand, set.score.len())),
+            "unlike-odd" => rest(who, &set, letters, far_from(q.stand, set.score.len())),
+            "unlike-even" => rest(who, &set, &name[..4.min(name.len())], far_from(q.stand, set.score.len())),
             _ => typing(who, &set, name),
         }
     };

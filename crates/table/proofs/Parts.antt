@@ -67,15 +67,15 @@ module _ (typed name : List ℕ) where
     pub match-off : eqb (folded (getD typed i 0)) (getD name i 0) ≡ false → false ≡ begins (foldedText typed) name
     match-off e = sym (match-letter ∙ rw e)
 
--- the same by twos, behind an odd letter
+-- the same by twos: the letters left are so many pairs
 pub record Pairing (typed name : List ℕ) (i : ℕ) : Type 0 where
   pub matched : Matching typed name i
   pub pairs : ℕ
   pub whole : length typed ≡ i + pairs + pairs
 
 module _ (typed name : List ℕ) where
-  pub pair-begins : (i : ℕ) → i ≡ length typed % 2 → Matching typed name i → Pairing typed name (length typed % 2)
-  pair-begins i e m = record { matched = rw e at m; pairs = length typed / 2; whole = omega arith }
+  pub pair-begins : (i k : ℕ) → k ≡ i → i ≤ length typed → (length typed - i) % 2 ≡ 0 → Matching typed name i → Pairing typed name k
+  pair-begins i k e h even m = record { matched = rw e m; pairs = (length typed - i) / 2; whole = omega arith }
 
   pub pair-on : (i : ℕ) → i < length typed → Matching typed name (i + 1 + 1) → Pairing typed name i → Pairing typed name (i + 2)
   pair-on i h m p =

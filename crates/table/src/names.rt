@@ -107,17 +107,24 @@ fn same_letter(name: &[u8], typed: &[u8], i: usize) -> bool
     true
 }
 
-// Whether a name, or as much of one as was typed, begins with a typed text. Behind an odd letter the others go by twos, which makes up
-// for what reading a letter costs.
+// Whether a name, or as much of one as was typed, begins with a typed text. Most names that do not differ at the first letter, which is
+// told before all else. The others go by twos, behind an odd one, which makes up for what reading a letter costs.
 fn begins(name: &[u8], typed: &[u8]) -> bool
     requires { ⌜ length (now typed) ≤ length (now name) ⌝ }
     ensures { λ r. ⌜ r ≡ begins (foldedText (given typed)) (given name) ⌝ }
 {
-    let mut i = typed.len() % 2;
-    if i == 1 {
-        if !same_letter(name, typed, 0) {
+    if typed.len() == 0 {
+        return true;
+    }
+    if !same_letter(name, typed, 0) {
+        return false;
+    }
+    let mut i = 1;
+    if typed.len() % 2 == 0 {
+        if !same_letter(name, typed, 1) {
             return false;
         }
+        i = 2;
     }
     while i < typed.len() {
         if !same_letter(name, typed, i) {
