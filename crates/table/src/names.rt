@@ -107,8 +107,8 @@ fn same_letter(name: &[u8], typed: &[u8], i: usize) -> bool
     true
 }
 
-// Whether a name, or as much of one as was typed, begins with a typed text. Most names that do not differ at the first letter, which is
-// told before all else. The others go by twos, behind an odd one, which makes up for what reading a letter costs.
+// Whether a name, or as much of one as was typed, begins with a typed text. The first letter goes alone, so that a name that differs there
+// is told at once; the others go by twos, which makes up for what reading a letter costs.
 fn begins(name: &[u8], typed: &[u8]) -> bool
     requires { ⌜ length (now typed) ≤ length (now name) ⌝ }
     ensures { λ r. ⌜ r ≡ begins (foldedText (given typed)) (given name) ⌝ }
