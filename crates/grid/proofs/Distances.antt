@@ -1,5 +1,5 @@
--- Distances in the grid are below its diagonal, and no place of a cell is nearer than the cell's nearest metre.
--- Across and along apart, each leg below the grid's side. Assumes nothing.
+-- Each leg of a way in the grid is below the grid's side, and no place of a cell is nearer than the cell's nearest metre.
+-- Across and along apart. Assumes nothing.
 use mathlib.Core.Path.{_≡_}
 use mathlib.Core.Logic.{⊎-elim}
 use mathlib.Core.Bool.{true}
@@ -12,29 +12,14 @@ use Rattle.base.proofs.Tests.{le-or-lt}
 use Rattle.rules.specs.declared.Grid.{Grid}
 use Rattle.rules.specs.declared.Place.{Place}
 use Rattle.rules.specs.Places.{lifted, within, inGrid, strip, regionOf}
-use Rattle.rules.specs.Worth.{apart, squared, distance², diagonal², nearest, nearestIn, regionDistance²}
+use Rattle.rules.specs.Worth.{apart, distance², distance, nearest, nearestIn, regionDistance², regionDistance}
 use Rattle.rules.proofs.Places.{from-edge, before-end, east-inside, north-inside, column-back, row-back}
-use Rattle.grid.proofs.Squares.{square-less, square-most, side-squared}
-
--- two legs that are each below the grid's side
-below-diagonal : (g : Grid) (a b : ℕ) → a < 8 * g .cell → b < 8 * g .cell → squared a + squared b < diagonal² g
-unfolding diagonal²
-below-diagonal g a b ha hb =
-    let side = 8 * g .cell in
-    omega (arith, square-less a side ha, square-less b side hb, side-squared (g .cell))
+use Rattle.rules.proofs.Roots.{square-most, root-order}
 
 -- two coordinates of the grid
 pub legs-less : (o : ℤ) (c : ℕ) (x y : ℤ) → within o c x ≡ true → within o c y ≡ true → apart (lifted x) (lifted y) < 8 * c
 legs-less o c x y hx hy =
     omega (arith, from-edge o c x hx, before-end o c x hx, from-edge o c y hy, before-end o c y hy)
-
--- for the reader: d is below D for any two places of the grid, so that D − d loses nothing
-pub distance-below-diagonal : (g : Grid) (p q : Place) → inGrid g p ≡ true → inGrid g q ≡ true → distance² p q < diagonal² g
-unfolding distance²
-distance-below-diagonal g p q hp hq =
-    below-diagonal g _ _
-    (legs-less (g .west) (g .cell) (p .east) (q .east) (east-inside g p hp) (east-inside g q hq))
-    (legs-less (g .south) (g .cell) (p .north) (q .north) (north-inside g p hp) (north-inside g q hq))
 
 -- the nearest metre, by where x lies
 module _ (low c x : ℕ) where
@@ -75,14 +60,6 @@ gap-less o c k x some h inside =
     let there = nearest-in (lifted o + k * c) c (lifted x) some in
     omega (arith, from-edge o c x inside, before-end o c x inside)
 
--- the nearest metre of any cell too is nearer than D
-pub region-below-diagonal : (g : Grid) (r : ℕ) (p : Place) → 0 < g .cell → r < 64 → inGrid g p ≡ true → regionDistance² g r p < diagonal² g
-unfolding regionDistance²
-region-below-diagonal g r p some h inside =
-    below-diagonal g _ _
-    (gap-less (g .west) (g .cell) (r % 8) (p .east) some (omega arith) (east-inside g p inside))
-    (gap-less (g .south) (g .cell) (r / 8) (p .north) some (omega arith) (north-inside g p inside))
-
 -- a coordinate y of the grid is no nearer to x than the nearest metre of its own column or row
 gap-least : (o : ℤ) (c : ℕ) (x y : ℤ) → 0 < c → within o c y ≡ true → apart (nearestIn o c (strip o c y) x) (lifted x) ≤ apart (lifted y) (lifted x)
 gap-least o c x y some inside =
@@ -92,10 +69,11 @@ gap-least o c x y some inside =
     (omega (arith, from-edge o c y inside, lt-div-mul-add {a = into} {b = c} some))
 
 -- no place of a region's cell is nearer than the nearest metre of that cell
-pub cell-least : (g : Grid) (q p : Place) → 0 < g .cell → inGrid g q ≡ true → regionDistance² g (regionOf g q) p ≤ distance² q p
-unfolding regionDistance² distance²
+pub cell-least : (g : Grid) (q p : Place) → 0 < g .cell → inGrid g q ≡ true → regionDistance g (regionOf g q) p ≤ distance q p
+unfolding regionDistance² regionDistance distance² distance
 cell-least g q p some inside =
     rw (column-back g q some inside, row-back g q some inside)
+    (root-order _ _
     (add-le-add
     (square-most _ _ (gap-least (g .west) (g .cell) (p .east) (q .east) some (east-inside g q inside)))
-    (square-most _ _ (gap-least (g .south) (g .cell) (p .north) (q .north) some (north-inside g q inside))))
+    (square-most _ _ (gap-least (g .south) (g .cell) (p .north) (q .north) some (north-inside g q inside)))))

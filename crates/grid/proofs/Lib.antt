@@ -1,9 +1,11 @@
--- Laws of signed metres, places, distances, values and sets of regions; and what the rectangle's regions and the bounds are good for.
+-- Laws of signed metres, places, roots, ways, values and sets of regions; and what the rectangle's regions and the bounds are good for.
 pub mod Signed
 pub mod Floors
 pub mod Compared
 pub mod Squares
 pub mod Distances
+pub mod Rooting
+pub mod Ways
 pub mod Values
 pub mod Spans
 pub mod Rows

@@ -1,3 +1,3 @@
 -- What the code of this crate computes; what is meant stands in the crate `rules`.
-pub mod Weights
+pub mod Ways
 pub mod Cells

@@ -1,5 +1,5 @@
 // Where a place lies in the grid of 8 by 8 regions, and whether grid and place are within their limits.
-// Distances and values are in `worth`, a rectangle's regions in `cells`, signed metres in `metres`.
+// Ways and values are in `worth`, roots in `roots`, a rectangle's regions in `cells`, signed metres in `metres`.
 ghost use mathlib.Core.Path.{_≡_};
 ghost use mathlib.Core.Bool.{true};
 ghost use Prim.Native.Nat.{_<_};
@@ -8,6 +8,7 @@ ghost use Rattle.rules.specs.Places.{edgeLawful, gridLawful, within, inGrid, st
 
 pub mod cells;
 mod metres;
+mod roots;
 pub mod worth;
 
 use metres::lift;

@@ -22,10 +22,10 @@ pub(crate) fn apart(a: u64, b: u64) -> u64
     if a < b { b - a } else { a - b }
 }
 
-pub(crate) fn metres_between(a: i32, b: i32) -> u64
+pub(crate) fn metres_between(a: i32, b: i32) -> u32
     ensures { λ r. ⌜ r ≡ apart (lifted a) (lifted b) ⌝ }
 {
-    apart(lift(a), lift(b))
+    apart(lift(a), lift(b)) as u32
 }
 
 fn difference(x: i32, origin: i32) -> i64

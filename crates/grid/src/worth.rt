@@ -1,79 +1,86 @@
-// Squared distances, the grid's squared diagonal, and the value of a stand with the bound of a region.
-// All of it fits 64 bits on a lawful grid, for places in it, a score to 1,000 and a weight to 16.
+// Ways in the grid and their lengths, the grid's diagonal, and what a stand is worth at the end of a way.
+// Lengths and values fit 32 bits on a lawful grid, for places in it, a score to 1,000 and a weight to 16.
 ghost use mathlib.Core.Path.{_≡_};
 ghost use mathlib.Core.Bool.{true};
 ghost use Prim.Native.Nat.{_+_, _*_, _≤_, _<_};
 ghost use Rattle.rules.specs.Places.{gridLawful, lifted};
-ghost use Rattle.rules.specs.Worth.{apart, squared, distance², diagonal², nearest, nearestIn, regionDistance², valueAt, valueOf, boundOf};
-ghost use Rattle.grid.specs.Weights.{Weighable, BothIn, SeenFrom, Strip};
+ghost use Rattle.rules.specs.Worth.{apart, squared, diagonal, nearest, nearestIn, valueAt};
+ghost use Rattle.grid.specs.Ways.{wayBetween, wayToRegion, longerLeg, wayLength, Short, SeenFrom, Strip, Weighable};
 use super::metres::apart;
 use super::metres::lift;
 use super::metres::metres_between;
+use super::roots::root;
 use rules::Grid;
 use rules::Place;
 use rules::Ranking;
 use rules::Stand;
 
-// D, the squared diagonal.
-pub fn diagonal(grid: Grid) -> u64
+// So many metres east or west, and so many north or south.
+pub struct Way {
+    pub across: u32,
+    pub along: u32,
+}
+
+// D, the grid's diagonal.
+pub fn diagonal(grid: Grid) -> u32
     requires { ⌜ gridLawful grid ≡ true ⌝ }
-    ensures { λ r. ⌜ r ≡ diagonal² grid ⌝ }
+    ensures { λ r. ⌜ r ≡ diagonal grid ⌝ }
 {
     let cell = grid.cell as u64;
-    128 * (cell * cell)
+    root(128 * (cell * cell))
 }
 
-// The squared distance of two places of the grid.
-pub fn distance(grid: Grid, a: Place, b: Place) -> u64
-    requires { ⌜ BothIn grid a b ⌝ }
-    ensures { λ r. ⌜ r ≡ distance² a b ⌝ }
+pub fn way_between(a: Place, b: Place) -> Way
+    ensures { λ r. ⌜ r ≡ wayBetween a b ⌝ }
 {
-    squares(
-        metres_between(a.east, b.east),
-        metres_between(a.north, b.north),
-    )
+    Way {
+        across: metres_between(a.east, b.east),
+        along: metres_between(a.north, b.north),
+    }
 }
 
-// The squared distance from a place of the grid to the nearest metre of a region's cell.
-pub fn region_distance(grid: Grid, region: u32, place: Place) -> u64
+// From the nearest metre of a region's cell to a place of the grid.
+pub fn way_to_region(grid: Grid, region: u32, place: Place) -> Way
     requires { ⌜ SeenFrom grid region place ⌝ }
-    ensures { λ r. ⌜ r ≡ regionDistance² grid region place ⌝ }
+    ensures { λ r. ⌜ r ≡ wayToRegion grid region place ⌝ }
 {
     let across = gap(grid.west, grid.cell, region % Grid::SIDE, place.east);
     let along = gap(grid.south, grid.cell, region / Grid::SIDE, place.north);
-    squares(across, along)
+    Way {
+        across: across as u32,
+        along: along as u32,
+    }
 }
 
-// A value by weight, score and squared distance.
-fn value_at(grid: Grid, weight: u32, score: u32, distance: u64) -> u64
-    requires { ⌜ (Weighable grid weight score) × (distance ≤ diagonal² grid) ⌝ }
-    ensures { λ r. ⌜ r ≡ valueAt grid weight score distance ⌝ }
+// No way is shorter than this, and it takes no root.
+pub fn longer_leg(way: Way) -> u32
+    ensures { λ r. ⌜ r ≡ longerLeg way ⌝ }
 {
-    let whole = diagonal(grid);
-    let by_score = (weight as u64) * (score as u64) * whole;
-    let by_place = ((Ranking::WEIGHT_MOST - weight) as u64)
-        * (whole - distance)
-        * (Stand::SCORE_MOST as u64);
+    if way.across < way.along {
+        return way.along;
+    }
+    way.across
+}
+
+// How long a way is, in whole metres.
+pub fn length(way: Way) -> u32
+    requires { ⌜ Short way ⌝ }
+    ensures { λ r. ⌜ r ≡ wayLength way ⌝ }
+{
+    root(squares(way.across as u64, way.along as u64))
+}
+
+// A value by D, weight, score and distance.
+pub fn value_at(diagonal: u32, weight: u32, score: u32, distance: u32) -> u32
+    requires { ⌜ (Weighable diagonal weight score) × (distance ≤ diagonal) ⌝ }
+    ensures { λ r. ⌜ r ≡ valueAt diagonal weight score distance ⌝ }
+{
+    let by_score = weight * score * diagonal;
+    let by_place = (Ranking::WEIGHT_MOST - weight) * (diagonal - distance) * Stand::SCORE_MOST;
     by_score + by_place
 }
 
-// The value of a stand for one who asks at a place.
-pub fn value(grid: Grid, weight: u32, score: u32, stand: Place, place: Place) -> u64
-    requires { ⌜ (Weighable grid weight score) × (BothIn grid stand place) ⌝ }
-    ensures { λ r. ⌜ r ≡ valueOf grid weight score stand place ⌝ }
-{
-    value_at(grid, weight, score, distance(grid, stand, place))
-}
-
-// The most that a stand of a region, with a score up to this one, is worth there.
-pub fn bound(grid: Grid, weight: u32, score: u32, region: u32, place: Place) -> u64
-    requires { ⌜ (Weighable grid weight score) × (SeenFrom grid region place) ⌝ }
-    ensures { λ r. ⌜ r ≡ boundOf grid weight score region place ⌝ }
-{
-    value_at(grid, weight, score, region_distance(grid, region, place))
-}
-
-// The square of a way that goes across and then along.
+// The square of a way's length.
 fn squares(across: u64, along: u64) -> u64
     requires { ⌜ (across < 65536) × (along < 65536) ⌝ }
     ensures { λ r. ⌜ r ≡ squared across + squared along ⌝ }

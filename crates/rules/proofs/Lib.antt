@@ -1,7 +1,8 @@
--- What holds of the definitions: the small scheme, places of a grid, the order of names, folded texts, lawful tables,
+-- What holds of the definitions: the small scheme, places of a grid, roots, the order of names, folded texts, lawful tables,
 -- and that answers are told apart by their numbers.
 pub mod Scheme
 pub mod Places
+pub mod Roots
 pub mod Orders
 pub mod Bytes
 pub mod Folds

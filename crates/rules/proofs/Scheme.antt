@@ -3,7 +3,7 @@ use mathlib.Core.Path.{refl}
 use Rattle.base.specs.Lists.{every}
 use Rattle.base.specs.Bits.{wordOf}
 use Rattle.rules.specs.Places.{edgeLawful, gridLawful, within, inGrid, regionOf, regions, inRect}
-use Rattle.rules.specs.Worth.{distance², diagonal², valueAt, valueOf}
+use Rattle.rules.specs.Worth.{rootFrom, root, distance², distance, diagonal², diagonal, valueAt, valueOf}
 use Rattle.rules.specs.Names.{allowed, capital, folded, nameAllowed, spanned, name, restOf}
 use Rattle.rules.specs.Tables.{rising, shapeLawful, namesAllowed, namesInOrder, standLawful, standsLawful, tableRefusal}
 use Rattle.rules.specs.Questions.{under, regionOfStand}
@@ -12,7 +12,7 @@ use Rattle.rules.specs.Sessions.{sessionOf, typeRefusal}
 use Rattle.rules.specs.Scheme.{SmallScheme}
 
 pub small-scheme : SmallScheme
-unfolding every wordOf edgeLawful gridLawful within inGrid regionOf regions inRect distance² diagonal² valueAt valueOf allowed capital folded nameAllowed spanned name restOf rising shapeLawful namesAllowed namesInOrder standLawful standsLawful tableRefusal under regionOfStand beginnings sessionOf typeRefusal
+unfolding every wordOf edgeLawful gridLawful within inGrid regionOf regions inRect rootFrom root distance² distance diagonal² diagonal valueAt valueOf allowed capital folded nameAllowed spanned name restOf rising shapeLawful namesAllowed namesInOrder standLawful standsLawful tableRefusal under regionOfStand beginnings sessionOf typeRefusal
 small-scheme =
     record {
       lawful = refl;

@@ -11,7 +11,7 @@ use Rattle.rules.specs.declared.Rect.{Rect}
 use Rattle.rules.specs.declared.Ranking.{Ranking}
 use Rattle.rules.specs.declared.Hit.{Hit}
 use Rattle.rules.specs.declared.Session.{Session}
-use Rattle.rules.specs.Worth.{diagonal²}
+use Rattle.rules.specs.Worth.{diagonal}
 use Rattle.rules.specs.Names.{foldedText, restOf}
 use Rattle.rules.specs.Tables.{Table, tableRefusal}
 use Rattle.rules.specs.Questions.{regionOfStand, rangeList, rankedList}
@@ -60,7 +60,7 @@ session text len path = record { text = text; len = len; path = path }
 
 pub record SmallScheme : Type 0 where
   pub lawful : tableRefusal table grid ≡ 0
-  pub diagonal : diagonal² grid ≡ 12800
+  pub diagonal : diagonal grid ≡ 113
   pub line1-regions : each (regionOfStand grid table) (upTo 5) ≡ 0 ∷ 63 ∷ 1 ∷ 0 ∷ 1 ∷ []
   pub line1-order : orderWords table grid ≡ 0 ∷ 3 ∷ 2 ∷ 4 ∷ 1 ∷ []
   pub line2-nodes : nodeCount table ≡ 12
@@ -72,9 +72,9 @@ pub record SmallScheme : Type 0 where
   pub line5-narrower : rangeList table grid ki (box 0 11 0 9) ≡ 0 ∷ 3 ∷ []
   pub line6 : rangeList table grid [] (box 12 12 5 5) ≡ 2 ∷ []
   pub line6-none : (r : Rect) → rangeList table grid kiz r ≡ []
-  pub line7 : rankedList table grid ki (asked 0 2) ≡ hit 0 204800000 ∷ hit 3 204288000 ∷ []
-  pub line8 : rankedList table grid ki (asked 16 2) ≡ hit 1 184320000 ∷ hit 2 81920000 ∷ []
-  pub line9 : rankedList table grid ki (asked 8 4) ≡ hit 3 143104000 ∷ hit 2 142968000 ∷ hit 1 116160000 ∷ hit 0 112640000 ∷ []
+  pub line7 : rankedList table grid ki (asked 0 2) ≡ hit 0 1808000 ∷ hit 3 1728000 ∷ []
+  pub line8 : rankedList table grid ki (asked 16 2) ≡ hit 1 1627200 ∷ hit 2 723200 ∷ []
+  pub line9 : rankedList table grid ki (asked 8 4) ≡ hit 3 1225600 ∷ hit 2 1209600 ∷ hit 0 994400 ∷ hit 1 933600 ∷ []
   pub line10 : numbersOf (rankedList table grid [] (asked 0 3)) ≡ 0 ∷ 3 ∷ 4 ∷ []
   pub line11-ki : sessionOf table ki ≡ session (107 ∷ 105 ∷ replicate 22 0) 2 (0 ∷ 1 ∷ 2 ∷ replicate 22 0)
   pub line11-kiz : sessionOf table kiz ≡ session (107 ∷ 105 ∷ 122 ∷ replicate 21 0) 3 (0 ∷ 1 ∷ 2 ∷ replicate 22 0)
