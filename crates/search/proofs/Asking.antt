@@ -1,4 +1,4 @@
--- What a search takes for granted, part by part; and that a key has room for each value and each bound.
+-- What a search takes for granted, part by part; and that a key has room for what is found in the grid.
 -- Assumes nothing.
 use mathlib.Core.Path.{_≡_}
 use mathlib.Core.Bool.{true}
@@ -7,14 +7,14 @@ use native.Mathlib.Omega.{arith}
 use borrow.Author.Tests.{leb-true}
 use Rattle.base.proofs.Tests.{every-at}
 use Rattle.rules.specs.declared.Grid.{Grid}
-use Rattle.rules.specs.declared.Place.{Place}
 use Rattle.rules.specs.declared.Ranking.{Ranking}
 use Rattle.rules.specs.Places.{inGrid}
-use Rattle.rules.specs.Worth.{valueAt, valueOf, boundOf}
+use Rattle.rules.specs.Worth.{diagonal}
 use Rattle.rules.specs.Questions.{rankingLawful}
-use Rattle.grid.specs.Weights.{Weighable}
-use Rattle.grid.proofs.Values.{by-score-most, by-place-most}
-use Rattle.search.specs.Searches.{Asks}
+use Rattle.grid.specs.declared.worth.Way.{Way}
+use Rattle.grid.specs.Ways.{wayLength, WayIn}
+use Rattle.grid.proofs.Ways.{diagonal-most, length-most}
+use Rattle.search.specs.Searches.{Asks, Keyable}
 
 module _ (g : Grid) (q : Ranking) (a : Asks g q) where
   pub asked-inside : inGrid g (q .place) ≡ true
@@ -29,20 +29,16 @@ module _ (g : Grid) (q : Ranking) (a : Asks g q) where
   unfolding rankingLawful
   few-asked = leb-true (q .k) 16 (every-at _ 3 (a .ranking))
 
-  pub weighable : (score : ℕ) → score ≤ 1000 → Weighable g (q .weight) score
-  unfolding rankingLawful
-  weighable score h = record { lawful = a .grid; weight = leb-true (q .weight) 16 (every-at _ 1 (a .ranking)); score = h }
-
-  at-most : (score d : ℕ) → score ≤ 1000 → valueAt g (q .weight) score d < 9007199254740992
-  unfolding valueAt
-  at-most score d h =
-      let w = weighable score h in
-      omega (arith, by-score-most g (q .weight) score w, by-place-most g (q .weight) score w d)
-
-  pub value-most : (score : ℕ) (stand : Place) → score ≤ 1000 → valueOf g (q .weight) score stand (q .place) < 9007199254740992
-  unfolding valueOf
-  value-most score stand h = at-most score _ h
-
-  pub bound-most : (score region : ℕ) → score ≤ 1000 → boundOf g (q .weight) score region (q .place) < 9007199254740992
-  unfolding boundOf
-  bound-most score region h = at-most score _ h
+  module _ (D : ℕ) (whole : D ≡ diagonal g) where
+    pub keyable : (score stand : ℕ) (w : Way) → score ≤ 1000 → stand < 1024 → WayIn g w → Keyable D q score (wayLength w) stand
+    unfolding rankingLawful
+    keyable score stand w h below inside =
+        record {
+          weighs = record {
+            whole = omega (arith, diagonal-most g (a .grid));
+            weight = leb-true (q .weight) 16 (every-at _ 1 (a .ranking));
+            score = h;
+          };
+          near = omega (arith, length-most g w inside);
+          below = below;
+        }

@@ -2,6 +2,7 @@
 pub mod Asking
 pub mod Reading
 pub mod Keeping
+pub mod Legs
 pub mod Offering
 pub mod Taking
 pub mod Writing

@@ -33,22 +33,22 @@ module _ (c : StandColumns) (g : Grid) (q : Ranking) where
       }
 
 -- at place i of the order with n held, short of the place past
-pub record Offering (c : StandColumns) (g : Grid) (q : Ranking) (order : List ℕ) (past : ℕ) (whole : Search) (room : List ℕ) (n i : ℕ) : Type 0 where
-  pub searching : Searching g q room n
+pub record Offering (c : StandColumns) (g : Grid) (D : ℕ) (q : Ranking) (order : List ℕ) (past : ℕ) (whole : Search) (room : List ℕ) (n i : ℕ) : Type 0 where
+  pub searching : Searching g D q room n
   pub run : RunHeld order i past
   pub rest : standsOffered c g q (slice i past order) (take n room) ≡ whole
 
-module _ (c : StandColumns) (g : Grid) (q : Ranking) (order : List ℕ) (past : ℕ) (whole : Search) (room : List ℕ) (n i : ℕ) (w : Offering c g q order past whole room n i) where
+module _ (c : StandColumns) (g : Grid) (D : ℕ) (q : Ranking) (order : List ℕ) (past : ℕ) (whole : Search) (room : List ℕ) (n i : ℕ) (w : Offering c g D q order past whole room n i) where
   module _ (more : i < past) (after : List ℕ) (r : Kept) (k : Keeps (standOffered c g q (getD order i 0) (take n room)) (q .k) after r) where
     opened : andThen (standOffered c g q (getD order i 0) (take n room)) (λ held. standsOffered c g q (slice (suc i) past order) held) ≡ whole
     unfolding standsOffered
     opened = rw (slice-cons i past order 0 more (w .run .inside)) at (w .rest)
 
-    pub offer-next : (m : ℕ) → r ≡ kept.Held m → Offering c g q order past whole after m (i + 1)
+    pub offer-next : (m : ℕ) → r ≡ kept.Held m → Offering c g D q order past whole after m (i + 1)
     offer-next m e =
         let h = held-is _ _ _ _ k m e in
         record {
-          searching = record { asks = w .searching .asks; holds = h .1 };
+          searching = record { asks = w .searching .asks; whole = w .searching .whole; holds = h .1 };
           run = record { forward = omega arith; inside = w .run .inside };
           rest = rw add-one (rw (h .0) at opened);
         }

@@ -34,12 +34,12 @@ module _ (c : StandColumns) (g : Grid) (q : Ranking) (order : List ℕ) (x : Ent
   not-passed held after r e w = rw e w
 
 -- at entry e with len held and left entries to go
-pub record Taking (c : StandColumns) (g : Grid) (q : Ranking) (order entries : List ℕ) (whole : Search) (room : List ℕ) (len left e : ℕ) : Type 0 where
-  pub searching : Searching g q room len
+pub record Taking (c : StandColumns) (g : Grid) (D : ℕ) (q : Ranking) (order entries : List ℕ) (whole : Search) (room : List ℕ) (len left e : ℕ) : Type 0 where
+  pub searching : Searching g D q room len
   pub rest : entriesTaken c g q order entries left e (take len room) ≡ whole
 
-module _ (c : StandColumns) (g : Grid) (q : Ranking) (order entries : List ℕ) (whole : Search) (room : List ℕ) (len left e : ℕ)
-    (w : Taking c g q order entries whole room len left e) where
+module _ (c : StandColumns) (g : Grid) (D : ℕ) (q : Ranking) (order entries : List ℕ) (whole : Search) (room : List ℕ) (len left e : ℕ)
+    (w : Taking c g D q order entries whole room len left e) where
   pub take-done : left ≤ 0 → Keeps whole (q .k) room (kept.Held len)
   unfolding entriesTaken
   take-done h = let none : left ≡ 0 = omega arith in record { is = rw none at (w .rest); holds = w .searching .holds }
@@ -59,11 +59,11 @@ module _ (c : StandColumns) (g : Grid) (q : Ranking) (order entries : List ℕ) 
       unusable h = record { is = onward broken (rw (at, h)); holds = tt }
 
       module _ (able : usable order x ≡ true) (after : List ℕ) (a : Kept) (k : Keeps (entryTaken c g q order x (take len room)) (q .k) after a) where
-        pub take-next : (m : ℕ) → a ≡ kept.Held m → Taking c g q order entries whole after m (left - 1) (e + 1)
+        pub take-next : (m : ℕ) → a ≡ kept.Held m → Taking c g D q order entries whole after m (left - 1) (e + 1)
         take-next m h =
             let s = held-is _ _ _ _ k m h in
             record {
-              searching = record { asks = w .searching .asks; holds = s .1 };
+              searching = record { asks = w .searching .asks; whole = w .searching .whole; holds = s .1 };
               rest = ap (λ (n : ℕ). entriesTaken c g q order entries (left - 1) n (take m after)) (add-one e) ∙ onward (keys (take m after)) (rw (at, able) (s .0));
             }
 

@@ -3,7 +3,7 @@
 use mathlib.Core.Path.{_≡_}
 use mathlib.Core.Bool.{Bool, true, cond, _&&_}
 use mathlib.Core.List.{List, [], _∷_}
-use Prim.Native.Nat.{ℕ, zero, suc, _-_, _≤_}
+use Prim.Native.Nat.{ℕ, zero, suc, _-_, _≤_, _<_}
 use lib.IntN.{ℤ}
 use lib.Dec.{ltb, leb}
 use lib.ListN.{length, take, getD}
@@ -14,12 +14,13 @@ use Rattle.rules.specs.declared.Grid.{Grid}
 use Rattle.rules.specs.declared.Ranking.{Ranking}
 use Rattle.rules.specs.declared.Hit.{Hit}
 use Rattle.rules.specs.Places.{gridLawful, inGrid}
-use Rattle.rules.specs.Worth.{valueOf, boundOf}
+use Rattle.rules.specs.Worth.{diagonal, valueAt, valueOf, boundOf}
 use Rattle.rules.specs.Tables.{placeIn}
 use Rattle.rules.specs.Questions.{rankingLawful}
 use Rattle.rules.specs.Outcomes.{Outcome, refused, rankedOutcome}
 use Rattle.grid.specs.declared.cells.Cells.{Cells}
 use Rattle.grid.specs.Cells.{regionsIn}
+use Rattle.grid.specs.Ways.{Weighable}
 use Rattle.walk.specs.declared.entry.Entry.{Entry}
 use Rattle.walk.specs.declared.entry.EntryRead.{EntryRead}
 use Rattle.walk.specs.declared.entry.EntryRead.the-variants as read
@@ -40,9 +41,16 @@ pub record Searchable (g : Grid) (q : Ranking) (found values : List ℕ) : Type 
   pub stands-fit : q .k ≤ length found
   pub values-fit : q .k ≤ length values
 
--- with len keys held
-pub record Searching (g : Grid) (q : Ranking) (room : List ℕ) (len : ℕ) : Type 0 where
+-- with the grid's diagonal reckoned, and a room for keys
+pub record Ready (g : Grid) (D : ℕ) (q : Ranking) (room : List ℕ) : Type 0 where
   pub asks : Asks g q
+  pub whole : D ≡ diagonal g
+  pub size : length room ≡ 16
+
+-- and len keys held there
+pub record Searching (g : Grid) (D : ℕ) (q : Ranking) (room : List ℕ) (len : ℕ) : Type 0 where
+  pub asks : Asks g q
+  pub whole : D ≡ diagonal g
   pub holds : Holds room len (q .k)
 
 -- the parts of a table that are read of a stand
@@ -65,6 +73,18 @@ pub data Search : Type 0 where
 abbrev pub andThen : Search → (List ℕ → Search) → Search
 andThen broken next = broken
 andThen (keys l) next = next l
+
+-- ---- keys
+
+-- a stand with this score, d metres away
+abbrev pub hitAt : ℕ → Ranking → ℕ → ℕ → ℕ → Hit
+hitAt D q score d stand = record { stand = stand; value = valueAt D (q .weight) score d }
+
+-- what is in its limits, so that a key has room for it
+pub record Keyable (D : ℕ) (q : Ranking) (score d stand : ℕ) : Type 0 where
+  pub weighs : Weighable D (q .weight) score
+  pub near : d ≤ D
+  pub below : stand < 1024
 
 -- ---- stands
 

@@ -7,12 +7,14 @@ ghost use lib.ListN.{length, take};
 ghost use Rattle.base.specs.Lent.{given, after};
 ghost use Rattle.walk.specs.Entries.{entryWithin};
 ghost use Rattle.best.specs.Keys.{keyOf};
-ghost use Rattle.search.specs.Searches.{standColumnsIn, Asks, Searching, usable, MayTake, boundHit, passedOver, entryTaken, entriesTaken, Keeps};
+ghost use Rattle.search.specs.Searches.{standColumnsIn, Ready, Searching, usable, MayTake, boundHit, passedOver, entryTaken, entriesTaken, Keeps};
 use super::Kept;
+use crate::keys::key_at;
+use crate::keys::late_by_leg;
 use crate::stands::offer_places;
 use best::Held;
-use best::key_of;
-use grid::worth::bound;
+use grid::worth::length;
+use grid::worth::way_to_region;
 use rules::Grid;
 use rules::Ranking;
 use rules::Stand;
@@ -34,32 +36,29 @@ fn usable(order: &[u32], entry: Entry) -> bool
     (order[entry.first.0 as usize] as usize) < Stand::MOST
 }
 
-// The key of a stand with the entry's bound for its value and the entry's first number: no stand of the entry has a larger one.
-fn bound_key(grid: Grid, order: &[u32], entry: Entry, asked: Ranking) -> u64
-    requires { ⌜ Asks grid asked × MayTake (now order) entry ⌝ }
-    ensures { λ r. ⌜ r ≡ keyOf (boundHit grid asked (given order) entry) ⌝ }
-{
-    let most = bound(grid, asked.weight, entry.score, entry.region, asked.place);
-    let stand = Stand(order[entry.first.0 as usize]);
-    key_of(most, stand)
-}
-
-// Whether k are held and the last of them goes before every stand of the entry. The bound is not reckoned before k are held.
+// Whether k are held and the last of them goes before every stand of the entry: before one with the entry's bound for its value
+// and the entry's first number. The bound is not reckoned before k are held.
 fn passed_over(
     grid: Grid,
+    diagonal: u32,
     order: &[u32],
     entry: Entry,
     asked: Ranking,
     held: &Held,
     len: usize,
 ) -> bool
-    requires { ⌜ Searching grid asked (now held) len × MayTake (now order) entry ⌝ }
+    requires { ⌜ Searching grid diagonal asked (now held) len × MayTake (now order) entry ⌝ }
     ensures { λ r. ⌜ r ≡ passedOver (asked .k) (take len (given held)) (keyOf (boundHit grid asked (given order) entry)) ⌝ }
 {
     if len < asked.k as usize {
         return false;
     }
-    bound_key(grid, order, entry, asked) < held[len - 1]
+    let way = way_to_region(grid, entry.region, asked.place);
+    let first = Stand(order[entry.first.0 as usize]);
+    if late_by_leg(diagonal, asked, entry.score, way, first, held, len) {
+        return true;
+    }
+    key_at(diagonal, asked, entry.score, length(way), first) < held[len - 1]
 }
 
 // One entry: passed over, or its stands offered.
@@ -68,16 +67,17 @@ fn take_entry(
     north: &[i32],
     score: &[u32],
     grid: Grid,
+    diagonal: u32,
     order: &[u32],
     entry: Entry,
     asked: Ranking,
     held: &mut Held,
     len: usize,
 ) -> Kept
-    requires { ⌜ Searching grid asked (now held) len × MayTake (now order) entry ⌝ }
+    requires { ⌜ Searching grid diagonal asked (now held) len × MayTake (now order) entry ⌝ }
     ensures { λ r. ⌜ Keeps (entryTaken (standColumnsIn east north score) grid asked (given order) entry (take len (given held))) (asked .k) (after held) r ⌝ }
 {
-    if passed_over(grid, order, entry, asked, held, len) {
+    if passed_over(grid, diagonal, order, entry, asked, held, len) {
         return Kept::Held(len);
     }
     offer_places(
@@ -85,6 +85,7 @@ fn take_entry(
         north,
         score,
         grid,
+        diagonal,
         order,
         entry.first,
         entry.past,
@@ -100,6 +101,7 @@ pub(crate) fn take_entries(
     north: &[i32],
     score: &[u32],
     grid: Grid,
+    diagonal: u32,
     order: &[u32],
     entries: &[u32],
     from: u32,
@@ -107,7 +109,7 @@ pub(crate) fn take_entries(
     asked: Ranking,
     held: &mut Held,
 ) -> Kept
-    requires { ⌜ (Asks grid asked) × (length (now held) ≡ 16) ⌝ }
+    requires { ⌜ Ready grid diagonal asked (now held) ⌝ }
     ensures { λ r. ⌜ Keeps (entriesTaken (standColumnsIn east north score) grid asked (given order) (given entries) count from []) (asked .k) (after held) r ⌝ }
 {
     let mut len = 0;
@@ -120,7 +122,18 @@ pub(crate) fn take_entries(
         if !usable(order, entry) {
             return Kept::Broken;
         }
-        match take_entry(east, north, score, grid, order, entry, asked, held, len) {
+        match take_entry(
+            east,
+            north,
+            score,
+            grid,
+            diagonal,
+            order,
+            entry,
+            asked,
+            held,
+            len,
+        ) {
             Kept::Held(more) => len = more,
             Kept::Broken => return Kept::Broken,
         }

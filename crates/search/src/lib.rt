@@ -1,5 +1,6 @@
 // The search behind the ranked question: from a text's listing to its k best stands, written to the caller's rooms.
-// `stands` offers stands, `entries` passes the listed entries over or takes them. The words may be anything:
+// `keys` weighs a stand at the end of a way, `stands` offers stands, `entries` passes the listed entries over or takes them.
+// The grid's diagonal is reckoned once, and handed to all of them. The words may be anything:
 // those that no building writes are Broken, and nothing outside them is read.
 ghost use lib.ListN.{take};
 ghost use Rattle.base.specs.Lent.{given, after};
@@ -7,6 +8,7 @@ ghost use Rattle.rules.specs.Outcomes.{roomsIn, rankedCameIn};
 ghost use Rattle.search.specs.Searches.{standColumnsIn, Searchable, Writable, Written, BestTaken, BestListed};
 
 mod entries;
+mod keys;
 mod stands;
 
 use best::Held;
@@ -14,6 +16,7 @@ use best::stand_of;
 use best::value_of;
 use entries::take_entries;
 use grid::cells::Cells;
+use grid::worth::diagonal;
 use rules::Grid;
 use rules::RankedAnswer;
 use rules::Ranking;
@@ -63,6 +66,7 @@ fn best_taken(
         north,
         score,
         grid,
+        diagonal(grid),
         order,
         entries,
         first,

@@ -5,10 +5,12 @@ ghost use lib.Seq.{slice};
 ghost use Rattle.base.specs.Lent.{given, after};
 ghost use Rattle.search.specs.Searches.{standColumnsIn, Searching, RunHeld, readableStand, standOffered, standsOffered, Keeps};
 use super::Kept;
+use crate::keys::key_at;
+use crate::keys::late_by_leg;
 use best::Held;
-use best::key_of;
 use best::offer;
-use grid::worth::value;
+use grid::worth::length;
+use grid::worth::way_between;
 use rules::Grid;
 use rules::OrderPlace;
 use rules::Place;
@@ -49,12 +51,13 @@ fn offer_stand(
     north: &[i32],
     score: &[u32],
     grid: Grid,
+    diagonal: u32,
     stand: Stand,
     asked: Ranking,
     held: &mut Held,
     len: usize,
 ) -> Kept
-    requires { ⌜ Searching grid asked (now held) len ⌝ }
+    requires { ⌜ Searching grid diagonal asked (now held) len ⌝ }
     ensures { λ r. ⌜ Keeps (standOffered (standColumnsIn east north score) grid asked (stand .0) (take len (given held))) (asked .k) (after held) r ⌝ }
 {
     let s = stand.0 as usize;
@@ -65,8 +68,12 @@ fn offer_stand(
         east: east[s],
         north: north[s],
     };
-    let worth = value(grid, asked.weight, score[s], place, asked.place);
-    let key = key_of(worth, stand);
+    let way = way_between(place, asked.place);
+    let own = score[s];
+    if late_by_leg(diagonal, asked, own, way, stand, held, len) {
+        return Kept::Held(len);
+    }
+    let key = key_at(diagonal, asked, own, length(way), stand);
     Kept::Held(offer(held, len, asked.k as usize, key))
 }
 
@@ -76,6 +83,7 @@ pub(crate) fn offer_places(
     north: &[i32],
     score: &[u32],
     grid: Grid,
+    diagonal: u32,
     order: &[u32],
     first: OrderPlace,
     past: OrderPlace,
@@ -83,14 +91,24 @@ pub(crate) fn offer_places(
     held: &mut Held,
     len: usize,
 ) -> Kept
-    requires { ⌜ Searching grid asked (now held) len × RunHeld (now order) (first .0) (past .0) ⌝ }
+    requires { ⌜ Searching grid diagonal asked (now held) len × RunHeld (now order) (first .0) (past .0) ⌝ }
     ensures { λ r. ⌜ Keeps (standsOffered (standColumnsIn east north score) grid asked (slice (first .0) (past .0) (given order)) (take len (given held))) (asked .k) (after held) r ⌝ }
 {
     let mut n = len;
     let mut i = first.0 as usize;
     let end = past.0 as usize;
     while i < end {
-        match offer_stand(east, north, score, grid, Stand(order[i]), asked, held, n) {
+        match offer_stand(
+            east,
+            north,
+            score,
+            grid,
+            diagonal,
+            Stand(order[i]),
+            asked,
+            held,
+            n,
+        ) {
             Kept::Held(more) => n = more,
             Kept::Broken => return Kept::Broken,
         }

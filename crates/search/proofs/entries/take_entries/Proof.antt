@@ -13,15 +13,15 @@ use Rattle.search.proofs.entries.take_entries.Statement.{statement}
 use Rattle.search.proofs.entries.take_entries.Tie as tie
 
 abbrev Inv-loop : tie.InvT-loop
-Inv-loop east north score grid order entries from count asked held₀ len₀ left₀ e₀ held len left e = Taking (standColumns east north score) grid asked order entries (entriesTaken (standColumns east north score) grid asked order entries count from []) held len left e
+Inv-loop east north score grid diagonal order entries from count asked held₀ len₀ left₀ e₀ held len left e = Taking (standColumns east north score) grid diagonal asked order entries (entriesTaken (standColumns east north score) grid asked order entries count from []) held len left e
 
 abbrev μ-loop : tie.MeasureT-loop
-μ-loop east north score grid order entries from count asked held₀ len₀ left₀ e₀ held len left e = left
+μ-loop east north score grid diagonal order entries from count asked held₀ len₀ left₀ e₀ held len left e = left
 
 loop-holds : tie.Need-loop-holds Inv-loop μ-loop
 loop-holds c =
     let p = c .before .before .before .pre in
-    record { searching = record { asks = p .0; holds = nothing-held _ _ (p .1) (some-asked _ _ (p .0)) (few-asked _ _ (p .0)) }; rest = refl }
+    record { searching = record { asks = p .asks; whole = p .whole; holds = nothing-held _ _ (p .size) (some-asked _ _ (p .asks)) (few-asked _ _ (p .asks)) }; rest = refl }
 
 add-e : tie.Need-add-e Inv-loop μ-loop
 add-e c =
@@ -29,7 +29,7 @@ add-e c =
       arith,
       read-there _ _ _ _ _ (c .before .before .before .before .before .before .before .before .before .before .entry-at .ensures)
           (c .before .before .before .before .before .before .before .before .entry .given .1),
-      c .before .before .before .before .before .before .before .before .before .before .before .before .before .before .before .before .good .1 .1 .1 .1 .1 .0 .0,
+      c .before .before .before .before .before .before .before .before .before .before .before .before .before .before .before .before .good .1 .1 .1 .1 .1 .1 .0 .0,
     )
 
 pub take-entries-spec : {M : Type 1} → statement M

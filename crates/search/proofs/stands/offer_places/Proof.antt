@@ -10,10 +10,10 @@ use Rattle.search.proofs.stands.offer_places.Statement.{statement}
 use Rattle.search.proofs.stands.offer_places.Tie as tie
 
 abbrev Inv-loop : tie.InvT-loop
-Inv-loop east north score grid order asked held₀ len n₀ i₀ end held n i = Offering (standColumns east north score) grid asked order end (standsOffered (standColumns east north score) grid asked (slice i₀ end order) (take n₀ held₀)) held n i
+Inv-loop east north score grid diagonal order asked held₀ len n₀ i₀ end held n i = Offering (standColumns east north score) grid diagonal asked order end (standsOffered (standColumns east north score) grid asked (slice i₀ end order) (take n₀ held₀)) held n i
 
 abbrev μ-loop : tie.MeasureT-loop
-μ-loop east north score grid order asked held₀ len n₀ i₀ end held n i = end - i
+μ-loop east north score grid diagonal order asked held₀ len n₀ i₀ end held n i = end - i
 
 pub offer-places-spec : {M : Type 1} → statement M
 offer-places-spec =
