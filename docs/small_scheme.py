@@ -5,8 +5,11 @@ tie turns on.
     python3 docs/small_scheme.py > docs/small-scheme.svg
 """
 
+import math
+
 STANDS = [("kibo", 5, 5, 100), ("kibo", 75, 75, 900), ("kibori", 12, 5, 400), ("kito", 9, 9, 400), ("mto", 10, 9, 0)]
 CELL, SIDE = 10, 8
+DIAGONAL = math.isqrt(128 * CELL * CELL)
 PLACE = (5, 5)
 
 PX = 44                      # a cell of the drawing
@@ -38,9 +41,8 @@ def entries_under(text):
 
 
 def value(stand, weight):
-    diagonal = 128 * CELL * CELL
-    distance = (stand[1] - PLACE[0]) ** 2 + (stand[2] - PLACE[1]) ** 2
-    return weight * stand[3] * diagonal + (16 - weight) * (diagonal - distance) * 1000
+    distance = math.isqrt((stand[1] - PLACE[0]) ** 2 + (stand[2] - PLACE[1]) ** 2)
+    return weight * stand[3] * DIAGONAL + (16 - weight) * (DIAGONAL - distance) * 1000
 
 
 def text(x, y, words, kind="", anchor="start"):
@@ -127,7 +129,7 @@ def draw_tie():
     for n, (r, score, stands) in enumerate(entries_under("ki")):
         top = y + 14 + n * 34
         tie = n > 0
-        bound = 16 * score * 128 * CELL * CELL
+        bound = 16 * score * DIAGONAL
         out.append(f'<rect x="{x}" y="{top}" width="650" height="28" class="{"tie" if tie else "entry"}"/>')
         out.append(text(x + 10, top + 19, f"region {r}, largest score {score}, bound {bound:,}", "name"))
         held = sorted(held + stands, key=lambda i: (-value(STANDS[i], 16), i))[:2]

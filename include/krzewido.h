@@ -157,8 +157,9 @@ krz_found krz_range(
     const uint8_t *typed, size_t typed_len, krz_rect rect, uint32_t *found, size_t found_len);
 
 /* The best k stands whose name begins with the typed text, best first; all of them where there are fewer. A stand's value is
- *   weight * score * D + (16 - weight) * (D - d) * 1,000,  D = 128 * cell * cell,  d the squared distance to the place:
- * weight 16 goes by score alone, weight 0 by nearness alone. Of equal values the smaller stand number is the better.
+ *   weight * score * D + (16 - weight) * (D - d) * 1,000,
+ * d the distance to the place and D the root of 128 * cell * cell, both in whole metres, rounded down: weight 16 goes by score alone,
+ * weight 0 by nearness alone. No value is over 1,482,896,000. Of equal values the smaller stand number is the better.
  * Numbers go to found[0] to found[count - 1], values to values likewise; what is behind them stays as it was.
  * Refuses 7, 9, 8, 12, then 13 where found or values has fewer than k places. */
 krz_found krz_ranked(

@@ -44,9 +44,13 @@ pub fn rect(dice: &mut Dice, set: &Set) -> Rect {
     Rect { west: a.min(b), east: a.max(b), south: c.min(d), north: c.max(d) }
 }
 
+/// At a stand or anywhere, now and then outside the grid.
 pub fn ranking(dice: &mut Dice, set: &Set) -> Ranking {
     let cell = set.grid.cell.clamp(1, 8_192);
-    let mut place = Place { east: metre(dice, set.grid.west, cell), north: metre(dice, set.grid.south, cell) };
+    let mut place = match set.east.len().min(set.north.len()) {
+        stands if 0 < stands && dice.once_in(2) => crate::scan::place(set, dice.below(stands)),
+        _ => Place { east: metre(dice, set.grid.west, cell), north: metre(dice, set.grid.south, cell) },
+    };
     if dice.once_in(12) {
         place.east = edge(dice, set.east, set.grid.west, cell);
     }

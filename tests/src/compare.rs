@@ -34,6 +34,8 @@ pub struct Counts {
     rests: u64,
     ranges: u64,
     ranked: u64,
+    /// Ranked lists with two stands that are equal by rounded distance only.
+    rounded_ties: u64,
     strokes: u64,
     on_letters: u64,
     damaged_sets: u64,

@@ -56,7 +56,7 @@ pub fn range_near(set: &Set, typed: &[u8], rect: Rect, found: &mut [u32]) -> Fou
 pub fn ranked(set: &Set, typed: &[u8], asked: Ranking, found: &mut [u32], values: &mut [u64]) -> Found {
     let k = asked.k as usize;
     let cell = u64::from(set.grid.cell);
-    let diagonal = 128 * cell * cell;
+    let diagonal = (128 * cell * cell).isqrt();
     let mut held = 0;
     for i in 0..set.score.len() {
         if !name(set, i).starts_with(typed) {
@@ -64,7 +64,7 @@ pub fn ranked(set: &Set, typed: &[u8], asked: Ranking, found: &mut [u32], values
         }
         let across = u64::from(set.east[i].abs_diff(asked.place.east));
         let along = u64::from(set.north[i].abs_diff(asked.place.north));
-        let near = diagonal - (across * across + along * along);
+        let near = diagonal - (across * across + along * along).isqrt();
         let value = u64::from(asked.weight) * u64::from(set.score[i]) * diagonal + u64::from(16 - asked.weight) * near * 1_000;
         if held == k && value <= values[k - 1] {
             continue;

@@ -72,6 +72,16 @@ pub fn compare_range(dice: &mut Dice, counts: &mut Counts, set: &Owned, lawful: 
     }
 }
 
+/// Whether two stands of a list, of one score, are worth the same though the squares of their distances differ.
+fn tied_by_rounding(set: &Owned, asked: Ranking, stands: &[u32], worths: &[u64]) -> bool {
+    let square = |stand: usize| scan::squared_distance(scan::place(&set.lent(), stand), asked.place);
+    let tied = |(s, w): (&[u32], &[u64])| {
+        let [a, b] = [s[0] as usize, s[1] as usize];
+        w[0] == w[1] && set.score[a] == set.score[b] && square(a) != square(b)
+    };
+    asked.weight < 16 && stands.windows(2).zip(worths.windows(2)).any(tied)
+}
+
 pub fn compare_ranked(dice: &mut Dice, counts: &mut Counts, set: &Owned, lawful: bool, by: &By, asked: Ranking) {
     let refusal = scan::ranked_refusal(set.grid, by.text(), asked);
     let k = asked.k.min(20) as usize;
@@ -93,6 +103,7 @@ pub fn compare_ranked(dice: &mut Dice, counts: &mut Counts, set: &Owned, lawful:
     if lawful {
         let (stands, worths): (Vec<u32>, Vec<u64>) = scan::ranked(&set.lent(), by.text(), asked).into_iter().unzip();
         assert_eq!(answer.count as usize, stands.len(), "ranked");
+        counts.rounded_ties += u64::from(tied_by_rounding(set, asked, &stands, &worths));
         found.holds(&stands);
         return values.holds(&worths);
     }

@@ -70,7 +70,7 @@ pub fn region(grid: Grid, place: Place) -> Located {
     Located { refusal: 0, region: region_of(grid, place) as u32 }
 }
 
-fn place(set: &Set, stand: usize) -> Place {
+pub fn place(set: &Set, stand: usize) -> Place {
     Place { east: set.east[stand], north: set.north[stand] }
 }
 
@@ -241,14 +241,32 @@ pub fn range(set: &Set, text: &[u8], rect: Rect) -> Vec<u32> {
     found.into_iter().map(|i| i as u32).collect()
 }
 
+/// The largest whole number whose square is at most n: of two that it lies between, the middle takes the place of one.
+pub fn root(n: i64) -> i64 {
+    let (mut low, mut past) = (0, 1 << 31);
+    while low + 1 < past {
+        let middle = (low + past) / 2;
+        if middle * middle <= n {
+            low = middle;
+        } else {
+            past = middle;
+        }
+    }
+    low
+}
+
+pub fn squared_distance(a: Place, b: Place) -> i64 {
+    let square = |a: i32, b: i32| (i64::from(a) - i64::from(b)).pow(2);
+    square(a.east, b.east) + square(a.north, b.north)
+}
+
 /// What a stand of this score is worth at a place of the grid.
 pub fn worth(grid: Grid, asked: Ranking, here: Place, score: u32) -> u64 {
-    let square = |a: i32, b: i32| (i128::from(a) - i128::from(b)).pow(2);
-    let cell = i128::from(grid.cell);
-    let diagonal = 128 * cell * cell;
-    let weight = i128::from(asked.weight);
-    let distance = square(here.east, asked.place.east) + square(here.north, asked.place.north);
-    let worth = weight * i128::from(score) * diagonal + (16 - weight) * (diagonal - distance) * 1_000;
+    let cell = i64::from(grid.cell);
+    let diagonal = root(128 * cell * cell);
+    let weight = i64::from(asked.weight);
+    let distance = root(squared_distance(here, asked.place));
+    let worth = weight * i64::from(score) * diagonal + (16 - weight) * (diagonal - distance) * 1_000;
     u64::try_from(worth).expect("a stand of the grid has a value")
 }
 

@@ -3,6 +3,7 @@
 use crate::dice::Dice;
 use crate::owned::{Owned, Row};
 use crate::records::{Grid, Place};
+use crate::scan;
 
 pub const ALLOWED: &[u8] = b"abcdefghijklmnopqrstuvwxyz0123456789 ";
 
@@ -69,19 +70,43 @@ fn names(dice: &mut Dice, stands: usize) -> Vec<Vec<u8>> {
     names
 }
 
-/// A lawful table over a lawful grid, with no index.
+fn anywhere(dice: &mut Dice, grid: Grid) -> Place {
+    Place { east: metre(dice, grid.west, grid.cell), north: metre(dice, grid.south, grid.cell) }
+}
+
+/// A place whose distance from another, rounded down, is this radius, with squares that differ; that place itself where it leaves the grid.
+fn on_ring(dice: &mut Dice, grid: Grid, middle: Place, radius: i64) -> Place {
+    let across = dice.below(radius as usize + 1) as i64;
+    let left = radius * radius - across * across;
+    let least = scan::root(left) + i64::from(scan::root(left).pow(2) < left);
+    let most = scan::root((radius + 1).pow(2) - 1 - across * across);
+    let along = least + dice.below((most - least) as usize + 1) as i64;
+    let mut to = |metre: i32, edge: i32, way: i64| {
+        let inside = |x: &i64| (0..8 * i64::from(grid.cell)).contains(&(x - i64::from(edge)));
+        let way = if dice.once_in(2) { way } else { -way };
+        [way, -way].map(|way| i64::from(metre) + way).into_iter().find(inside).map(|x| x as i32)
+    };
+    match (to(middle.east, grid.west, across), to(middle.north, grid.south, along)) {
+        (Some(east), Some(north)) => Place { east, north },
+        _ => middle,
+    }
+}
+
+/// A lawful table over a lawful grid, with no index. Its stands lie anywhere, mostly at one place, or mostly on a ring around it.
 pub fn table(dice: &mut Dice, stands: usize) -> Owned {
     let grid = grid(dice);
     let names = names(dice, stands);
-    let crowded = dice.once_in(3);
-    let near = Place { east: metre(dice, grid.west, grid.cell), north: metre(dice, grid.south, grid.cell) };
+    let style = dice.below(4);
+    let near = anywhere(dice, grid);
+    let radius = 1 + dice.below(6 * grid.cell as usize) as i64;
     let scores = [0, 1, 500, 1_000];
     let few = dice.once_in(2);
     let mut row = |name: Vec<u8>| {
-        let place = if crowded && !dice.once_in(4) {
-            near
-        } else {
-            Place { east: metre(dice, grid.west, grid.cell), north: metre(dice, grid.south, grid.cell) }
+        let place = match style {
+            0 if !dice.once_in(4) => near,
+            1 if !dice.once_in(4) => on_ring(dice, grid, near, radius),
+            1 => near,
+            _ => anywhere(dice, grid),
         };
         let score = if few { dice.one_of(&scores) } else { dice.below(1_001) as u32 };
         (name, place, score)

@@ -23,6 +23,6 @@ input text weight k = record { grid = grid; stands = fiveStands; text = text; ra
 pub record SchemeAtDesk : Type 0 where
   pub columns : tableFrom fiveStands ≡ table
   pub lines : inputText (input ki 8 2) ≡ ascii "west=0\nsouth=0\ncell=10\nstands=5\nname=kibo\neast=5\nnorth=5\nscore=100\nname=kibo\neast=75\nnorth=75\nscore=900\nname=kibori\neast=12\nnorth=5\nscore=400\nname=kito\neast=9\nnorth=9\nscore=400\nname=mto\neast=10\nnorth=9\nscore=0\ntext=ki\neast=5\nnorth=5\nweight=8\nk=2\n"
-  pub printed : outputOf (input ki 8 2) ≡ ascii "found=2\nobject=3\nname=kito\nvalue=143104000\nobject=2\nname=kibori\nvalue=142968000\n"
+  pub printed : outputOf (input ki 8 2) ≡ ascii "found=2\nobject=3\nname=kito\nvalue=1225600\nobject=2\nname=kibori\nvalue=1209600\n"
   pub refused : outputOf (input ki 17 2) ≡ ascii "refused=12\n"
   pub capitals : outputOf (input Ki 8 2) ≡ outputOf (input ki 8 2)

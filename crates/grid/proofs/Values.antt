@@ -2,8 +2,8 @@
 -- Assumes nothing.
 use mathlib.Core.Path.{_≡_}
 use mathlib.Core.Bool.{true}
-use Prim.Native.Nat.{ℕ, _-_, _*_, _≤_, _<_}
-use native.Mathlib.Nat.{mul-le-mul, mul-le-mul-left, mul-le-mul-right}
+use Prim.Native.Nat.{ℕ, _+_, _-_, _*_, _≤_}
+use native.Mathlib.Nat.{add-mul, mul-right-comm, mul-le-mul, mul-le-mul-left, mul-le-mul-right}
 use native.Mathlib.Omega.{arith}
 use Rattle.rules.specs.declared.Grid.{Grid}
 use Rattle.rules.specs.declared.Place.{Place}
@@ -24,9 +24,15 @@ module _ (D a s : ℕ) (can : Weighable D a s) where
   pub by-place-most : (d : ℕ) → (16 - a) * (D - d) ≤ 1482896
   by-place-most d = mul-le-mul {n₂ = 16} {m₂ = 92681} (omega arith) (omega (arith, can .whole))
 
-  pub value-fits : (d : ℕ) → valueAt D a s d < 4294967296
+  -- for the reader: no value is more than 16,000 × D
+  pub value-most : (d : ℕ) → valueAt D a s d ≤ 1482896000
   unfolding valueAt
-  value-fits d = omega (arith, by-score-most, by-place-most d)
+  value-most d =
+      let by-score : a * s * D ≤ a * D * 1000 = rw (mul-right-comm a D 1000) (mul-le-mul-right D (mul-le-mul-left a (can .score))) in
+      let by-place : (16 - a) * (D - d) ≤ (16 - a) * D = mul-le-mul-left (16 - a) (omega arith) in
+      let weights : a + (16 - a) ≡ 16 = omega (arith, can .weight) in
+      let both : 16 * D ≡ a * D + (16 - a) * D = rw weights at (add-mul a (16 - a) D) in
+      omega (arith, can .whole)
 
 -- more score and less distance are worth no less
 pub value-order : (D a s s′ d d′ : ℕ) → s ≤ s′ → d′ ≤ d → valueAt D a s d ≤ valueAt D a s′ d′
