@@ -92,15 +92,16 @@ fn on_ring(dice: &mut Dice, grid: Grid, middle: Place, radius: i64) -> Place {
     }
 }
 
-/// A lawful table over a lawful grid, with no index. Its stands lie anywhere, mostly at one place, or mostly on a ring around it.
+/// A lawful table over a lawful grid, with no index. Its stands lie anywhere, mostly at one place, or mostly on a ring around it with scores
+/// that hardly differ.
 pub fn table(dice: &mut Dice, stands: usize) -> Owned {
     let grid = grid(dice);
     let names = names(dice, stands);
     let style = dice.below(4);
     let near = anywhere(dice, grid);
-    let radius = 1 + dice.below(6 * grid.cell as usize) as i64;
-    let scores = [0, 1, 500, 1_000];
-    let few = dice.once_in(2);
+    let radius = 1 + dice.below(3 * grid.cell as usize) as i64;
+    let scores = if style == 1 { &[500, 500, 500, 501][..] } else { &[0, 1, 500, 1_000][..] };
+    let few = style == 1 || dice.once_in(2);
     let mut row = |name: Vec<u8>| {
         let place = match style {
             0 if !dice.once_in(4) => near,
@@ -108,7 +109,7 @@ pub fn table(dice: &mut Dice, stands: usize) -> Owned {
             1 => near,
             _ => anywhere(dice, grid),
         };
-        let score = if few { dice.one_of(&scores) } else { dice.below(1_001) as u32 };
+        let score = if few { dice.one_of(scores) } else { dice.below(1_001) as u32 };
         (name, place, score)
     };
     let rows: Vec<Row> = names.into_iter().map(&mut row).collect();
