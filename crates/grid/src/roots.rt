@@ -1,4 +1,4 @@
-// The root of a number, in whole: the largest number whose square is at most it.
+// The root of a number: the largest whole number whose square is at most it.
 ghost use mathlib.Core.Path.{_≡_};
 ghost use Prim.Native.Nat.{_<_};
 ghost use Rattle.rules.specs.Worth.{root};

@@ -67,7 +67,7 @@ pub fn length(way: Way) -> u32
     requires { ⌜ Short way ⌝ }
     ensures { λ r. ⌜ r ≡ wayLength way ⌝ }
 {
-    root(squares(way.across as u64, way.along as u64))
+    root(squares(way))
 }
 
 // A value by D, weight, score and distance.
@@ -80,11 +80,13 @@ pub fn value_at(diagonal: u32, weight: u32, score: u32, distance: u32) -> u32
     by_score + by_place
 }
 
-// The square of a way's length.
-fn squares(across: u64, along: u64) -> u64
-    requires { ⌜ (across < 65536) × (along < 65536) ⌝ }
-    ensures { λ r. ⌜ r ≡ squared across + squared along ⌝ }
+// The squares of both legs, which is the square of the distance.
+fn squares(way: Way) -> u64
+    requires { ⌜ Short way ⌝ }
+    ensures { λ r. ⌜ r ≡ squared (way .across) + squared (way .along) ⌝ }
 {
+    let across = way.across as u64;
+    let along = way.along as u64;
     across * across + along * along
 }
 

@@ -12,8 +12,6 @@ unfolding wayLength
 length-spec =
     tie.close
     (tie.spec
-    (λ c. search needs)
-    (λ c. search needs)
     (λ c κs. search needs)
-    (λ c κs. let s = c .before .before .before .pre in omega (arith, c .squares .ensures, square-less _ 65536 (s .across), square-less _ 65536 (s .along)))
+    (λ c κs. let s = c .before .pre in omega (arith, c .squares .ensures, square-less _ 65536 (s .across), square-less _ 65536 (s .along)))
     (λ c. rw (c .root .ensures, c .before .squares .ensures)))
