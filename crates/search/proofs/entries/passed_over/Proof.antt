@@ -54,7 +54,7 @@ passed-over-spec =
     (λ c κs. (room (c .before .before), c .before .before .before .before .before .before .pre .0 .holds))
     (λ c. late-passed _ (c .before .before .before .before .before .before .before .before .args .asked) _ _ _ _ _ _ (c .before .before .before .before .before .before .before .before .pre .0 .holds) (sym (c .before .late-by-leg .ensures) ∙ c .if2 .taken) ∙ bound (c .before .before .before .before))
     (λ c κs. short _ _ (inside (c .before .before .before .before)) (c .before .before .before .before .before .before .before .before .pre .0 .asks .grid))
-    (λ c κs. rw (c .length .ensures) (room (c .before .before .before .before .before)))
+    (λ c κs. let r = room (c .before .before .before .before .before) in record { weighs = r .weighs; near = rw (c .length .ensures) (r .near); below = omega (arith, r .below) })
     (λ c. search needs)
     (λ c. search needs)
     (λ c. search needs)
