@@ -2,8 +2,7 @@
 -- Assumes nothing.
 use mathlib.Core.Path.{_≡_, refl}
 use mathlib.Core.Bool.{true}
-use Prim.Native.Nat.{ℕ, _+_, _*_, _/_, _%_, _<_, _≤_}
-use native.Mathlib.Nat.{le-of-lt}
+use Prim.Native.Nat.{ℕ, _*_, _/_, _%_, _<_, _≤_}
 use native.Mathlib.Omega.{arith}
 use lib.Dec.{ltb}
 use borrow.Table.Steps.{cases}
@@ -11,7 +10,7 @@ use borrow.Author.Tests.{lt-ltb, le-ltb}
 use Rattle.rules.specs.declared.Grid.{Grid}
 use Rattle.rules.specs.declared.Place.{Place}
 use Rattle.rules.specs.Places.{gridLawful, inGrid}
-use Rattle.rules.specs.Worth.{squared, distance², distance, diagonal², diagonal, regionDistance², regionDistance}
+use Rattle.rules.specs.Worth.{distance², distance, diagonal², diagonal, regionDistance², regionDistance}
 use Rattle.rules.proofs.Places.{cell-small, east-inside, north-inside}
 use Rattle.rules.proofs.Roots.{square-less, no-larger, root-is, root-largest, root-order}
 use Rattle.grid.specs.declared.worth.Way.{Way}
