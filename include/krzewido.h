@@ -121,6 +121,11 @@ typedef struct {
     uint32_t refusal, count;
 } krz_found;
 
+/* yes is 1 or 0; but with a yes stand is 0. */
+typedef struct {
+    uint32_t refusal, yes, stand;
+} krz_any_found;
+
 typedef struct {
     uint32_t start, length;
 } krz_part;
@@ -155,6 +160,16 @@ krz_found krz_range(
     const uint32_t *order, size_t order_len, const uint32_t *nodes, size_t nodes_len,
     const uint32_t *entries, size_t entries_len,
     const uint8_t *typed, size_t typed_len, krz_rect rect, uint32_t *found, size_t found_len);
+
+/* Whether any stand whose name begins with the typed text is in the rectangle, for greying out an empty map: yes with the first stand that
+ * krz_range would list, or no. It looks no further than that stand and wants no room. Refuses 7, 9, 8, 11. */
+krz_any_found krz_any(
+    const uint8_t *text, size_t text_len, const uint32_t *starts, size_t starts_len,
+    const int32_t *east, size_t east_len, const int32_t *north, size_t north_len,
+    const uint32_t *score, size_t score_len, krz_grid grid,
+    const uint32_t *order, size_t order_len, const uint32_t *nodes, size_t nodes_len,
+    const uint32_t *entries, size_t entries_len,
+    const uint8_t *typed, size_t typed_len, krz_rect rect);
 
 /* The best k stands whose name begins with the typed text, best first; all of them where there are fewer. A stand's value is
  *   weight * score * D + (16 - weight) * (D - d) * 1,000,
@@ -199,6 +214,15 @@ krz_found krz_range_typed(
     const uint32_t *order, size_t order_len, const uint32_t *nodes, size_t nodes_len,
     const uint32_t *entries, size_t entries_len,
     krz_session session, krz_rect rect, uint32_t *found, size_t found_len);
+
+/* krz_any with the session's letters for its text. */
+krz_any_found krz_any_typed(
+    const uint8_t *text, size_t text_len, const uint32_t *starts, size_t starts_len,
+    const int32_t *east, size_t east_len, const int32_t *north, size_t north_len,
+    const uint32_t *score, size_t score_len, krz_grid grid,
+    const uint32_t *order, size_t order_len, const uint32_t *nodes, size_t nodes_len,
+    const uint32_t *entries, size_t entries_len,
+    krz_session session, krz_rect rect);
 
 /* krz_ranked with the session's letters for its text. */
 krz_found krz_ranked_typed(

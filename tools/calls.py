@@ -52,12 +52,17 @@ def declared():
     return found
 
 
+def spaced(name):
+    """A name of a type or case, its words put apart by underscores."""
+    return re.sub(r"(?<=[a-z])(?=[A-Z])", "_", name)
+
+
 def in_c(kind):
     """A Rattle type that crosses, as C writes it; a slice is its pointer."""
     lent = re.fullmatch(r"&(mut )?(?:\[(\w+)\]|(\w+))", kind)
     if lent:
         return f"{'' if lent[1] else 'const '}{in_c(lent[2] or lent[3])} *"
-    return SCALARS.get(kind) or "krz_" + kind.lower()
+    return SCALARS.get(kind) or "krz_" + spaced(kind).lower()
 
 
 def exported():
@@ -105,7 +110,7 @@ def numbers():
 
 def refusals():
     told = re.findall(r"Refusal::(\w+) => (\d+)", bare(RULES))
-    return {re.sub(r"(?<=[a-z])(?=[A-Z])", "_", name).upper(): int(value) for name, value in told}
+    return {spaced(name).upper(): int(value) for name, value in told}
 
 
 def limits():

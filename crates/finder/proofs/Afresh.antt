@@ -93,6 +93,7 @@ standing-allowed p fine (d ∷ run) = standing-allowed (lettersAfter p (d .deed)
     step (Deed.types b v) = typed-allowed p b fine
     step (Deed.rubs v) = rubbed-allowed p fine
     step (Deed.asksRange r rooms o) = fine
+    step (Deed.asksAny r o) = fine
     step (Deed.asksRanked q rooms o) = fine
 
 -- whatever was done, typing the standing letters from fresh is accepted letter by letter and comes to the same state

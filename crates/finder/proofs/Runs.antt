@@ -81,6 +81,12 @@ module _ (S : State) (law : Lawful S) (p : List ℕ) (fine : textRefusal p ≡ 0
         session = promise .1;
         allowed = fine;
       }
+  came (Deed.asksAny r o) s′ promise =
+      record {
+        meant = subst (λ (q : List ℕ). Meant S q (Deed.asksAny r o)) read (promise .0 .exact (record { set = law; session = session-lawful t p fine }));
+        session = promise .1;
+        allowed = fine;
+      }
   came (Deed.asksRanked q rooms o) s′ promise =
       record {
         meant = subst (λ (p : List ℕ). Meant S p (Deed.asksRanked q rooms o)) read (promise .0 .exact (record { set = law; session = session-lawful t p fine }));
@@ -147,6 +153,7 @@ types-stand S (d ∷ run) none p m = step (d .deed) none (m .0) (λ z. types-sta
     step (Deed.rubs Passed) z k below = absurd (omega arith)
     step (Deed.rubs (Refused why)) z k below = below z ∙ ap behind (refused-rubbing p why k)
     step (Deed.asksRange r rooms o) z k below = below z
+    step (Deed.asksAny r o) z k below = below z
     step (Deed.asksRanked q rooms o) z k below = below z
 
 -- with no letter accepted, each accepted rub-out takes one from the end
@@ -166,6 +173,7 @@ rubs-stand S (d ∷ run) none p m = step (d .deed) none (m .0) (λ z. rubs-stand
         below z ∙ take-take (length (butLast p) - rubsIn run) (length p - 1) p (omega (arith, fewer)) ∙ ap (λ (n : ℕ). take n p) fewer
     step (Deed.rubs (Refused why)) z k below = below z ∙ ap (left (rubsIn run)) (refused-rubbing p why k)
     step (Deed.asksRange r rooms o) z k below = below z
+    step (Deed.asksAny r o) z k below = below z
     step (Deed.asksRanked q rooms o) z k below = below z
 
 -- ---- letters and as many rub-outs

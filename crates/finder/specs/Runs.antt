@@ -1,4 +1,4 @@
--- Any sequence of calls on a set and a session: letters typed, rubbed out, and questions of both kinds, refused ones among them.
+-- Any sequence of calls on a set and a session: letters typed, rubbed out, and questions of every kind, refused ones among them.
 -- Run holds, call by call, the very promise that the call makes; AsMeant is what the rules say, with no call in sight.
 use mathlib.Core.Path.{_≡_}
 use mathlib.Core.Bool.{true}
@@ -10,14 +10,14 @@ use Rattle.rules.specs.declared.Ranking.{Ranking}
 use Rattle.rules.specs.declared.Session.{Session}
 use Rattle.rules.specs.declared.Verdict.{Verdict}
 use Rattle.rules.specs.declared.Verdict.the-variants.{Passed, Refused}
-use Rattle.rules.specs.Numbers.{verdictNumber}
+use Rattle.rules.specs.Numbers.{AnyTold, verdictNumber}
 use Rattle.rules.specs.Names.{folded}
 use Rattle.rules.specs.Tables.{Table}
 use Rattle.rules.specs.Questions.{rangeList, rangeRefusal, ranking, rankedRefusal}
-use Rattle.rules.specs.Outcomes.{Outcome, rangeOutcome, rankedOutcome}
+use Rattle.rules.specs.Outcomes.{Outcome, rangeOutcome, anyOutcome, rankedOutcome}
 use Rattle.rules.specs.Indexes.{Index, setLawful}
 use Rattle.rules.specs.Sessions.{sessionOf, freshSession, typeRefusal, lettersTyped, rubRefusal, lettersRubbed}
-use Rattle.rules.specs.Promises.{TypedRangePromise, TypedRankedPromise}
+use Rattle.rules.specs.Promises.{TypedRangePromise, TypedAnyPromise, TypedRankedPromise}
 use Rattle.session.specs.Promises.{TypePromise, RubPromise}
 
 -- what the calls are lent: a set and the one session
@@ -39,6 +39,7 @@ pub data Deed : Type 0 where
   types : (byte : ℕ) (v : Verdict) → Deed
   rubs : (v : Verdict) → Deed
   asksRange : (r : Rect) (rooms : List (List ℕ)) (o : Outcome) → Deed
+  asksAny : (r : Rect) (o : AnyTold) → Deed
   asksRanked : (q : Ranking) (rooms : List (List ℕ)) (o : Outcome) → Deed
 
 -- and the state after it
@@ -53,6 +54,7 @@ abbrev pub Promises : State → Deed → Session → Type 0
 Promises S (Deed.types b v) s′ = TypePromise (S .index .nodes) b (S .session) s′ v
 Promises S (Deed.rubs v) s′ = RubPromise (S .session) s′ v
 Promises S (Deed.asksRange r rooms o) s′ = TypedRangePromise (S .table) (S .grid) (S .index) (S .session) r rooms o × (s′ ≡ S .session)
+Promises S (Deed.asksAny r o) s′ = TypedAnyPromise (S .table) (S .grid) (S .index) (S .session) r o × (s′ ≡ S .session)
 Promises S (Deed.asksRanked q rooms o) s′ = TypedRankedPromise (S .table) (S .grid) (S .index) (S .session) q rooms o × (s′ ≡ S .session)
 
 -- from one state to the next. No call of these writes in the set
@@ -77,6 +79,7 @@ abbrev pub lettersAfter : List ℕ → Deed → List ℕ
 lettersAfter p (Deed.types b v) = lettersTyped p b
 lettersAfter p (Deed.rubs v) = lettersRubbed p
 lettersAfter p (Deed.asksRange r rooms o) = p
+lettersAfter p (Deed.asksAny r o) = p
 lettersAfter p (Deed.asksRanked q rooms o) = p
 
 abbrev pub standing : List ℕ → List Done → List ℕ
@@ -88,6 +91,7 @@ abbrev pub Meant : State → List ℕ → Deed → Type 0
 Meant S p (Deed.types b v) = verdictNumber v ≡ typeRefusal p b
 Meant S p (Deed.rubs v) = verdictNumber v ≡ rubRefusal p
 Meant S p (Deed.asksRange r rooms o) = o ≡ rangeOutcome (rangeRefusal p r) (rangeList (S .table) (S .grid) p r) rooms
+Meant S p (Deed.asksAny r o) = o ≡ anyOutcome (rangeRefusal p r) (rangeList (S .table) (S .grid) p r)
 Meant S p (Deed.asksRanked q rooms o) = o ≡ rankedOutcome (rankedRefusal (S .grid) p q) (q .k) (ranking (S .table) (S .grid) p q) rooms
 
 -- a lawful set, and the rules' session of the letters p
@@ -108,6 +112,7 @@ withLetter (Deed.types b Passed) l = folded b ∷ l
 withLetter (Deed.types b (Refused why)) l = l
 withLetter (Deed.rubs v) l = l
 withLetter (Deed.asksRange r rooms o) l = l
+withLetter (Deed.asksAny r o) l = l
 withLetter (Deed.asksRanked q rooms o) l = l
 
 abbrev pub lettersIn : List Done → List ℕ
@@ -120,6 +125,7 @@ withRub (Deed.types b v) n = n
 withRub (Deed.rubs Passed) n = suc n
 withRub (Deed.rubs (Refused why)) n = n
 withRub (Deed.asksRange r rooms o) n = n
+withRub (Deed.asksAny r o) n = n
 withRub (Deed.asksRanked q rooms o) n = n
 
 abbrev pub rubsIn : List Done → ℕ

@@ -9,13 +9,13 @@ use Rattle.rules.specs.declared.Place.{Place}
 use Rattle.rules.specs.declared.Rect.{Rect}
 use Rattle.rules.specs.declared.Ranking.{Ranking}
 use Rattle.rules.specs.declared.Session.{Session}
-use Rattle.rules.specs.Numbers.{Told, BuildTold, CheckTold, builtNumbers, verdictNumber}
+use Rattle.rules.specs.Numbers.{Told, BuildTold, CheckTold, AnyTold, builtNumbers, verdictNumber}
 use Rattle.rules.specs.Places.{regionTold}
 use Rattle.rules.specs.Tables.{Table}
 use Rattle.rules.specs.Outcomes.{Outcome, outcome}
 use Rattle.rules.specs.Indexes.{Index, setLawful, checkTold}
 use Rattle.rules.specs.Sessions.{LawfulSession}
-use Rattle.rules.specs.Promises.{RangePromise, RankedPromise, LawfulBoth, TypedRangePromise, TypedRankedPromise}
+use Rattle.rules.specs.Promises.{RangePromise, AnyPromise, RankedPromise, LawfulBoth, TypedRangePromise, TypedAnyPromise, TypedRankedPromise}
 use Rattle.rules.proofs.Outcomes.{one-outcome}
 use Rattle.index.specs.Promises.{BuildPromise}
 use Rattle.index.proofs.Outcomes.{one-building}
@@ -25,8 +25,9 @@ use Rattle.finder_c.specs.declared.Located.{Located}
 use Rattle.finder_c.specs.declared.Built.{Built}
 use Rattle.finder_c.specs.declared.Checked.{Checked}
 use Rattle.finder_c.specs.declared.Found.{Found}
+use Rattle.finder_c.specs.declared.AnyFound.{AnyFound}
 use Rattle.finder_c.specs.declared.Part.{Part}
-use Rattle.finder_c.specs.Told.{Tells, locatedTold, builtTold, checkedTold, foundTold, RestPart}
+use Rattle.finder_c.specs.Told.{Tells, locatedTold, builtTold, checkedTold, foundTold, anyTold, RestPart}
 
 -- ---- records are told apart by what they tell
 
@@ -41,6 +42,9 @@ checked-apart r s e = ap (λ (n : CheckTold). record { lawful = n .lawful; nodes
 
 found-apart : (r s : Found) → foundTold r ≡ foundTold s → r ≡ s
 found-apart r s e = ap (λ (n : Told). record { refusal = n .refusal; count = n .number }) e
+
+any-apart : (r s : AnyFound) → anyTold r ≡ anyTold s → r ≡ s
+any-apart r s e = ap (λ (n : AnyTold). record { refusal = n .refusal; yes = n .yes; stand = n .stand }) e
 
 -- ---- one law for the calls that tell of an answer
 
@@ -70,17 +74,24 @@ module _ (t : Table) (g : Grid) (x : Index) where
   module _ (r s : Found) (rooms after after′ : List (List ℕ)) where
     module _ (law : setLawful t g x ≡ true) (p : List ℕ) where
       pub range-settled : (w : Rect) → RangePromise t g x p w rooms (outcome (foundTold r) after) → RangePromise t g x p w rooms (outcome (foundTold s) after′) → (r ≡ s) × (after ≡ after′)
-      range-settled w m n = found-settled r s after after′ (one-outcome _ _ _ rooms law _ _ m n)
+      range-settled w m n = found-settled r s after after′ (one-outcome _ _ _ _ law _ _ m n)
 
       pub ranked-settled : (q : Ranking) → RankedPromise t g x p q rooms (outcome (foundTold r) after) → RankedPromise t g x p q rooms (outcome (foundTold s) after′) → (r ≡ s) × (after ≡ after′)
-      ranked-settled q m n = found-settled r s after after′ (one-outcome _ _ _ rooms law _ _ m n)
+      ranked-settled q m n = found-settled r s after after′ (one-outcome _ _ _ _ law _ _ m n)
 
     module _ (u : Session) (law : LawfulBoth t g x u) where
       pub range-typed-settled : (w : Rect) → TypedRangePromise t g x u w rooms (outcome (foundTold r) after) → TypedRangePromise t g x u w rooms (outcome (foundTold s) after′) → (r ≡ s) × (after ≡ after′)
-      range-typed-settled w m n = found-settled r s after after′ (one-outcome _ _ _ rooms law _ _ m n)
+      range-typed-settled w m n = found-settled r s after after′ (one-outcome _ _ _ _ law _ _ m n)
 
       pub ranked-typed-settled : (q : Ranking) → TypedRankedPromise t g x u q rooms (outcome (foundTold r) after) → TypedRankedPromise t g x u q rooms (outcome (foundTold s) after′) → (r ≡ s) × (after ≡ after′)
-      ranked-typed-settled q m n = found-settled r s after after′ (one-outcome _ _ _ rooms law _ _ m n)
+      ranked-typed-settled q m n = found-settled r s after after′ (one-outcome _ _ _ _ law _ _ m n)
+
+  module _ (r s : AnyFound) (w : Rect) where
+    pub any-settled : setLawful t g x ≡ true → (p : List ℕ) → AnyPromise t g x p w (anyTold r) → AnyPromise t g x p w (anyTold s) → r ≡ s
+    any-settled law p m n = any-apart r s (one-outcome _ _ _ _ law _ _ m n)
+
+    pub any-typed-settled : (u : Session) → LawfulBoth t g x u → TypedAnyPromise t g x u w (anyTold r) → TypedAnyPromise t g x u w (anyTold s) → r ≡ s
+    any-typed-settled u law m n = any-apart r s (one-outcome _ _ _ _ law _ _ m n)
 
 -- a keystroke of either kind: Served t says that it was lent the nodes of table t
 key-settled : (refusal : List ℕ → ℕ) (letters : List ℕ → List ℕ) (Served : Table → Type 0) (t : Table) → Served t → (u u′ u″ : Session) → LawfulSession t u → (n m : ℕ)

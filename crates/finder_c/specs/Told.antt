@@ -10,11 +10,12 @@ use Rattle.rules.specs.declared.Place.{Place}
 use Rattle.rules.specs.declared.Ranking.{Ranking}
 use Rattle.rules.specs.Names.{restOf, restAt}
 use Rattle.rules.specs.Outcomes.{Outcome, outcome}
-use Rattle.rules.specs.Numbers.{Told, BuildTold, CheckTold}
+use Rattle.rules.specs.Numbers.{Told, BuildTold, CheckTold, AnyTold}
 use Rattle.finder_c.specs.declared.Located.{Located}
 use Rattle.finder_c.specs.declared.Built.{Built}
 use Rattle.finder_c.specs.declared.Checked.{Checked}
 use Rattle.finder_c.specs.declared.Found.{Found}
+use Rattle.finder_c.specs.declared.AnyFound.{AnyFound}
 use Rattle.finder_c.specs.declared.Part.{Part}
 
 abbrev pub locatedTold : Located → Told
@@ -28,6 +29,9 @@ checkedTold r = record { lawful = r .lawful; nodes = r .nodes; entries = r .entr
 
 abbrev pub foundTold : Found → Told
 foundTold r = record { refusal = r .refusal; number = r .count }
+
+abbrev pub anyTold : AnyFound → AnyTold
+anyTold r = record { refusal = r .refusal; yes = r .yes; stand = r .stand }
 
 -- what came of a question with one room, and with two
 abbrev pub foundIn : Found → Lent (List ℕ) → Outcome

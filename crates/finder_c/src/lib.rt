@@ -3,16 +3,17 @@
 // include/krzewido.h says the same to C. Nothing is asked of any argument: what the calls under these promise, these promise of the numbers.
 ghost use mathlib.Core.Path.{_≡_};
 ghost use Rattle.base.specs.Lent.{given, after};
-ghost use Rattle.rules.specs.Numbers.{locatedNumbers, builtNumbers, checkedNumbers, rangeNumbers, rankedNumbers, verdictNumber};
+ghost use Rattle.rules.specs.Numbers.{locatedNumbers, builtNumbers, checkedNumbers, rangeNumbers, anyNumbers, rankedNumbers, verdictNumber};
 ghost use Rattle.rules.specs.Places.{regionTold};
 ghost use Rattle.rules.specs.Tables.{tableIn};
 ghost use Rattle.rules.specs.Outcomes.{roomIn, roomsIn};
 ghost use Rattle.rules.specs.Indexes.{indexIn, checkTold};
 ghost use Rattle.rules.specs.Sessions.{freshSession};
-ghost use Rattle.rules.specs.Promises.{RangePromise, RankedPromise, TypedRangePromise, TypedRankedPromise};
+ghost use Rattle.rules.specs.Promises.{RangePromise, AnyPromise, RankedPromise, TypedRangePromise, TypedAnyPromise, TypedRankedPromise};
 ghost use Rattle.index.specs.Promises.{BuildPromise, indexLeft};
 ghost use Rattle.session.specs.Promises.{TypePromise, RubPromise};
-ghost use Rattle.finder_c.specs.Told.{Tells, locatedTold, builtTold, checkedTold, foundTold, foundIn, foundsIn, rankingOf, RestPart};
+ghost use Rattle.finder_c.specs.Told.{Tells, locatedTold, builtTold, checkedTold, foundTold, anyTold, foundIn, foundsIn, rankingOf, RestPart};
+use finder::AnyAnswer;
 use finder::Grid;
 use finder::Place;
 use finder::RangeAnswer;
@@ -52,6 +53,14 @@ pub struct Checked {
 pub struct Found {
     pub refusal: u32,
     pub count: u32,
+}
+
+// Yes is 1 or 0; but with yes the stand is 0.
+#[repr(C)]
+pub struct AnyFound {
+    pub refusal: u32,
+    pub yes: u32,
+    pub stand: u32,
 }
 
 // A part of the table's text: where it begins, and how many bytes it has.
@@ -134,6 +143,30 @@ impl Found {
             RankedAnswer::Refused(why) => Found {
                 refusal: why.number(),
                 count: 0,
+            },
+        }
+    }
+}
+
+impl AnyFound {
+    fn of(answer: AnyAnswer) -> AnyFound
+        ensures { λ r. ⌜ anyTold r ≡ anyNumbers answer ⌝ }
+    {
+        match answer {
+            AnyAnswer::Yes(stand) => AnyFound {
+                refusal: 0,
+                yes: 1,
+                stand: stand.0,
+            },
+            AnyAnswer::No => AnyFound {
+                refusal: 0,
+                yes: 0,
+                stand: 0,
+            },
+            AnyAnswer::Refused(why) => AnyFound {
+                refusal: why.number(),
+                yes: 0,
+                stand: 0,
             },
         }
     }
@@ -234,6 +267,37 @@ pub extern "C" fn krz_range(
 }
 
 #[no_mangle]
+pub extern "C" fn krz_any(
+    text: &[u8],
+    starts: &[u32],
+    east: &[i32],
+    north: &[i32],
+    score: &[u32],
+    grid: Grid,
+    order: &[u32],
+    nodes: &[u32],
+    entries: &[u32],
+    typed: &[u8],
+    rect: Rect,
+) -> AnyFound
+    ensures { λ r. ⌜ AnyPromise (tableIn text starts east north score) grid (indexIn order nodes entries) (given typed) rect (anyTold r) ⌝ }
+{
+    AnyFound::of(finder::any(
+        text,
+        starts,
+        east,
+        north,
+        score,
+        grid,
+        order,
+        nodes,
+        entries,
+        typed,
+        rect,
+    ))
+}
+
+#[no_mangle]
 pub extern "C" fn krz_ranked(
     text: &[u8],
     starts: &[u32],
@@ -300,6 +364,37 @@ pub extern "C" fn krz_range_typed(
         session,
         rect,
         found,
+    ))
+}
+
+#[no_mangle]
+pub extern "C" fn krz_any_typed(
+    text: &[u8],
+    starts: &[u32],
+    east: &[i32],
+    north: &[i32],
+    score: &[u32],
+    grid: Grid,
+    order: &[u32],
+    nodes: &[u32],
+    entries: &[u32],
+    session: Session,
+    rect: Rect,
+) -> AnyFound
+    ensures { λ r. ⌜ TypedAnyPromise (tableIn text starts east north score) grid (indexIn order nodes entries) session rect (anyTold r) ⌝ }
+{
+    AnyFound::of(finder::any_typed(
+        text,
+        starts,
+        east,
+        north,
+        score,
+        grid,
+        order,
+        nodes,
+        entries,
+        session,
+        rect,
     ))
 }
 

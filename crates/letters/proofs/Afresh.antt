@@ -7,11 +7,16 @@ use Rattle.rules.specs.declared.Grid.{Grid}
 use Rattle.rules.specs.declared.Rect.{Rect}
 use Rattle.rules.specs.declared.Ranking.{Ranking}
 use Rattle.rules.specs.declared.Session.{Session}
+use Rattle.rules.specs.Numbers.{AnyTold}
 use Rattle.rules.specs.Tables.{Table}
 use Rattle.rules.specs.Outcomes.{Outcome}
 use Rattle.rules.specs.Indexes.{Index}
 use Rattle.rules.specs.Sessions.{lettersOf}
-use Rattle.rules.specs.Promises.{RangePromise, RankedPromise, LawfulBoth, TypedRangePromise, TypedRankedPromise}
+use Rattle.rules.specs.Promises.{RangePromise, AnyPromise, RankedPromise, LawfulBoth, TypedRangePromise, TypedAnyPromise, TypedRankedPromise}
+
+module _ (t : Table) (g : Grid) (x : Index) (s : Session) (l : LawfulBoth t g x s) where
+  pub any-as-afresh : (o o′ : AnyTold) (r : Rect) → TypedAnyPromise t g x s r o → AnyPromise t g x (lettersOf s) r o′ → o ≡ o′
+  any-as-afresh o o′ r m n = m .exact l ∙ sym (n .exact (l .set))
 
 module _ (t : Table) (g : Grid) (x : Index) (s : Session) (l : LawfulBoth t g x s) (rooms : List (List ℕ)) (o o′ : Outcome) where
   pub range-as-afresh : (r : Rect) → TypedRangePromise t g x s r rooms o → RangePromise t g x (lettersOf s) r rooms o′ → o ≡ o′

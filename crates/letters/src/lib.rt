@@ -1,14 +1,16 @@
-// Both questions on the letters of a session. Its path has the letters' node, so nothing is walked from the root.
+// The questions on the letters of a session. Its path has the letters' node, so nothing is walked from the root.
 // On a lawful set and session the outcome is that of the same text given afresh; on any other it is harmless.
 ghost use mathlib.Core.Path.{_≡_};
-ghost use Rattle.rules.specs.Numbers.{verdictNumber};
+ghost use Rattle.rules.specs.Numbers.{verdictNumber, anyNumbers};
 ghost use Rattle.rules.specs.Tables.{tableIn};
 ghost use Rattle.rules.specs.Outcomes.{roomIn, roomsIn, rangeCameIn, rankedCameIn};
 ghost use Rattle.rules.specs.Indexes.{indexIn};
-ghost use Rattle.rules.specs.Promises.{TypedRangePromise, TypedRankedPromise};
+ghost use Rattle.rules.specs.Promises.{TypedRangePromise, TypedAnyPromise, TypedRankedPromise};
 ghost use Rattle.letters.specs.Letters.{lettersRefusal};
+use any::any_from;
 use range::range_from;
 use ranked::ranked_from;
+use rules::AnyAnswer;
 use rules::Grid;
 use rules::RangeAnswer;
 use rules::RankedAnswer;
@@ -56,6 +58,29 @@ pub fn range_typed(
     }
     let at = listing_at(nodes, reached(session));
     range_from(east, north, grid, order, entries, at, rect, found)
+}
+
+// Whether any stand whose name begins with the session's letters is in a rectangle; with yes comes the first stand of that range.
+pub fn any_typed(
+    text: &[u8],
+    starts: &[u32],
+    east: &[i32],
+    north: &[i32],
+    score: &[u32],
+    grid: Grid,
+    order: &[u32],
+    nodes: &[u32],
+    entries: &[u32],
+    session: Session,
+    rect: Rect,
+) -> AnyAnswer
+    ensures { λ a. ⌜ TypedAnyPromise (tableIn text starts east north score) grid (indexIn order nodes entries) session rect (anyNumbers a) ⌝ }
+{
+    if let Verdict::Refused(why) = letters_verdict(session) {
+        return AnyAnswer::Refused(why);
+    }
+    let at = listing_at(nodes, reached(session));
+    any_from(east, north, grid, order, entries, at, rect)
 }
 
 // The best k stands whose name begins with the session's letters, best first, each with its value.

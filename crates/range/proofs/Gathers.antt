@@ -15,9 +15,12 @@ use borrow.Author.Tests.{lt-ltb, le-ltb}
 use Rattle.base.specs.Lists.{In, all, keep, written}
 use Rattle.base.proofs.Tests.{never, and-parts}
 use Rattle.rules.specs.declared.Rect.{Rect}
+use Rattle.runs.specs.declared.sight.Lies.{Lies}
+use Rattle.runs.specs.declared.sight.Lies.the-variants.{Inside, Outside, Unknown}
+use Rattle.runs.specs.Sights.{inside, liesAs, known}
 use Rattle.range.specs.declared.gather.Tally.{Tally}
 use Rattle.range.specs.declared.gather.Tally.the-variants.{Count, Broken}
-use Rattle.range.specs.Fetches.{inside, Gathered, tallied, gathered}
+use Rattle.range.specs.Fetches.{Gathered, tallied, gathered}
 
 -- the room after as many as fit are written at its start
 pub sets-written : (words room : List ℕ) → length words ≤ length room → sets room 0 words ≡ written words room
@@ -28,19 +31,18 @@ sets-written words room h =
 module _ (east north : List ℤ) (rect : Rect) where
   -- ---- one stand
 
-  module _ (s : ℕ) (l room : List ℕ) (n : ℕ) where
-    pub stand-off : length east ≤ s → gathered east north rect room n (s ∷ l) ≡ tallied Broken room
+  module _ (s : ℕ) (l room : List ℕ) (n : ℕ) (how : Lies) (is : how ≡ liesAs east north rect s) where
+    pub stand-off : how ≡ Unknown → gathered east north rect room n (s ∷ l) ≡ tallied Broken room
     unfolding gathered
-    stand-off h = rw (le-ltb s (length east) h)
+    stand-off e = rw (← is, e)
 
-    module _ (h : s < length east) where
-      pub stand-in : inside east north rect s ≡ true → gathered east north rect room n (s ∷ l) ≡ gathered east north rect (set room n s) (suc n) l
-      unfolding gathered
-      stand-in e = rw (lt-ltb s (length east) h, e)
+    pub stand-in : how ≡ Inside → gathered east north rect room n (s ∷ l) ≡ gathered east north rect (set room n s) (suc n) l
+    unfolding gathered
+    stand-in e = rw (← is, e)
 
-      pub stand-out : inside east north rect s ≡ false → gathered east north rect room n (s ∷ l) ≡ gathered east north rect room n l
-      unfolding gathered
-      stand-out e = rw (lt-ltb s (length east) h, e)
+    pub stand-out : how ≡ Outside → gathered east north rect room n (s ∷ l) ≡ gathered east north rect room n l
+    unfolding gathered
+    stand-out e = rw (← is, e)
 
   -- ---- one list after another
 
@@ -50,7 +52,7 @@ module _ (east north : List ℤ) (rect : Rect) where
   onward Broken room k = tallied Broken room
 
   walk-append : (l k room : List ℕ) (n : ℕ) → gathered east north rect room n (l ++ k) ≡ onward (gathered east north rect room n l .tally) (gathered east north rect room n l .room) k
-  unfolding gathered
+  unfolding gathered liesAs
   walk-append [] k room n = refl
   walk-append (s ∷ l) k room n =
       cases (ltb s (length east))
@@ -67,35 +69,27 @@ module _ (east north : List ℤ) (rect : Rect) where
   hits l = keep (inside east north rect) l
 
   pub walk-size : (l room : List ℕ) (n : ℕ) → length (gathered east north rect room n l .room) ≡ length room
-  unfolding gathered
+  unfolding gathered liesAs
   walk-size [] room n = refl
   walk-size (s ∷ l) room n =
       cases (ltb s (length east))
       (λ t. cases (inside east north rect s) (λ e. rw (t, e) (walk-size l (set room n s) (suc n) ∙ length-set room n s)) (λ e. rw (t, e) (walk-size l room n)))
       (λ t. rw t)
 
-  -- whether all of a list are stands of the table
-  abbrev pub known : List ℕ → Bool
-  known l = all (λ s. ltb s (length east)) l
-
-  pub known-of : (l : List ℕ) → ((s : ℕ) → In s l → s < length east) → known l ≡ true
-  known-of [] h = refl
-  known-of (s ∷ l) h = rw (lt-ltb s (length east) (h s (inl refl))) (known-of l (λ x k. h x (inr k)))
-
-  -- those are counted, and written as far as the room goes
-  pub walk-whole : (l room : List ℕ) (n : ℕ) → known l ≡ true → gathered east north rect room n l ≡ tallied (Count (n + length (hits l))) (sets room n (hits l))
-  unfolding gathered
+  -- where all are of the table those are counted, and written as far as the room goes
+  pub walk-whole : (l room : List ℕ) (n : ℕ) → known east l ≡ true → gathered east north rect room n l ≡ tallied (Count (n + length (hits l))) (sets room n (hits l))
+  unfolding gathered liesAs
   walk-whole [] room n q = let z : n ≡ n + 0 = omega arith in rw (← z)
   walk-whole (s ∷ l) room n q =
-      let k = and-parts (ltb s (length east)) (known l) q in
+      let k = and-parts (ltb s (length east)) (known east l) q in
       let z : suc n + length (hits l) ≡ n + suc (length (hits l)) = omega arith in
       cases (inside east north rect s)
       (λ e. rw (k .0, e) (walk-whole l (set room n s) (suc n) (k .1) ∙ rw z))
       (λ e. rw (k .0, e) (walk-whole l room n (k .1)))
 
   -- where one is not of the table the walk breaks off
-  pub walk-broken : (l room : List ℕ) (n : ℕ) → known l ≡ false → gathered east north rect room n l .tally ≡ Broken
-  unfolding gathered
+  pub walk-broken : (l room : List ℕ) (n : ℕ) → known east l ≡ false → gathered east north rect room n l .tally ≡ Broken
+  unfolding gathered liesAs
   walk-broken [] room n q = never true refl q
   walk-broken (s ∷ l) room n q =
       cases (ltb s (length east))
@@ -103,12 +97,12 @@ module _ (east north : List ℤ) (rect : Rect) where
       (λ t. rw t)
 
   -- so a count says that all are of the table, and which were found
-  pub walk-counts : (l room : List ℕ) (n m : ℕ) → gathered east north rect room n l .tally ≡ Count m → (known l ≡ true) × (m ≡ n + length (hits l))
+  pub walk-counts : (l room : List ℕ) (n m : ℕ) → gathered east north rect room n l .tally ≡ Count m → (known east l ≡ true) × (m ≡ n + length (hits l))
   walk-counts l room n m e =
-      cases (known l)
+      cases (known east l)
       (λ q. (q, cc (e, ap (λ (g : Gathered). g .tally) (walk-whole l room n q))))
       (λ q. let z : _≡_ {A = ℕ} 0 1 = cc (e, walk-broken l room n q) in absurd (omega arith))
 
-  pub walk-breaks-off : (l room : List ℕ) (n : ℕ) → gathered east north rect room n l .tally ≡ Broken → known l ≡ false
+  pub walk-breaks-off : (l room : List ℕ) (n : ℕ) → gathered east north rect room n l .tally ≡ Broken → known east l ≡ false
   walk-breaks-off l room n e =
-      cases (known l) (λ q. let z : _≡_ {A = ℕ} 0 1 = cc (e, ap (λ (g : Gathered). g .tally) (walk-whole l room n q)) in absurd (omega arith)) (λ q. q)
+      cases (known east l) (λ q. let z : _≡_ {A = ℕ} 0 1 = cc (e, ap (λ (g : Gathered). g .tally) (walk-whole l room n q)) in absurd (omega arith)) (λ q. q)

@@ -9,50 +9,19 @@ use lib.IntN.{ℤ}
 use lib.ListN.{length, getD, set, take, drop, length-set, length-take, length-drop, drop-of-length-le}
 use lib.Seq.{slice, slice-cons}
 use Rattle.base.specs.Lists.{isEmpty, firstOf}
-use borrow.Author.Tests.{leb-true}
-use Rattle.base.proofs.Tests.{every-at}
 use Rattle.base.proofs.Members.{first-rest, empty-of, length-keep}
 use Rattle.rules.specs.declared.Rect.{Rect}
-use Rattle.walk.specs.declared.entry.Entry.{Entry}
-use Rattle.walk.specs.declared.entry.EntryRead.{EntryRead}
-use Rattle.walk.specs.declared.entry.EntryRead.the-variants as entry
-use Rattle.walk.specs.Entries.{entryRead}
+use Rattle.runs.specs.declared.sight.Lies.{Lies}
+use Rattle.runs.specs.declared.sight.Lies.the-variants.{Inside, Outside, Unknown}
+use Rattle.runs.specs.Sights.{inside, liesAs, runOf, touchedStands, Ready}
+use Rattle.runs.proofs.Sights.{stands-few, norths-enough, places-enough}
+use Rattle.runs.proofs.Walks.{place-and-later, run-over, run-and-later}
 use Rattle.range.specs.declared.gather.Tally.{Tally}
 use Rattle.range.specs.declared.gather.Tally.the-variants.{Count, Broken}
-use Rattle.range.specs.Fetches.{notesOf, noteBy, noteFrom, inside, Gathered, tallied, gathered, runOf, touchedStands, agree, Ready, RunFits}
+use Rattle.range.specs.Fetches.{Gathered, tallied, gathered, RunFits}
 use Rattle.range.proofs.Gathers.{stand-off, stand-in, stand-out, walk-from, walk-size, walk-counts}
 
--- ---- note: at entry e, which is left entries short of the end
-
-pub record Noting (words : List ℕ) (stands count from : ℕ) (firsts₀ pasts₀ : List ℕ) (end : ℕ) (firsts pasts : List ℕ) (e : ℕ) : Type 0 where
-  pub within : e ≤ end
-  pub same : noteFrom words stands count from firsts₀ pasts₀ ≡ noteFrom words stands (end - e) e firsts pasts
-
-module _ (words : List ℕ) (stands count from : ℕ) (firsts₀ pasts₀ : List ℕ) where
-  pub note-begins : Noting words stands count from firsts₀ pasts₀ (from + count) firsts₀ pasts₀ from
-  note-begins = let z : from + count - from ≡ count = omega arith in record { within = omega arith; same = rw z }
-
-  module _ (end : ℕ) (firsts pasts : List ℕ) (e : ℕ) (w : Noting words stands count from firsts₀ pasts₀ end firsts pasts e) where
-    module _ (l : e < end) (r : EntryRead) (read : r ≡ entryRead words stands e) where
-      turn : noteFrom words stands count from firsts₀ pasts₀ ≡ noteBy r firsts pasts (λ firsts pasts. noteFrom words stands (end - (e + 1)) (e + 1) firsts pasts)
-      unfolding noteFrom
-      turn = let z : end - e ≡ suc (end - (e + 1)) = omega arith in w .same ∙ rw (z, add-one e, ← read)
-
-      pub note-breaks : r ≡ entry.Broken → notesOf firsts pasts false ≡ noteFrom words stands count from firsts₀ pasts₀
-      note-breaks q = sym (turn ∙ rw q)
-
-      pub note-more : (x : Entry) → r ≡ entry.At x
-          → Noting words stands count from firsts₀ pasts₀ end (set firsts (x .region) (x .first .0)) (set pasts (x .region) (x .past .0)) (e + 1)
-      note-more x q = record { within = omega arith; same = turn ∙ rw q }
-
-    pub note-ends : end ≤ e → notesOf firsts pasts true ≡ noteFrom words stands count from firsts₀ pasts₀
-    unfolding noteFrom
-    note-ends l = let z : end - e ≡ 0 = omega arith in sym (w .same ∙ rw z)
-
 -- ---- gather_run: at place i of a run, with n found
-
-slice-none : (i end : ℕ) (l : List ℕ) → end ≤ i → slice i end l ≡ []
-slice-none i end l h = drop-of-length-le (take end l) {i = i} (omega (arith, length-take end l))
 
 slice-short : (i end : ℕ) (l : List ℕ) → length (slice i end l) ≤ end
 slice-short i end l = omega (arith, length-drop i (take end l), length-take end l)
@@ -69,10 +38,11 @@ module _ (east north : List ℤ) (order : List ℕ) (rect : Rect) (found₀ : Li
     (w : Gathering east north order rect found₀ before end first found i n) where
   module _ (l : i < end) where
     here : slice i end order ≡ getD order i 0 ∷ slice (i + 1) end order
-    here = slice-cons i end order 0 l (w .fits) ∙ rw (add-one i)
+    here = place-and-later order i end l (w .fits)
 
-    pub run-breaks : length east ≤ getD order i 0 → tallied Broken found ≡ gathered east north rect found₀ before (slice first end order)
-    run-breaks h = sym (w .same ∙ ap (gathered east north rect found n) here ∙ stand-off east north rect (getD order i 0) (slice (i + 1) end order) found n h)
+    module _ (how : Lies) (is : how ≡ liesAs east north rect (getD order i 0)) where
+      pub run-breaks : how ≡ Unknown → tallied Broken found ≡ gathered east north rect found₀ before (slice first end order)
+      run-breaks e = sym (w .same ∙ ap (gathered east north rect found n) here ∙ stand-off east north rect (getD order i 0) (slice (i + 1) end order) found n how is e)
 
     -- one place on, with what is found by then
     on : (found′ : List ℕ) (n′ : ℕ) → n′ ≤ n + 1 → length found′ ≡ length found
@@ -81,35 +51,18 @@ module _ (east north : List ℤ) (order : List ℕ) (rect : Rect) (found₀ : Li
     on found′ n′ m z e =
         record { wide = w .wide; fits = w .fits; room = w .room; few = omega (arith, w .few); size = z ∙ w .size; same = w .same ∙ ap (gathered east north rect found n) here ∙ e }
 
-    module _ (k : getD order i 0 < length east) (found′ : List ℕ) (n′ : ℕ) where
-      pub run-hit : inside east north rect (getD order i 0) ≡ true → found′ ≡ set found n (getD order i 0) → n′ ≡ n + 1 → Gathering east north order rect found₀ before end first found′ (i + 1) n′
-      run-hit q f m = rw (f, m) (on _ _ (omega arith) (length-set found n _) (stand-in east north rect (getD order i 0) (slice (i + 1) end order) found n k q ∙ rw (add-one n)))
+    module _ (how : Lies) (is : how ≡ liesAs east north rect (getD order i 0)) (found′ : List ℕ) (n′ : ℕ) where
+      pub run-hit : how ≡ Inside → found′ ≡ set found n (getD order i 0) → n′ ≡ n + 1 → Gathering east north order rect found₀ before end first found′ (i + 1) n′
+      run-hit q f m = rw (f, m) (on _ _ (omega arith) (length-set found n _) (stand-in east north rect (getD order i 0) (slice (i + 1) end order) found n how is q ∙ rw (add-one n)))
 
-      pub run-miss : inside east north rect (getD order i 0) ≡ false → found′ ≡ found → n′ ≡ n → Gathering east north order rect found₀ before end first found′ (i + 1) n′
-      run-miss q f m = rw (f, m) (on _ _ (omega arith) refl (stand-out east north rect (getD order i 0) (slice (i + 1) end order) found n k q))
+      pub run-miss : how ≡ Outside → found′ ≡ found → n′ ≡ n → Gathering east north order rect found₀ before end first found′ (i + 1) n′
+      run-miss q f m = rw (f, m) (on _ _ (omega arith) refl (stand-out east north rect (getD order i 0) (slice (i + 1) end order) found n how is q))
 
   pub run-ends : end ≤ i → tallied (Count n) found ≡ gathered east north rect found₀ before (slice first end order)
   unfolding gathered
-  run-ends h = sym (w .same ∙ rw (slice-none i end order h))
+  run-ends h = sym (w .same ∙ rw (run-over order i end h))
 
 -- ---- gather: before the regions that are left, with n found
-
-module _ (east north : List ℤ) (order : List ℕ) (h : agree east north order ≡ true) where
-  pub stands-few : length east ≤ 1024
-  unfolding agree
-  stands-few = leb-true _ _ (every-at _ 0 h)
-
-  pub norths-enough : length east ≤ length north
-  unfolding agree
-  norths-enough = leb-true _ _ (every-at _ 1 h)
-
-  pub places-enough : length east ≤ length order
-  unfolding agree
-  places-enough = leb-true _ _ (every-at _ 2 h)
-
--- the regions that are left once the first is done are fewer
-pub fewer : (left later : List ℕ) → isEmpty left ≡ false → later ≡ drop 1 left → length later < length left
-fewer left later some e = omega (arith, ap length e, ap length (first-rest left some .0))
 
 pub record Sweeping (east north : List ℤ) (order firsts pasts : List ℕ) (rect : Rect) (regions found₀ found : List ℕ) (n : ℕ) (left : List ℕ) : Type 0 where
   pub ready : Ready east north order pasts
@@ -124,7 +77,7 @@ module _ (east north : List ℤ) (order firsts pasts : List ℕ) (rect : Rect) (
   module _ (found : List ℕ) (n : ℕ) (left : List ℕ) (w : Sweeping east north order firsts pasts rect regions found₀ found n left) where
     module _ (some : isEmpty left ≡ false) (r : ℕ) (least : r ≡ firstOf left) where
       here-and-later : touchedStands order firsts pasts left ≡ runOf order firsts pasts r ++ touchedStands order firsts pasts (drop 1 left)
-      here-and-later = rw least (ap (touchedStands order firsts pasts) (first-rest left some .0))
+      here-and-later = run-and-later left some order firsts pasts r least
 
       -- what the run's walk asks for
       pub sweep-room : RunFits east north order (getD pasts r 0) n

@@ -1,3 +1,3 @@
--- Promises has what the question promises from a listing; Fetches what the code computes past it, on any words.
+-- Promises has what the question promises from a listing; Fetches what the code makes of the stands there, on any words.
 pub mod Fetches
 pub mod Promises

@@ -7,14 +7,15 @@ ghost use lib.Seq.{slice};
 ghost use Rattle.base.specs.Lent.{given, after};
 ghost use Rattle.base.specs.Lists.{written};
 ghost use Rattle.grid.specs.Cells.{regionsIn};
-ghost use Rattle.range.specs.Fetches.{tallied, gathered, touchedStands, RunFits, Ready};
-use crate::runs::Places;
+ghost use Rattle.runs.specs.Sights.{touchedStands, Ready};
+ghost use Rattle.range.specs.Fetches.{tallied, gathered, RunFits};
 use grid::cells::Cells;
-use grid::in_rect;
 use rules::OrderPlace;
-use rules::Place;
 use rules::Rect;
 use rules::Stand;
+use runs::notes::Places;
+use runs::sight::Lies;
+use runs::sight::look;
 
 // How many stands are in the rectangle.
 pub(crate) enum Tally {
@@ -66,18 +67,14 @@ fn gather_run(
     let mut i = first.0 as usize;
     let mut n = before;
     while i < end {
-        let stand = order[i];
-        let s = stand as usize;
-        if east.len() <= s {
-            return Tally::Broken;
-        }
-        let place = Place {
-            east: east[s],
-            north: north[s],
-        };
-        if in_rect(rect, place) {
-            put(found, n, Stand(stand));
-            n += 1;
+        let stand = Stand(order[i]);
+        match look(east, north, rect, stand) {
+            Lies::Inside => {
+                put(found, n, stand);
+                n += 1;
+            }
+            Lies::Outside => {}
+            Lies::Unknown => return Tally::Broken,
         }
         i += 1;
     }

@@ -25,7 +25,7 @@ use Rattle.rules.specs.Places.{gridLawful}
 use Rattle.rules.specs.Names.{foldedText, textRefusal}
 use Rattle.rules.specs.Tables.{Table}
 use Rattle.rules.specs.Questions.{under, better, hitOf, ranking, rankingLawful, rankingRefusal}
-use Rattle.rules.specs.Outcomes.{Outcome, rankedOutcome, rankedCame}
+use Rattle.rules.specs.Outcomes.{Outcome, refused, rankedOutcome, rankedCame}
 use Rattle.rules.specs.Promises.{Harmless, RankedPromise}
 use Rattle.rules.specs.Indexes.{Index, indexOf}
 use Rattle.rules.proofs.Lawful.{SetParts, set-parts}
@@ -112,7 +112,7 @@ module _ (c : StandColumns) (g : Grid) (order entries : List ℕ) (at : Listing)
           harmless = inr ([], nothing-comes);
         }
 
-    harmless-of : (o : Outcome) (r : Search) → Answers r (q .k) rooms o → Harmless comes rooms o
+    harmless-of : (o : Outcome) (r : Search) → Answers r (q .k) rooms o → Harmless comes (refused 7 rooms) o
     harmless-of o broken w = inl w
     harmless-of o (keys l) w = inr (each hitOfKey l, rw (s .asks .ranking) w)
 
@@ -134,11 +134,11 @@ module _ (c : StandColumns) (g : Grid) (order entries : List ℕ) (at : Listing)
 module _ (t : Table) (g : Grid) (x : Index) (p : List ℕ) (q : Ranking) (found values : List ℕ) where
   pub of-refused : (v : Verdict) (why : Refusal) → verdictNumber v ≡ textRefusal (foldedText p) → v ≡ verdict.Refused why → RankedPromise t g x p q (found ∷ values ∷ []) (rankedCame (Refused why) found values)
   of-refused v why e r =
-      text-refused _ (λ n hits. rankedOutcome n (q .k) hits (found ∷ values ∷ [])) (ranking t g (foldedText p) q) (found ∷ values ∷ []) (foldedText p) (rankingRefusal g q)
+      text-refused _ (λ n hits. rankedOutcome n (q .k) hits (found ∷ values ∷ [])) (ranking t g (foldedText p) q) (λ n. refused n (found ∷ values ∷ [])) (foldedText p) (rankingRefusal g q)
       (λ n hits some. settled-refused n _ _ _ _ _ some) why (ap verdictNumber (sym r) ∙ e)
 
   pub of-listed : (o : Outcome) (v : Verdict) (at : Listing) → verdictNumber v ≡ textRefusal (foldedText p) → v ≡ verdict.Passed → at ≡ listingAt (x .nodes) (nodeIn (x .nodes) (foldedText p))
       → RankedFrom (tableColumns t) g (x .order) (x .entries) at q (found ∷ values ∷ []) o → RankedPromise t g x p q (found ∷ values ∷ []) o
   of-listed o v at e fine walked w =
-      from-kept _ (Listed (t .east) (t .north) (t .score) g (x .order) (x .entries) at) (λ n hits. rankedOutcome n (q .k) hits (found ∷ values ∷ [])) (λ t p. ranking t g p q) (found ∷ values ∷ []) o t (foldedText p)
+      from-kept _ (Listed (t .east) (t .north) (t .score) g (x .order) (x .entries) at) (λ n hits. rankedOutcome n (q .k) hits (found ∷ values ∷ [])) (λ t p. ranking t g p q) (refused 7 (found ∷ values ∷ [])) o t (foldedText p)
       (rankingRefusal g q) (sym e ∙ ap verdictNumber fine) (text-listed t g x (foldedText p) at walked) w

@@ -1,5 +1,5 @@
 -- What holds of the definitions: the small scheme, places of a grid, roots, the order of names, folded texts, lawful tables,
--- and that answers are told apart by their numbers.
+-- that answers are told apart by their numbers, and that the questions agree.
 pub mod Scheme
 pub mod Places
 pub mod Roots
@@ -11,3 +11,4 @@ pub mod Lawful
 pub mod Refusals
 pub mod Numbers
 pub mod Outcomes
+pub mod Any

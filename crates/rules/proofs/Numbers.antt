@@ -20,9 +20,12 @@ use Rattle.rules.specs.declared.Checked.{Checked}
 use Rattle.rules.specs.declared.Checked.the-variants as checked
 use Rattle.rules.specs.declared.RangeAnswer.{RangeAnswer}
 use Rattle.rules.specs.declared.RangeAnswer.the-variants as range
+use Rattle.rules.specs.declared.Stand.{Stand}
+use Rattle.rules.specs.declared.AnyAnswer.{AnyAnswer}
+use Rattle.rules.specs.declared.AnyAnswer.the-variants as any
 use Rattle.rules.specs.declared.RankedAnswer.{RankedAnswer}
 use Rattle.rules.specs.declared.RankedAnswer.the-variants as ranked
-use Rattle.rules.specs.Numbers.{refusalNumber, Told, BuildTold, CheckTold, verdictNumber, locatedNumbers, builtNumbers, checkedNumbers, rangeNumbers, rankedNumbers}
+use Rattle.rules.specs.Numbers.{refusalNumber, Told, BuildTold, CheckTold, AnyTold, verdictNumber, locatedNumbers, builtNumbers, checkedNumbers, rangeNumbers, anyNumbers, rankedNumbers}
 
 -- the refusals in the order of their numbers
 inTurn : List Refusal
@@ -99,6 +102,17 @@ one-range (range.Found n) (range.Found m) e = ap (λ (n : Told). range.Found (n 
 one-range (range.Found n) (range.Refused r m) e = absurd (refusal-some r (sym (ap (λ (n : Told). n .refusal) e)))
 one-range (range.Refused r m) (range.Found n) e = absurd (refusal-some r (ap (λ (n : Told). n .refusal) e))
 one-range (range.Refused r m) (range.Refused s n) e = ap₂ range.Refused (one-refusal r s (ap (λ (n : Told). n .refusal) e)) (ap (λ (n : Told). n .number) e)
+
+pub one-any : (a b : AnyAnswer) → anyNumbers a ≡ anyNumbers b → a ≡ b
+one-any (any.Yes s) (any.Yes u) e = ap (λ (n : AnyTold). any.Yes (record { 0 = n .stand })) e
+one-any (any.Yes s) any.No e = absurd (omega (arith, ap (λ (n : AnyTold). n .yes) e))
+one-any (any.Yes s) (any.Refused r) e = absurd (refusal-some r (sym (ap (λ (n : AnyTold). n .refusal) e)))
+one-any any.No (any.Yes u) e = absurd (omega (arith, ap (λ (n : AnyTold). n .yes) e))
+one-any any.No any.No e = refl
+one-any any.No (any.Refused r) e = absurd (refusal-some r (sym (ap (λ (n : AnyTold). n .refusal) e)))
+one-any (any.Refused r) (any.Yes s) e = absurd (refusal-some r (ap (λ (n : AnyTold). n .refusal) e))
+one-any (any.Refused r) any.No e = absurd (refusal-some r (ap (λ (n : AnyTold). n .refusal) e))
+one-any (any.Refused r) (any.Refused s) e = ap any.Refused (one-refusal r s (ap (λ (n : AnyTold). n .refusal) e))
 
 pub one-ranked : (a b : RankedAnswer) → rankedNumbers a ≡ rankedNumbers b → a ≡ b
 one-ranked (ranked.Found n) (ranked.Found m) e = ap (λ (n : Told). ranked.Found (n .number)) e

@@ -13,6 +13,8 @@ use Rattle.rules.specs.declared.Checked.{Checked}
 use Rattle.rules.specs.declared.Checked.the-variants as checked
 use Rattle.rules.specs.declared.RangeAnswer.{RangeAnswer}
 use Rattle.rules.specs.declared.RangeAnswer.the-variants as range
+use Rattle.rules.specs.declared.AnyAnswer.{AnyAnswer}
+use Rattle.rules.specs.declared.AnyAnswer.the-variants as any
 use Rattle.rules.specs.declared.RankedAnswer.{RankedAnswer}
 use Rattle.rules.specs.declared.RankedAnswer.the-variants as ranked
 
@@ -59,6 +61,21 @@ pub record CheckTold : Type 0 where
   pub nodes : ℕ
   pub entries : ℕ
 
+-- yes: 1 is yes, 0 no; but with a yes the stand is 0
+pub record AnyTold : Type 0 where
+  pub refusal : ℕ
+  pub yes : ℕ
+  pub stand : ℕ
+
+abbrev pub refusingAny : ℕ → AnyTold
+refusingAny n = record { refusal = n; yes = 0; stand = 0 }
+
+abbrev pub tellingYes : ℕ → AnyTold
+tellingYes stand = record { refusal = 0; yes = 1; stand = stand }
+
+abbrev pub tellingNo : AnyTold
+tellingNo = record { refusal = 0; yes = 0; stand = 0 }
+
 abbrev pub verdictNumber : Verdict → ℕ
 verdictNumber verdict.Passed = 0
 verdictNumber (verdict.Refused r) = refusalNumber r
@@ -78,6 +95,11 @@ checkedNumbers checked.Unlawful = record { lawful = 0; nodes = 0; entries = 0 }
 abbrev pub rangeNumbers : RangeAnswer → Told
 rangeNumbers (range.Found n) = telling n
 rangeNumbers (range.Refused r matches) = record { refusal = refusalNumber r; number = matches }
+
+abbrev pub anyNumbers : AnyAnswer → AnyTold
+anyNumbers (any.Yes s) = tellingYes (s .0)
+anyNumbers any.No = tellingNo
+anyNumbers (any.Refused r) = refusingAny (refusalNumber r)
 
 abbrev pub rankedNumbers : RankedAnswer → Told
 rankedNumbers (ranked.Found n) = telling n

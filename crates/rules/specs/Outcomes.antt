@@ -10,7 +10,7 @@ use Rattle.base.specs.Lent.{Lent, given, after}
 use Rattle.rules.specs.declared.Hit.{Hit}
 use Rattle.rules.specs.declared.RangeAnswer.{RangeAnswer}
 use Rattle.rules.specs.declared.RankedAnswer.{RankedAnswer}
-use Rattle.rules.specs.Numbers.{Told, telling, refusing, rangeNumbers, rankedNumbers}
+use Rattle.rules.specs.Numbers.{Told, telling, refusing, AnyTold, refusingAny, tellingYes, tellingNo, rangeNumbers, rankedNumbers}
 
 -- what a call told, and each of its rooms after it
 pub record Outcome : Type 0 where
@@ -62,6 +62,12 @@ settled (suc n) places short told words rooms = refused (suc n) rooms
 abbrev pub rangeOutcome : ℕ → List ℕ → List (List ℕ) → Outcome
 rangeOutcome refusal list rooms =
     settled refusal (length list) (record { refusal = 13; number = length list }) (telling (length list)) (list ∷ []) rooms
+
+-- whether a range has any stand: yes with the first, or no. It has no room, so what is told is all that comes of it
+abbrev pub anyOutcome : ℕ → List ℕ → AnyTold
+anyOutcome zero [] = tellingNo
+anyOutcome zero (s ∷ list) = tellingYes s
+anyOutcome (suc n) list = refusingAny (suc n)
 
 -- a ranked question wants k places, and writes the stands and values of the best k
 abbrev pub standsOf : List Hit → List ℕ

@@ -11,10 +11,12 @@ use Rattle.rules.specs.declared.Rect.{Rect}
 use Rattle.rules.specs.declared.Ranking.{Ranking}
 use Rattle.rules.specs.declared.Hit.{Hit}
 use Rattle.rules.specs.declared.Session.{Session}
+use Rattle.rules.specs.Numbers.{tellingYes, tellingNo}
 use Rattle.rules.specs.Worth.{diagonal}
 use Rattle.rules.specs.Names.{foldedText, restOf}
 use Rattle.rules.specs.Tables.{Table, tableRefusal}
 use Rattle.rules.specs.Questions.{regionOfStand, rangeList, rankedList}
+use Rattle.rules.specs.Outcomes.{anyOutcome}
 use Rattle.rules.specs.Indexes.{orderWords, beginnings, nodeCount, entryCount, nodeRow, entryWords}
 use Rattle.rules.specs.Sessions.{sessionOf, lettersTyped, lettersRubbed}
 
@@ -72,6 +74,9 @@ pub record SmallScheme : Type 0 where
   pub line5-narrower : rangeList table grid ki (box 0 11 0 9) ≡ 0 ∷ 3 ∷ []
   pub line6 : rangeList table grid [] (box 12 12 5 5) ≡ 2 ∷ []
   pub line6-none : (r : Rect) → rangeList table grid kiz r ≡ []
+  pub line5-yes : anyOutcome 0 (rangeList table grid ki (box 0 12 0 9)) ≡ tellingYes 0
+  pub line6-yes : anyOutcome 0 (rangeList table grid [] (box 12 12 5 5)) ≡ tellingYes 2
+  pub line6-no : (r : Rect) → anyOutcome 0 (rangeList table grid kiz r) ≡ tellingNo
   pub line7 : rankedList table grid ki (asked 0 2) ≡ hit 0 1808000 ∷ hit 3 1728000 ∷ []
   pub line8 : rankedList table grid ki (asked 16 2) ≡ hit 1 1627200 ∷ hit 2 723200 ∷ []
   pub line9 : rankedList table grid ki (asked 8 4) ≡ hit 3 1225600 ∷ hit 2 1209600 ∷ hit 0 994400 ∷ hit 1 933600 ∷ []

@@ -186,6 +186,13 @@ pub enum RangeAnswer {
     Refused { why: Refusal, matches: u32 },
 }
 
+// Whether any stand is in a range: yes, with the first of the range's list, or no.
+pub enum AnyAnswer {
+    Yes(Stand),
+    No,
+    Refused(Refusal),
+}
+
 // How many stands a ranked question wrote to its rooms.
 pub enum RankedAnswer {
     Found(u32),

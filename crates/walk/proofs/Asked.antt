@@ -1,5 +1,5 @@
 -- What a question promises that starts from a listing is what it promises of the text, or of the session, that led there.
--- comesTo is what a refusal and a list come to. Assumes nothing.
+-- comesTo is what a refusal and a list come to, refused what a refusal does whatever the list. Assumes nothing.
 use mathlib.Core.Path.{_≡_, refl, sym, ap, _∙_}
 use mathlib.Core.Bool.{true}
 use mathlib.Core.List.{List}
@@ -9,7 +9,6 @@ use Rattle.rules.specs.declared.Refusal.{Refusal}
 use Rattle.rules.specs.Numbers.{refusalNumber, firstGiven}
 use Rattle.rules.specs.Names.{textRefusal}
 use Rattle.rules.specs.Tables.{Table}
-use Rattle.rules.specs.Outcomes.{Outcome, refused}
 use Rattle.rules.specs.Promises.{Kept}
 use Rattle.rules.specs.Indexes.{Index, setLawful}
 use Rattle.rules.proofs.Lawful.{set-parts}
@@ -24,18 +23,18 @@ use Rattle.walk.specs.Asked.{Listed, FromPromise}
 use Rattle.walk.proofs.Listed.{listing-reached, listing-found}
 
 -- a text that is not refused
-pub from-kept : {Item : Type 0} (Lawful : Type 0) (Serves : Table → List ℕ → Type 0) (comesTo : ℕ → List Item → Outcome) (meant : Table → List ℕ → List Item) (rooms : List (List ℕ))
-    (o : Outcome) (t : Table) (p : List ℕ) (n : ℕ) → textRefusal p ≡ 0 → (Lawful → Serves t p) → FromPromise Serves (comesTo n) meant rooms o
-    → Kept Lawful (comesTo (firstGiven (textRefusal p) n)) (meant t p) rooms o
-from-kept Lawful Serves comesTo meant rooms o t p n fine serves w = rw fine (record { exact = λ law. w .exact t p (serves law); harmless = w .harmless })
+pub from-kept : {Item Out : Type 0} (Lawful : Type 0) (Serves : Table → List ℕ → Type 0) (comesTo : ℕ → List Item → Out) (meant : Table → List ℕ → List Item) (seven o : Out)
+    (t : Table) (p : List ℕ) (n : ℕ) → textRefusal p ≡ 0 → (Lawful → Serves t p) → FromPromise Serves (comesTo n) meant seven o
+    → Kept Lawful (comesTo (firstGiven (textRefusal p) n)) (meant t p) seven o
+from-kept Lawful Serves comesTo meant seven o t p n fine serves w = rw fine (record { exact = λ law. w .exact t p (serves law); harmless = w .harmless })
 
 -- a text that is
-pub text-refused : {Item : Type 0} (Lawful : Type 0) (comesTo : ℕ → List Item → Outcome) (meant : List Item) (rooms : List (List ℕ)) (p : List ℕ) (n : ℕ)
-    → ((m : ℕ) (list : List Item) → (m ≡ 0 → ⊥) → comesTo m list ≡ refused m rooms) → (why : Refusal) → refusalNumber why ≡ textRefusal p
-    → Kept Lawful (comesTo (firstGiven (textRefusal p) n)) meant rooms (refused (refusalNumber why) rooms)
-text-refused Lawful comesTo meant rooms p n whatever why e =
+pub text-refused : {Item Out : Type 0} (Lawful : Type 0) (comesTo : ℕ → List Item → Out) (meant : List Item) (refused : ℕ → Out) (p : List ℕ) (n : ℕ)
+    → ((m : ℕ) (list : List Item) → (m ≡ 0 → ⊥) → comesTo m list ≡ refused m) → (why : Refusal) → refusalNumber why ≡ textRefusal p
+    → Kept Lawful (comesTo (firstGiven (textRefusal p) n)) meant (refused 7) (refused (refusalNumber why))
+text-refused Lawful comesTo meant refused p n whatever why e =
     let given : firstGiven (textRefusal p) n ≡ refusalNumber why = ap (λ (m : ℕ). firstGiven m n) (sym e) ∙ first-given (refusalNumber why) n (refusal-some why) in
-    refused-kept Lawful _ meant rooms (refusalNumber why) (λ list. ap (λ (m : ℕ). comesTo m list) given ∙ whatever (refusalNumber why) list (refusal-some why))
+    refused-kept Lawful _ meant (refused 7) (refused (refusalNumber why)) (λ list. ap (λ (m : ℕ). comesTo m list) given ∙ whatever (refusalNumber why) list (refusal-some why))
 
 -- a walk along a text serves it, and so does the text's node where that is known
 module _ (t : Table) (g : Grid) (x : Index) (p : List ℕ) (at : Listing) where

@@ -6,7 +6,6 @@ use Prim.Native.Nat.{ℕ}
 use lib.IntN.{ℤ}
 use Rattle.rules.specs.declared.Grid.{Grid}
 use Rattle.rules.specs.Tables.{Table}
-use Rattle.rules.specs.Outcomes.{Outcome}
 use Rattle.rules.specs.Promises.{Harmless}
 use Rattle.rules.specs.Indexes.{indexOf, setLawful}
 use Rattle.walk.specs.declared.listing.Listing.{Listing}
@@ -22,7 +21,6 @@ pub record Listed (east north : List ℤ) (score : List ℕ) (g : Grid) (order e
   pub listing : at ≡ listingOf t g p
 
 -- Serves t p says that the question was lent the parts of a lawful set of table t, and the listing of the text p
-pub record FromPromise {Item : Type 0} (Serves : Table → List ℕ → Type 0) (comesTo : List Item → Outcome) (meant : Table → List ℕ → List Item) (rooms : List (List ℕ)) (o : Outcome)
-    : Type 0 where
+pub record FromPromise {Item Out : Type 0} (Serves : Table → List ℕ → Type 0) (comesTo : List Item → Out) (meant : Table → List ℕ → List Item) (seven o : Out) : Type 0 where
   pub exact : (t : Table) (p : List ℕ) → Serves t p → o ≡ comesTo (meant t p)
-  pub harmless : Harmless comesTo rooms o
+  pub harmless : Harmless comesTo seven o

@@ -16,7 +16,6 @@ fill-spec =
     (λ c κs. search needs)
     (λ c. search needs)
     (λ c. search needs)
-    (λ c κs. search needs)
     (λ c. search (needs, fill-breaks))
     (λ c. search needs)
     (λ c. search (needs, fill-over))

@@ -9,8 +9,9 @@ use Rattle.base.proofs.Tests.{breaks, holds}
 use Rattle.base.proofs.Members.{first-rest}
 use Rattle.grid.specs.Cells.{regionsIn}
 use Rattle.grid.proofs.Listed.{listed-less, listed-few}
+use Rattle.runs.proofs.Walks.{fewer}
 use Rattle.range.proofs.Gathers.{walk-size}
-use Rattle.range.proofs.Turns.{Sweeping, fewer, sweep-begins, sweep-room, sweep-on, sweep-breaks, sweep-ends}
+use Rattle.range.proofs.Turns.{Sweeping, sweep-begins, sweep-room, sweep-on, sweep-breaks, sweep-ends}
 use borrow.Author.Needs.{needs}
 use Rattle.range.proofs.gather.gather.Statement.{statement}
 use Rattle.range.proofs.gather.gather.Tie as tie

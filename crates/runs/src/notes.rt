@@ -1,17 +1,17 @@
 // Where the stands that a listing has stand in the order, region by region, as its entries say. The words may be anything.
 ghost use mathlib.Core.Path.{_≡_};
 ghost use Rattle.base.specs.Lent.{given, after};
-ghost use Rattle.range.specs.Fetches.{notesOf, noteFrom};
+ghost use Rattle.runs.specs.Notes.{notesOf, noteFrom};
 use rules::Grid;
 use walk::entry::EntryRead;
 use walk::entry::entry_at;
 
 // A place of the order for each region.
-pub(crate) type Places = [u32; Grid::REGIONS];
+pub type Places = [u32; Grid::REGIONS];
 
 // The run of each region that one of count entries from one on is of: its first place, and the one past its last.
 // False, if an entry is missing or broken, or its run goes past the stands.
-pub(crate) fn note(
+pub fn note(
     entries: &[u32],
     stands: usize,
     from: u32,

@@ -5,9 +5,9 @@ use mathlib.Core.Bool.{and-true}
 use borrow.Author.Tests.{lt-leb, le-leb}
 use Rattle.base.specs.Lists.{every}
 use Rattle.base.proofs.Tests.{every-not}
-use Rattle.range.specs.Fetches.{agree}
-use Rattle.range.proofs.agree.Statement.{statement}
-use Rattle.range.proofs.agree.Tie as tie
+use Rattle.runs.specs.Sights.{agree}
+use Rattle.runs.proofs.agree.Statement.{statement}
+use Rattle.runs.proofs.agree.Tie as tie
 
 returns-3 : tie.Need-returns-3
 unfolding agree every

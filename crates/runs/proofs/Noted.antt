@@ -13,7 +13,7 @@ use borrow.Author.Tests.{eqb-true, eqb-false}
 use Rattle.base.specs.Lists.{each, In}
 use Rattle.walk.specs.declared.entry.Entry.{Entry}
 use Rattle.walk.specs.Entries.{SpelledFrom}
-use Rattle.range.specs.Fetches.{notesOf, noteFrom}
+use Rattle.runs.specs.Notes.{notesOf, noteFrom}
 
 -- for each entry in turn a place of it, put at its region
 abbrev pub putAll : (Entry → ℕ) → List Entry → List ℕ → List ℕ

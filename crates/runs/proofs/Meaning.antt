@@ -1,25 +1,25 @@
--- On a lawful set what is fetched from a text's listing is exactly the range of the text: by region, then by number.
+-- On a lawful set there is to look at exactly what the range of the text is chosen from: by region, then by number.
 -- What is noted is the entries' runs; a region that is not looked at has no stand in the rectangle. Assumes nothing.
 use mathlib.Core.Path.{_≡_, sym, ap, ap₂, _∙_}
 use mathlib.Core.Logic.{inl}
-use mathlib.Core.Bool.{Bool, true, false}
+use mathlib.Core.Bool.{Bool, true, false, not}
 use mathlib.Core.List.{List, [], _∷_}
 use Prim.Native.Nat.{ℕ, _≤_, _<_}
 use native.Mathlib.Omega.{arith}
 use lib.ListN.{length, getD, drop, length-replicate}
 use lib.Seq.{slice}
+use borrow.Table.Steps.{cases}
 use borrow.Author.Tests.{eqb-true, le-leb}
-use Rattle.base.specs.Lists.{upTo, keep, each, eachList, In}
+use Rattle.base.specs.Lists.{upTo, keep, each, eachList, isEmpty, In}
 use Rattle.base.proofs.Tests.{never, refuted, every-of}
 use Rattle.base.proofs.Begins.{begins-part, begins-length}
-use Rattle.base.proofs.Members.{in-at, keep-in, keep-none, in-each, each-in, length-each, in-eachList, eachList-same, eachList-keep, keep-eachList, drop-take}
+use Rattle.base.proofs.Members.{in-at, keep-in, keep-none, in-each, each-in, length-each, in-eachList, eachList-same, eachList-keep, keep-eachList, drop-take, empty-of}
 use Rattle.base.proofs.Runs.{in-from}
 use Rattle.rules.specs.declared.Grid.{Grid}
 use Rattle.rules.specs.declared.Rect.{Rect}
 use Rattle.rules.specs.Places.{regions, inRect}
 use Rattle.rules.specs.Tables.{Table, stands, placeOf}
 use Rattle.rules.specs.Questions.{under, regionOfStand, inRegion, rangeList}
-use Rattle.rules.specs.Outcomes.{rangeOutcome}
 use Rattle.rules.specs.Indexes.{occupied, regionsUnder, entryOf, entriesOf, orderWords, Index}
 use Rattle.rules.specs.Indexes as rules
 use Rattle.rules.proofs.Lawful.{SetParts}
@@ -35,9 +35,10 @@ use Rattle.meaning.proofs.Entries.{entries-mean, entry-own, entry-there}
 use Rattle.walk.specs.declared.entry.Entry.{Entry}
 use Rattle.walk.specs.Entries.{asRead}
 use Rattle.walk.proofs.Listed.{Lists}
-use Rattle.range.specs.Fetches.{notesOf, runOf, touchedStands, agree, looked, blank, notesIn, fetched}
-use Rattle.range.proofs.Gathers.{known, known-of}
-use Rattle.range.proofs.Noted.{putAll, note-list, put-at}
+use Rattle.runs.specs.Notes.{notesOf, blank}
+use Rattle.runs.specs.Sights.{known, runOf, touchedStands, agree, Sight, notesIn, listedSight}
+use Rattle.runs.proofs.Sights.{known-of}
+use Rattle.runs.proofs.Noted.{putAll, note-list, put-at}
 
 blank-length : length blank ≡ regions
 unfolding blank regions
@@ -105,7 +106,7 @@ module _ (t : Table) (g : Grid) (x : Index) (s : SetParts t g x) (p : List ℕ) 
   -- ---- the stands of the regions that the rectangle touches
 
   module _ (rect : Rect) where
-    abbrev in-it : ℕ → Bool
+    abbrev pub in-it : ℕ → Bool
     in-it i = inRect rect (placeOf t i)
 
     -- the regions that are looked at
@@ -116,16 +117,16 @@ module _ (t : Table) (g : Grid) (x : Index) (s : SetParts t g x) (p : List ℕ) 
     unfolding cellsOf
     looked-are = ap (λ (c : Cells). regionsIn (bothCells c (cellsOf g rect))) (lists .regions) ∙ both-listed (occupied t g p) _
 
-    abbrev seen : List ℕ
+    abbrev pub seen : List ℕ
     seen = eachList standsOf looked-at
 
     seen-are : touchedStands (x .order) firsts pasts looked-at ≡ seen
     seen-are = eachList-same (runOf (x .order) firsts pasts) standsOf looked-at (λ r h. run-is r (keep-in (hasCell (cellsOf g rect)) (regionsUnder t g p) r h .0))
 
     -- each is of the table
-    seen-known : known (t .east) (t .north) rect seen ≡ true
+    pub seen-known : known (t .east) seen ≡ true
     seen-known =
-        known-of (t .east) (t .north) rect seen
+        known-of (t .east) seen
         (λ i h.
         let u = in-eachList standsOf looked-at i h in
         let v = keep-in (inRegion g t (u .0)) (under t p) i (u .2) in
@@ -144,18 +145,19 @@ module _ (t : Table) (g : Grid) (x : Index) (s : SetParts t g x) (p : List ℕ) 
         never (hasCell (cellsOf g rect) r) (ap (hasCell (cellsOf g rect)) (sym (eqb-true (regionOfStand g t i) r (v .1))) ∙ there) q))
 
     -- so those that are in it are the range
-    range-is : Edges rect → keep in-it seen ≡ rangeList t g p rect
+    pub range-is : Edges rect → keep in-it seen ≡ rangeList t g p rect
     range-is e =
         keep-eachList in-it standsOf looked-at
         ∙ sym (eachList-keep (λ r. keep in-it (standsOf r)) (hasCell (cellsOf g rect)) (regionsUnder t g p) (none-missed e))
         ∙ sym (range-regions t g (s .table .ordered) p rect)
 
-    -- ---- the outcome
+    -- ---- so that is what there is to look at
 
-    pub fetch-means : Edges rect → (room : List ℕ)
-        → fetched (t .east) (t .north) g (x .order) (x .entries) cells first rect room ≡ rangeOutcome 0 (rangeList t g p rect) (room ∷ [])
-    unfolding fetched looked
-    fetch-means edges room =
+    pub sight-is : listedSight (t .east) (t .north) g (x .order) (x .entries) cells first rect ≡ Sight.seen seen
+    unfolding listedSight
+    sight-is =
         let notes : notesIn (x .entries) (length (t .east)) cells first ≡ notesOf firsts pasts true =
         ap (λ (n : ℕ). notesIn (x .entries) n cells first) (s .table .shaped .easts) ∙ notes-are in
-        rw (s .table .gridded, agreed, notes, looked-are, seen-are, seen-known, range-is edges)
+        cases (isEmpty looked-at)
+        (λ none. rw (s .table .gridded, agreed, looked-are, none) (ap (λ (l : List ℕ). Sight.seen (eachList standsOf l)) (sym (empty-of looked-at (ap not none)))))
+        (λ some. rw (s .table .gridded, agreed, looked-are, some, notes, seen-are))

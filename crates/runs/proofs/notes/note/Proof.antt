@@ -1,11 +1,11 @@
--- `runs::note` meets its contract: the loop's invariant is Noting, by the entries that are left.
+-- `notes::note` meets its contract: the loop's invariant is Noting, by the entries that are left.
 -- Assumes nothing.
 use Prim.Native.Nat.{_-_}
 use Rattle.walk.proofs.Spelled.{read-region}
-use Rattle.range.proofs.Turns.{Noting, note-begins, note-breaks, note-more, note-ends}
+use Rattle.runs.proofs.Noting.{Noting, note-begins, note-breaks, note-more, note-ends}
 use borrow.Author.Needs.{needs}
-use Rattle.range.proofs.runs.note.Statement.{statement}
-use Rattle.range.proofs.runs.note.Tie as tie
+use Rattle.runs.proofs.notes.note.Statement.{statement}
+use Rattle.runs.proofs.notes.note.Tie as tie
 
 abbrev Inv-loop : tie.InvT-loop
 Inv-loop entries stands from count firsts₀ pasts₀ end e₀ firsts pasts e = Noting entries stands count from firsts₀ pasts₀ end firsts pasts e

@@ -1,0 +1,21 @@
+-- `touched_regions` meets its contract: by its ways out.
+-- Assumes nothing.
+use Rattle.base.proofs.Tests.{breaks, holds}
+use Rattle.runs.proofs.Sights.{shows-11, shows-entries, shows-nowhere, shows-broken}
+use borrow.Author.Needs.{needs}
+use Rattle.runs.proofs.touched_regions.Statement.{statement}
+use Rattle.runs.proofs.touched_regions.Tie as tie
+
+pub touched-regions-spec : {M : Type 1} → statement M
+touched-regions-spec =
+    tie.close
+    (tie.spec
+    (λ c κs. search needs)
+    (λ c. search (needs, shows-11, breaks))
+    (λ c. search needs)
+    (λ c κs. search needs)
+    (λ c. search needs)
+    (λ c. search needs)
+    (λ c. search (needs, shows-entries, holds))
+    (λ c. search (needs, shows-nowhere, holds))
+    (λ c. search (needs, shows-broken, holds)))
