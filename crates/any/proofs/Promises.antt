@@ -2,7 +2,7 @@
 -- Assumes nothing.
 use mathlib.Core.Path.{_≡_, refl, sym, ap, _∙_}
 use mathlib.Core.Logic.{inl, inr}
-use mathlib.Core.Bool.{true}
+use mathlib.Core.Bool.{true, false}
 use mathlib.Core.List.{List, [], _∷_}
 use Prim.Native.Nat.{ℕ}
 use lib.Dec.{ltb}
@@ -10,12 +10,13 @@ use lib.IntN.{ℤ}
 use lib.ListN.{length}
 use borrow.Table.Steps.{cases}
 use Rattle.base.specs.Lists.{keep}
-use Rattle.base.proofs.Tests.{and-parts}
+use Rattle.base.proofs.Tests.{never, and-parts}
 use Rattle.rules.specs.declared.Grid.{Grid}
 use Rattle.rules.specs.declared.Rect.{Rect}
 use Rattle.rules.specs.declared.AnyAnswer.{AnyAnswer}
 use Rattle.rules.specs.declared.AnyAnswer.the-variants.{No, Refused}
 use Rattle.rules.specs.declared.Refusal.{Refusal}
+use Rattle.rules.specs.declared.Refusal.the-variants.{NotLawful}
 use Rattle.rules.specs.declared.Verdict.{Verdict}
 use Rattle.rules.specs.declared.Verdict.the-variants as verdict
 use Rattle.rules.specs.Numbers.{AnyTold, refusingAny, anyNumbers, verdictNumber}
@@ -36,9 +37,9 @@ use Rattle.walk.specs.Asked.{Listed}
 use Rattle.walk.proofs.Asked.{from-kept, text-refused, text-listed}
 use Rattle.runs.specs.declared.Touched.{Touched}
 use Rattle.runs.specs.declared.Touched.the-variants as touched
-use Rattle.runs.specs.Sights.{inside, liesAs, known, touchedStands, sightBy, sightOf, Shows}
-use Rattle.runs.specs.Promises.{Sees, Answers}
-use Rattle.runs.proofs.Promises.{sight-kept}
+use Rattle.runs.specs.Sights.{inside, liesAs, known, notedIn, touchedStands, agree, lookBy, lookAt}
+use Rattle.runs.specs.Promises.{Answers}
+use Rattle.runs.proofs.Promises.{look-kept}
 use Rattle.any.specs.Scans.{firstSeen}
 use Rattle.any.specs.Promises.{AnyFrom}
 
@@ -61,19 +62,23 @@ module _ (east north : List ℤ) (rect : Rect) where
       (λ t. cases (inside east north rect s) (λ e. rw (t, e) (inr (s ∷ [], refl))) (λ e. rw (t, e) (first-harmless l)))
       (λ t. rw t (inl refl))
 
-module _ (east north : List ℤ) (g : Grid) (order entries : List ℕ) (at : Listing) (r : Rect) (edges : Edges r) (firsts pasts : List ℕ)
-    (t : Touched) (shows : Shows east north order (sightOf east north g order entries at r) t firsts pasts) where
-  kept : (o : AnyTold) → Answers anyOutcome refusingAny east north r (sightBy t order firsts pasts) o → AnyFrom east north g order entries at r o
-  kept o = sight-kept anyOutcome refusingAny any-refused east north g order entries r o edges at (sightBy t order firsts pasts) (shows .same)
+module _ (east north : List ℤ) (g : Grid) (order entries : List ℕ) (at : Listing) (r : Rect) (edges : Edges r) (numbers : List ℕ)
+    (t : Touched) (looks : lookBy t numbers ≡ lookAt g entries at r) where
+  kept : (o : AnyTold) → Answers anyOutcome refusingAny east north order entries r (lookBy t numbers) o → AnyFrom east north g order entries at r o
+  kept o = look-kept anyOutcome refusingAny any-refused east north g order entries r o edges at (lookBy t numbers) looks
 
-  pub from-regions : (wanted : Cells) → t ≡ touched.Regions wanted → (a : AnyAnswer) → a ≡ firstSeen east north r (touchedStands order firsts pasts (regionsIn wanted))
-      → AnyFrom east north g order entries at r (anyNumbers a)
-  from-regions wanted e a f =
-      let seen = touchedStands order firsts pasts (regionsIn wanted) in
-      kept (anyNumbers a) (rw (e, f) (record { exact = first-exact east north r seen; harmless = first-harmless east north r seen }))
+  module _ (wanted : Cells) (first : ℕ) (e : t ≡ touched.Regions wanted first) where
+    pub from-apart : agree east north order ≡ false → AnyFrom east north g order entries at r (anyNumbers (Refused NotLawful))
+    from-apart h = kept _ (rw e (record { agreed = λ q. absurd (never _ q h); apart = λ q. refl }))
+
+    pub from-regions : agree east north order ≡ true → (a : AnyAnswer) → a ≡ firstSeen east north r (touchedStands (notedIn east order entries first numbers) (regionsIn wanted))
+        → AnyFrom east north g order entries at r (anyNumbers a)
+    from-regions h a f =
+        let seen = touchedStands (notedIn east order entries first numbers) (regionsIn wanted) in
+        kept (anyNumbers a) (rw (e, f) (record { agreed = λ q. record { exact = first-exact east north r seen; harmless = first-harmless east north r seen }; apart = λ q. absurd (never _ h q) }))
 
   pub from-nothing : t ≡ touched.Nothing → AnyFrom east north g order entries at r (anyNumbers No)
-  from-nothing e = kept _ (rw e (record { exact = λ q. refl; harmless = inr ([], refl) }))
+  from-nothing e = kept _ (rw e)
 
   pub from-refused : (why : Refusal) → t ≡ touched.Refused why → AnyFrom east north g order entries at r (anyNumbers (Refused why))
   from-refused why e = kept _ (rw e)

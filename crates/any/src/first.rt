@@ -2,38 +2,44 @@
 ghost use mathlib.Core.Path.{_≡_};
 ghost use Rattle.base.specs.Lent.{given};
 ghost use Rattle.grid.specs.Cells.{regionsIn};
-ghost use Rattle.runs.specs.Sights.{touchedStands, Ready};
+ghost use Rattle.runs.specs.Sights.{notedIn, touchedStands, Ready};
 ghost use Rattle.any.specs.Scans.{firstSeen};
 use grid::cells::Cells;
 use rules::AnyAnswer;
 use rules::Rect;
 use rules::Refusal;
 use rules::Stand;
-use runs::notes::Places;
+use runs::notes::EntryNumbers;
+use runs::notes::noted_at;
 use runs::sight::Lies;
 use runs::sight::look;
+use walk::entry::EntryRead;
 
-// Of these regions the smallest comes first, as in the range's list; of a region the place that comes first in the order.
+// Entries are gone by in the order of their regions, as in the range's list, and not in the order that they stand in, which is by score.
 pub(crate) fn first_in(
     east: &[i32],
     north: &[i32],
     order: &[u32],
+    entries: &[u32],
+    first: u32,
+    numbers: &EntryNumbers,
     regions: Cells,
-    firsts: &Places,
-    pasts: &Places,
     rect: Rect,
 ) -> AnyAnswer
-    requires { ⌜ Ready (now east) (now north) (now order) (now pasts) ⌝ }
-    ensures { λ a. ⌜ a ≡ firstSeen (given east) (given north) rect (touchedStands (given order) (given firsts) (given pasts) (regionsIn regions)) ⌝ }
+    requires { ⌜ Ready (now east) (now north) (notedIn (now east) (now order) (now entries) first (now numbers)) ⌝ }
+    ensures { λ a. ⌜ a ≡ firstSeen (given east) (given north) rect (touchedStands (notedIn (given east) (given order) (given entries) first (given numbers)) (regionsIn regions)) ⌝ }
 {
     let mut left = regions;
-    let first = 'scan: loop {
+    let answer = 'scan: loop {
         while !left.is_empty() {
-            let r = left.least() as usize;
-            let end = pasts[r];
-            let mut i = firsts[r];
+            let EntryRead::At(entry) = noted_at(entries, first, numbers, left.least(), east.len())
+            else {
+                break 'scan AnyAnswer::Refused(Refusal::NotLawful);
+            };
+            let end = entry.past.0 as usize;
+            let mut i = entry.first.0 as usize;
             while i < end {
-                let stand = Stand(order[i as usize]);
+                let stand = Stand(order[i]);
                 match look(east, north, rect, stand) {
                     Lies::Inside => break 'scan AnyAnswer::Yes(stand),
                     Lies::Outside => i += 1,
@@ -44,5 +50,5 @@ pub(crate) fn first_in(
         }
         break AnyAnswer::No;
     };
-    first
+    answer
 }

@@ -13,9 +13,11 @@ use first::first_in;
 use rules::AnyAnswer;
 use rules::Grid;
 use rules::Rect;
+use rules::Refusal;
 use rules::Verdict;
 use runs::Touched;
-use runs::notes::Places;
+use runs::agree;
+use runs::notes::EntryNumbers;
 use runs::touched_regions;
 use table::text::text_verdict;
 use walk::listing::Listing;
@@ -33,20 +35,14 @@ pub fn any_from(
 ) -> AnyAnswer
     ensures { λ a. ⌜ AnyFrom (given east) (given north) grid (given order) (given entries) at rect (anyNumbers a) ⌝ }
 {
-    let mut firsts: Places = [0; Grid::REGIONS];
-    let mut pasts: Places = [0; Grid::REGIONS];
-    match touched_regions(
-        east,
-        north,
-        grid,
-        order,
-        entries,
-        at,
-        rect,
-        &mut firsts,
-        &mut pasts,
-    ) {
-        Touched::Regions(wanted) => first_in(east, north, order, wanted, &firsts, &pasts, rect),
+    let mut numbers: EntryNumbers = [0; Grid::REGIONS];
+    match touched_regions(grid, entries, at, rect, &mut numbers) {
+        Touched::Regions(wanted, first) => {
+            if !agree(east, north, order) {
+                return AnyAnswer::Refused(Refusal::NotLawful);
+            }
+            first_in(east, north, order, entries, first, &numbers, wanted, rect)
+        }
         Touched::Nothing => AnyAnswer::No,
         Touched::Refused(why) => AnyAnswer::Refused(why),
     }

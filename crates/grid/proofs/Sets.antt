@@ -3,12 +3,13 @@
 use mathlib.Core.Path.{_≡_, _∙_, ap}
 use mathlib.Core.Logic.{⊎-elim}
 use mathlib.Core.Bool.{Bool, _&&_}
-use Prim.Native.Nat.{ℕ, _+_, _-_, _<_, _≤_}
+use Prim.Native.Nat.{ℕ, _+_, _-_, _/_, _%_, _<_, _≤_}
 use native.Mathlib.Nat.{zero-add}
 use native.Mathlib.Omega.{arith}
 use borrow.Author.Tests.{lt-ltb, le-ltb}
 use Rattle.base.proofs.Tests.{le-or-lt}
-use Rattle.base.proofs.Words.{bit-asks, words-and}
+use Rattle.base.specs.Bits.{wordOf}
+use Rattle.base.proofs.Words.{bit-asks, words-and, word-split, word-less}
 use Rattle.grid.specs.Cells.{cellsBy, hasCell, bothCells}
 
 -- `has` asks the test
@@ -24,3 +25,13 @@ has-by test r h =
 pub both-by : (f g : ℕ → Bool) → bothCells (cellsBy f) (cellsBy g) ≡ cellsBy (λ k. f k && g k)
 unfolding bothCells cellsBy
 both-by f g = rw (words-and f g 0 32, words-and f g 32 32)
+
+-- low and high are the halves of the word of all 64 bits
+pub by-halves : (test : ℕ → Bool) → record { low = wordOf test 0 64 % 4294967296; high = wordOf test 0 64 / 4294967296 } ≡ cellsBy test
+unfolding cellsBy
+by-halves test =
+    let parts = word-split test 0 32 32 in
+    let less = word-less test 0 32 in
+    let low : wordOf test 0 64 % 4294967296 ≡ wordOf test 0 32 = omega arith in
+    let high : wordOf test 0 64 / 4294967296 ≡ wordOf test 32 32 = omega arith in
+    rw (low, high)

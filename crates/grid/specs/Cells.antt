@@ -8,7 +8,7 @@ use lib.Signed.{ltZ}
 use lib.Dec.{ltb, leb}
 use lib.Bits.{bitAnd}
 use Rattle.base.specs.Lists.{upTo, keep}
-use Rattle.base.specs.Bits.{wordOf, bitAt}
+use Rattle.base.specs.Bits.{bit, wordOf, bitAt}
 use Rattle.rules.specs.declared.Grid.{Grid}
 use Rattle.rules.specs.declared.Rect.{Rect}
 use Rattle.rules.specs.Places.{edgeStrip, regions}
@@ -45,10 +45,10 @@ inSpan s k = leb (s .first) k && ltb k (s .past)
 unfoldable pub touched : Span → Span → ℕ → Bool
 touched columns rows r = inSpan columns (r % 8) && inSpan rows (r / 8)
 
--- a mask of columns at each row of the span, eight bits to a row, for n rows from `from` on
-unfoldable pub laid : ℕ → Span → ℕ → ℕ → ℕ
-laid mask rows from zero = 0
-laid mask rows from (suc n) = laid mask rows from n + cond (inSpan rows (from + n)) mask 0 * 2 ^ (8 * n)
+-- a bit for each row of the span, eight apart, for the rows below n
+unfoldable pub rowBits : Span → ℕ → ℕ
+rowBits rows zero = 0
+rowBits rows (suc n) = rowBits rows n + bit (inSpan rows n) * 2 ^ (8 * n)
 
 -- the 64 bits of a test of regions: 0 to 31 in low, 32 to 63 in high
 unfoldable pub cellsBy : (ℕ → Bool) → Cells

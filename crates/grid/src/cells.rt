@@ -7,7 +7,7 @@ ghost use lib.ListN.{length, drop};
 ghost use Rattle.base.specs.Lists.{isEmpty, firstOf};
 ghost use Rattle.base.specs.Bits.{wordOf};
 ghost use Rattle.rules.specs.Places.{gridLawful};
-ghost use Rattle.grid.specs.Cells.{clip, spanOf, edgesSpan, inSpan, laid, cellsOf, bothCells, regionsIn};
+ghost use Rattle.grid.specs.Cells.{clip, spanOf, edgesSpan, inSpan, rowBits, cellsOf, bothCells, regionsIn};
 use super::metres::edge_strip;
 use rules::Grid;
 use rules::Rect;
@@ -80,8 +80,11 @@ impl Cells {
 // The grid's last column, and its last row.
 const LAST: i64 = (Grid::SIDE - 1) as i64;
 
-// How many rows' bits make a word.
-const ROWS: u32 = Grid::SIDE / 2;
+// One bit for each row of the grid, eight apart.
+const EVERY_ROW: u64 = 0x0101_0101_0101_0101;
+
+// What the bits of the high word count from.
+const HALF: u64 = 4_294_967_296;
 
 // Columns or rows from first on, past not among them.
 struct Span {
@@ -90,15 +93,6 @@ struct Span {
 }
 
 impl Span {
-    fn has(self, strip: u32) -> bool
-        ensures { λ r. ⌜ r ≡ inSpan self strip ⌝ }
-    {
-        if strip < self.first {
-            return false;
-        }
-        strip < self.past
-    }
-
     // One bit for each column, column 0 lowest.
     fn mask(self) -> u32
         requires { ⌜ self .past ≤ 8 ⌝ }
@@ -110,6 +104,21 @@ impl Span {
             return 0;
         }
         (1 << past) - (1 << first)
+    }
+
+    // One bit for each row, eight apart, so that times a mask of columns it is the mask at each row.
+    fn row_bits(self) -> u64
+        requires { ⌜ self .past ≤ 8 ⌝ }
+        ensures { λ r. ⌜ r ≡ rowBits self 8 ⌝ }
+    {
+        let first = self.first;
+        let past = self.past;
+        if past <= first {
+            return 0;
+        }
+        let many = past - first;
+        // Down until as many rows are left as the span has, and up to its first.
+        (EVERY_ROW >> (Grid::SIDE * (Grid::SIDE - many))) << (Grid::SIDE * first)
     }
 }
 
@@ -154,22 +163,6 @@ fn strips(origin: i32, cell: u32, low: i32, high: i32) -> Span
     span_between(from, to)
 }
 
-// The mask at each row of the span, eight bits to a row, for the four rows from `from` on.
-fn lay(mask: u32, rows: Span, from: u32) -> u32
-    requires { ⌜ (mask < 256) × (from ≤ 4) ⌝ }
-    ensures { λ r. ⌜ r ≡ laid mask rows from 4 ⌝ }
-{
-    let mut word: u32 = 0;
-    let mut row: u32 = 0;
-    while row < ROWS {
-        if rows.has(from + row) {
-            word += mask << (Grid::SIDE * row);
-        }
-        row += 1;
-    }
-    word
-}
-
 // The regions that a rectangle touches.
 pub fn cells_of(grid: Grid, rect: Rect) -> Cells
     requires { ⌜ gridLawful grid ≡ true ⌝ }
@@ -177,9 +170,9 @@ pub fn cells_of(grid: Grid, rect: Rect) -> Cells
 {
     let columns = strips(grid.west, grid.cell, rect.west, rect.east);
     let rows = strips(grid.south, grid.cell, rect.south, rect.north);
-    let mask = columns.mask();
+    let bits = (columns.mask() as u64) * rows.row_bits();
     Cells {
-        low: lay(mask, rows, 0),
-        high: lay(mask, rows, ROWS),
+        low: (bits % HALF) as u32,
+        high: (bits / HALF) as u32,
     }
 }

@@ -10,10 +10,12 @@ use lib.IntN.{ℤ}
 use lib.ListN.{length}
 use borrow.Author.Tests.{le-leb}
 use Rattle.base.specs.Lists.{keep}
+use Rattle.base.proofs.Tests.{never}
 use Rattle.rules.specs.declared.Grid.{Grid}
 use Rattle.rules.specs.declared.Rect.{Rect}
 use Rattle.rules.specs.declared.RangeAnswer.the-variants.{Found, Refused}
 use Rattle.rules.specs.declared.Refusal.{Refusal}
+use Rattle.rules.specs.declared.Refusal.the-variants.{NotLawful}
 use Rattle.rules.specs.declared.Verdict.{Verdict}
 use Rattle.rules.specs.declared.Verdict.the-variants as verdict
 use Rattle.rules.specs.Numbers.{verdictNumber}
@@ -34,9 +36,9 @@ use Rattle.walk.specs.Asked.{Listed}
 use Rattle.walk.proofs.Asked.{from-kept, text-refused, text-listed}
 use Rattle.runs.specs.declared.Touched.{Touched}
 use Rattle.runs.specs.declared.Touched.the-variants as touched
-use Rattle.runs.specs.Sights.{inside, known, touchedStands, Sight, sightBy, sightOf, Shows}
+use Rattle.runs.specs.Sights.{inside, known, notedIn, touchedStands, agree, lookBy, lookAt}
 use Rattle.runs.specs.Promises.{Sees, Answers}
-use Rattle.runs.proofs.Promises.{sight-kept}
+use Rattle.runs.proofs.Promises.{look-kept}
 use Rattle.range.specs.Fetches.{looked}
 use Rattle.range.specs.Promises.{RangeFrom}
 
@@ -55,21 +57,27 @@ sees-looked east north rect seen room = record { exact = λ q. rw q; harmless = 
     either true = inr (list, refl)
     either false = inl refl
 
-module _ (east north : List ℤ) (g : Grid) (order entries : List ℕ) (at : Listing) (r : Rect) (edges : Edges r) (room firsts pasts : List ℕ)
-    (t : Touched) (shows : Shows east north order (sightOf east north g order entries at r) t firsts pasts) where
-  kept : (o : Outcome) → Answers (λ n list. rangeOutcome n list (room ∷ [])) (λ n. refused n (room ∷ [])) east north r (sightBy t order firsts pasts) o
+module _ (east north : List ℤ) (g : Grid) (order entries : List ℕ) (at : Listing) (r : Rect) (edges : Edges r) (room numbers : List ℕ)
+    (t : Touched) (looks : lookBy t numbers ≡ lookAt g entries at r) where
+  kept : (o : Outcome) → Answers (λ n list. rangeOutcome n list (room ∷ [])) (λ n. refused n (room ∷ [])) east north order entries r (lookBy t numbers) o
       → RangeFrom east north g order entries at r (room ∷ []) o
-  kept o = sight-kept (λ n list. rangeOutcome n list (room ∷ [])) (λ n. refused n (room ∷ [])) (λ n list some. settled-refused n _ _ _ _ _ some)
-      east north g order entries r o edges at (sightBy t order firsts pasts) (shows .same)
+  kept o = look-kept (λ n list. rangeOutcome n list (room ∷ [])) (λ n. refused n (room ∷ [])) (λ n list some. settled-refused n _ _ _ _ _ some)
+      east north g order entries r o edges at (lookBy t numbers) looks
 
-  pub from-regions : (wanted : Cells) → t ≡ touched.Regions wanted → (o : Outcome) → o ≡ looked east north r (touchedStands order firsts pasts (regionsIn wanted)) room
-      → RangeFrom east north g order entries at r (room ∷ []) o
-  from-regions wanted e o f = kept o (rw (e, f) (sees-looked east north r (touchedStands order firsts pasts (regionsIn wanted)) room))
+  module _ (wanted : Cells) (first : ℕ) (e : t ≡ touched.Regions wanted first) where
+    pub from-apart : agree east north order ≡ false → RangeFrom east north g order entries at r (room ∷ []) (rangeCame (Refused NotLawful 0) room)
+    from-apart h = kept _ (rw e (record { agreed = λ q. absurd (never _ q h); apart = λ q. refl }))
+
+    pub from-regions : agree east north order ≡ true → (o : Outcome)
+        → o ≡ looked east north r (touchedStands (notedIn east order entries first numbers) (regionsIn wanted)) room → RangeFrom east north g order entries at r (room ∷ []) o
+    from-regions h o f =
+        let seen = touchedStands (notedIn east order entries first numbers) (regionsIn wanted) in
+        kept o (rw (e, f) (record { agreed = λ q. sees-looked east north r seen room; apart = λ q. absurd (never _ h q) }))
 
   pub from-nothing : t ≡ touched.Nothing → RangeFrom east north g order entries at r (room ∷ []) (rangeCame (Found 0) room)
   from-nothing e =
       let none : rangeCame (Found 0) room ≡ rangeOutcome 0 [] (room ∷ []) = sym (rw (le-leb 0 (length room) (omega arith))) in
-      kept _ (rw e (record { exact = λ q. none; harmless = inr ([], none) }))
+      kept _ (rw e none)
 
   pub from-refused : (why : Refusal) → t ≡ touched.Refused why → RangeFrom east north g order entries at r (room ∷ []) (rangeCame (Refused why 0) room)
   from-refused why e = kept _ (rw e)

@@ -13,9 +13,12 @@ use Rattle.base.proofs.Members.{first-rest, empty-of, length-keep}
 use Rattle.rules.specs.declared.Rect.{Rect}
 use Rattle.runs.specs.declared.sight.Lies.{Lies}
 use Rattle.runs.specs.declared.sight.Lies.the-variants.{Inside, Outside, Unknown}
-use Rattle.runs.specs.Sights.{inside, liesAs, runOf, touchedStands, Ready}
-use Rattle.runs.proofs.Sights.{stands-few, norths-enough, places-enough}
-use Rattle.runs.proofs.Walks.{place-and-later, run-over, run-and-later}
+use Rattle.walk.specs.declared.entry.Entry.{Entry}
+use Rattle.walk.specs.declared.entry.EntryRead.{EntryRead}
+use Rattle.walk.specs.declared.entry.EntryRead.the-variants as entry
+use Rattle.runs.specs.Sights.{inside, liesAs, Noted, entryNoted, touchedStands, Ready}
+use Rattle.runs.proofs.Sights.{is-unknown, stands-few, norths-enough, places-enough}
+use Rattle.runs.proofs.Walks.{place-and-later, run-over, run-there, run-broken, run-within, run-and-later}
 use Rattle.range.specs.declared.gather.Tally.{Tally}
 use Rattle.range.specs.declared.gather.Tally.the-variants.{Count, Broken}
 use Rattle.range.specs.Fetches.{Gathered, tallied, gathered, RunFits}
@@ -64,53 +67,63 @@ module _ (east north : List ℤ) (order : List ℕ) (rect : Rect) (found₀ : Li
 
 -- ---- gather: before the regions that are left, with n found
 
-pub record Sweeping (east north : List ℤ) (order firsts pasts : List ℕ) (rect : Rect) (regions found₀ found : List ℕ) (n : ℕ) (left : List ℕ) : Type 0 where
-  pub ready : Ready east north order pasts
-  pub few : n + 1024 * length left ≤ 65536
+pub record Sweeping (east north : List ℤ) (n : Noted) (rect : Rect) (regions found₀ found : List ℕ) (m : ℕ) (left : List ℕ) : Type 0 where
+  pub ready : Ready east north n
+  pub few : m + 1024 * length left ≤ 65536
   pub size : length found ≡ length found₀
-  pub same : gathered east north rect found₀ 0 (touchedStands order firsts pasts regions) ≡ gathered east north rect found n (touchedStands order firsts pasts left)
+  pub same : gathered east north rect found₀ 0 (touchedStands n regions) ≡ gathered east north rect found m (touchedStands n left)
 
-module _ (east north : List ℤ) (order firsts pasts : List ℕ) (rect : Rect) (regions found₀ : List ℕ) where
-  pub sweep-begins : Ready east north order pasts → length regions ≤ 64 → Sweeping east north order firsts pasts rect regions found₀ found₀ 0 regions
+module _ (east north : List ℤ) (n : Noted) (rect : Rect) (regions found₀ : List ℕ) where
+  pub sweep-begins : Ready east north n → length regions ≤ 64 → Sweeping east north n rect regions found₀ found₀ 0 regions
   sweep-begins y h = record { ready = y; few = omega arith; size = refl; same = refl }
 
-  module _ (found : List ℕ) (n : ℕ) (left : List ℕ) (w : Sweeping east north order firsts pasts rect regions found₀ found n left) where
-    module _ (some : isEmpty left ≡ false) (r : ℕ) (least : r ≡ firstOf left) where
-      here-and-later : touchedStands order firsts pasts left ≡ runOf order firsts pasts r ++ touchedStands order firsts pasts (drop 1 left)
-      here-and-later = run-and-later left some order firsts pasts r least
+  module _ (found : List ℕ) (m : ℕ) (left : List ℕ) (w : Sweeping east north n rect regions found₀ found m left) where
+    module _ (some : isEmpty left ≡ false) (r : ℕ) (least : r ≡ firstOf left) (a : EntryRead) (read : a ≡ entryNoted n r) where
+      -- where the region's entry cannot be gone by, what is seen first is not of the table
+      pub sweep-unread : a ≡ entry.Broken → tallied Broken found ≡ gathered east north rect found₀ 0 (touchedStands n regions)
+      sweep-unread e =
+          sym (w .same
+          ∙ ap (gathered east north rect found m) (run-and-later left some n r least ∙ ap (λ (run : List ℕ). run ++ touchedStands n (drop 1 left)) (run-broken n r a read e))
+          ∙ stand-off east north rect (n .stands) (touchedStands n (drop 1 left)) found m Unknown (is-unknown east north rect (n .stands) (omega (arith, w .ready .all))) refl)
 
-      -- what the run's walk asks for
-      pub sweep-room : RunFits east north order (getD pasts r 0) n
-      sweep-room =
-          let a = w .ready .agreed in
-          let e = w .ready .ends r in
-          let o = places-enough east north order a in
-          let f = stands-few east north order a in
-          record { placed = norths-enough east north order a; within = omega arith; few = omega (arith, w .few) }
+      module _ (x : Entry) (e : a ≡ entry.At x) where
+        abbrev run : List ℕ
+        run = slice (x .first .0) (x .past .0) (n .order)
 
-      pub sweep-on : (t : Tally) (m : ℕ) (found′ left′ : List ℕ) → tallied t found′ ≡ gathered east north rect found n (runOf order firsts pasts r) → t ≡ Count m → left′ ≡ drop 1 left
-          → Sweeping east north order firsts pasts rect regions found₀ found′ m left′
-      sweep-on t m found′ left′ walked q d =
-          let e = rw q at walked in
-          let run = runOf order firsts pasts r in
-          let count = walk-counts east north rect run found n m (ap (λ (g : Gathered). g .tally) (sym e)) .1 in
-          let short = length-keep (inside east north rect) run in
-          let most = slice-short (getD firsts r 0) (getD pasts r 0) order in
-          let within = w .ready .ends r in
-          let stands = stands-few east north order (w .ready .agreed) in
-          rw d (record {
-            ready = w .ready;
-            few = omega (arith, w .few, ap length (first-rest left some .0));
-            size = ap (λ (g : Gathered). length (g .room)) e ∙ walk-size east north rect run found n ∙ w .size;
-            same = w .same ∙ ap (gathered east north rect found n) here-and-later ∙ walk-from east north rect (Count m) run (touchedStands order firsts pasts (drop 1 left)) found found′ n e;
-          })
+        here-and-later : touchedStands n left ≡ run ++ touchedStands n (drop 1 left)
+        here-and-later = run-and-later left some n r least ∙ ap (λ (l : List ℕ). l ++ touchedStands n (drop 1 left)) (run-there n r a read x e)
 
-      pub sweep-breaks : (t : Tally) (found′ : List ℕ) → tallied t found′ ≡ gathered east north rect found n (runOf order firsts pasts r) → t ≡ Broken
-          → tallied Broken found′ ≡ gathered east north rect found₀ 0 (touchedStands order firsts pasts regions)
-      sweep-breaks t found′ e q =
-          let later = touchedStands order firsts pasts (drop 1 left) in
-          sym (w .same ∙ ap (gathered east north rect found n) here-and-later ∙ walk-from east north rect Broken (runOf order firsts pasts r) later found found′ n (rw q at e))
+        short : x .past .0 ≤ length east
+        short = omega (arith, run-within n r a read x e, w .ready .all)
 
-    pub sweep-ends : isEmpty left ≡ true → tallied (Count n) found ≡ gathered east north rect found₀ 0 (touchedStands order firsts pasts regions)
+        -- what the run's walk asks for
+        pub sweep-room : RunFits east north (n .order) (x .past .0) m
+        sweep-room =
+            let agreed = w .ready .agreed in
+            let o = places-enough east north (n .order) agreed in
+            let f = stands-few east north (n .order) agreed in
+            record { placed = norths-enough east north (n .order) agreed; within = omega (arith, short); few = omega (arith, w .few, short) }
+
+        pub sweep-on : (t : Tally) (k : ℕ) (found′ left′ : List ℕ) → tallied t found′ ≡ gathered east north rect found m run → t ≡ Count k → left′ ≡ drop 1 left
+            → Sweeping east north n rect regions found₀ found′ k left′
+        sweep-on t k found′ left′ walked q d =
+            let e = rw q at walked in
+            let count = walk-counts east north rect run found m k (ap (λ (g : Gathered). g .tally) (sym e)) .1 in
+            let kept = length-keep (inside east north rect) run in
+            let most = slice-short (x .first .0) (x .past .0) (n .order) in
+            let stands = stands-few east north (n .order) (w .ready .agreed) in
+            rw d (record {
+              ready = w .ready;
+              few = omega (arith, w .few, short, ap length (first-rest left some .0));
+              size = ap (λ (g : Gathered). length (g .room)) e ∙ walk-size east north rect run found m ∙ w .size;
+              same = w .same ∙ ap (gathered east north rect found m) here-and-later ∙ walk-from east north rect (Count k) run (touchedStands n (drop 1 left)) found found′ m e;
+            })
+
+        pub sweep-breaks : (t : Tally) (found′ : List ℕ) → tallied t found′ ≡ gathered east north rect found m run → t ≡ Broken
+            → tallied Broken found′ ≡ gathered east north rect found₀ 0 (touchedStands n regions)
+        sweep-breaks t found′ e q =
+            sym (w .same ∙ ap (gathered east north rect found m) here-and-later ∙ walk-from east north rect Broken run (touchedStands n (drop 1 left)) found found′ m (rw q at e))
+
+    pub sweep-ends : isEmpty left ≡ true → tallied (Count m) found ≡ gathered east north rect found₀ 0 (touchedStands n regions)
     unfolding gathered
-    sweep-ends none = sym (w .same ∙ ap (λ (l : List ℕ). gathered east north rect found n (touchedStands order firsts pasts l)) (empty-of left (ap not none)))
+    sweep-ends none = sym (w .same ∙ ap (λ (l : List ℕ). gathered east north rect found m (touchedStands n l)) (empty-of left (ap not none)))

@@ -7,15 +7,17 @@ ghost use lib.Seq.{slice};
 ghost use Rattle.base.specs.Lent.{given, after};
 ghost use Rattle.base.specs.Lists.{written};
 ghost use Rattle.grid.specs.Cells.{regionsIn};
-ghost use Rattle.runs.specs.Sights.{touchedStands, Ready};
+ghost use Rattle.runs.specs.Sights.{notedIn, touchedStands, Ready};
 ghost use Rattle.range.specs.Fetches.{tallied, gathered, RunFits};
 use grid::cells::Cells;
 use rules::OrderPlace;
 use rules::Rect;
 use rules::Stand;
-use runs::notes::Places;
+use runs::notes::EntryNumbers;
+use runs::notes::noted_at;
 use runs::sight::Lies;
 use runs::sight::look;
+use walk::entry::EntryRead;
 
 // How many stands are in the rectangle.
 pub(crate) enum Tally {
@@ -86,22 +88,24 @@ pub(crate) fn gather(
     east: &[i32],
     north: &[i32],
     order: &[u32],
+    entries: &[u32],
+    first: u32,
+    numbers: &EntryNumbers,
     regions: Cells,
-    firsts: &Places,
-    pasts: &Places,
     rect: Rect,
     found: &mut [u32],
 ) -> Tally
-    requires { ⌜ Ready (now east) (now north) (now order) (now pasts) ⌝ }
-    ensures { λ r. ⌜ tallied r (after found) ≡ gathered (given east) (given north) rect (given found) 0 (touchedStands (given order) (given firsts) (given pasts) (regionsIn regions)) ⌝ }
+    requires { ⌜ Ready (now east) (now north) (notedIn (now east) (now order) (now entries) first (now numbers)) ⌝ }
+    ensures { λ r. ⌜ tallied r (after found) ≡ gathered (given east) (given north) rect (given found) 0 (touchedStands (notedIn (given east) (given order) (given entries) first (given numbers)) (regionsIn regions)) ⌝ }
 {
     let mut n = 0;
     let mut left = regions;
     while !left.is_empty() {
-        let r = left.least() as usize;
-        let first = OrderPlace(firsts[r]);
-        let past = OrderPlace(pasts[r]);
-        match gather_run(east, north, order, first, past, rect, found, n) {
+        let EntryRead::At(entry) = noted_at(entries, first, numbers, left.least(), east.len())
+        else {
+            return Tally::Broken;
+        };
+        match gather_run(east, north, order, entry.first, entry.past, rect, found, n) {
             Tally::Count(more) => n = more,
             Tally::Broken => return Tally::Broken,
         }

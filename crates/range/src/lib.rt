@@ -7,7 +7,7 @@ ghost use Rattle.rules.specs.Tables.{tableIn};
 ghost use Rattle.rules.specs.Outcomes.{roomIn, rangeCameIn};
 ghost use Rattle.rules.specs.Indexes.{indexIn};
 ghost use Rattle.rules.specs.Promises.{RangePromise};
-ghost use Rattle.runs.specs.Sights.{touchedStands, Ready};
+ghost use Rattle.runs.specs.Sights.{notedIn, touchedStands, Ready};
 ghost use Rattle.range.specs.Promises.{RangeFrom};
 ghost use Rattle.range.specs.Fetches.{looked};
 
@@ -24,7 +24,8 @@ use rules::Rect;
 use rules::Refusal;
 use rules::Verdict;
 use runs::Touched;
-use runs::notes::Places;
+use runs::agree;
+use runs::notes::EntryNumbers;
 use runs::touched_regions;
 use table::text::text_verdict;
 use walk::listing::Listing;
@@ -36,18 +37,28 @@ fn fill(
     east: &[i32],
     north: &[i32],
     order: &[u32],
+    entries: &[u32],
+    first: u32,
+    numbers: &EntryNumbers,
     regions: Cells,
-    firsts: &Places,
-    pasts: &Places,
     rect: Rect,
     found: &mut [u32],
 ) -> RangeAnswer
-    requires { ⌜ Ready (now east) (now north) (now order) (now pasts) ⌝ }
-    ensures { λ r. ⌜ rangeCameIn r found ≡ looked (given east) (given north) rect (touchedStands (given order) (given firsts) (given pasts) (regionsIn regions)) (given found) ⌝ }
+    requires { ⌜ Ready (now east) (now north) (notedIn (now east) (now order) (now entries) first (now numbers)) ⌝ }
+    ensures { λ r. ⌜ rangeCameIn r found ≡ looked (given east) (given north) rect (touchedStands (notedIn (given east) (given order) (given entries) first (given numbers)) (regionsIn regions)) (given found) ⌝ }
 {
     let mut near = [0u32; NEAR];
-    let Tally::Count(matches) = gather(east, north, order, regions, firsts, pasts, rect, &mut near)
-    else {
+    let Tally::Count(matches) = gather(
+        east,
+        north,
+        order,
+        entries,
+        first,
+        numbers,
+        regions,
+        rect,
+        &mut near,
+    ) else {
         return RangeAnswer::Refused {
             why: Refusal::NotLawful,
             matches: 0,
@@ -63,7 +74,17 @@ fn fill(
     if count <= NEAR {
         copy(&near, count, found);
     } else {
-        gather(east, north, order, regions, firsts, pasts, rect, found);
+        gather(
+            east,
+            north,
+            order,
+            entries,
+            first,
+            numbers,
+            regions,
+            rect,
+            found,
+        );
     }
     RangeAnswer::Found(matches)
 }
@@ -81,21 +102,26 @@ pub fn range_from(
 ) -> RangeAnswer
     ensures { λ a. ⌜ RangeFrom (given east) (given north) grid (given order) (given entries) at rect (roomIn found) (rangeCameIn a found) ⌝ }
 {
-    let mut firsts: Places = [0; Grid::REGIONS];
-    let mut pasts: Places = [0; Grid::REGIONS];
-    match touched_regions(
-        east,
-        north,
-        grid,
-        order,
-        entries,
-        at,
-        rect,
-        &mut firsts,
-        &mut pasts,
-    ) {
-        Touched::Regions(wanted) => {
-            fill(east, north, order, wanted, &firsts, &pasts, rect, found)
+    let mut numbers: EntryNumbers = [0; Grid::REGIONS];
+    match touched_regions(grid, entries, at, rect, &mut numbers) {
+        Touched::Regions(wanted, first) => {
+            if !agree(east, north, order) {
+                return RangeAnswer::Refused {
+                    why: Refusal::NotLawful,
+                    matches: 0,
+                };
+            }
+            fill(
+                east,
+                north,
+                order,
+                entries,
+                first,
+                &numbers,
+                wanted,
+                rect,
+                found,
+            )
         }
         Touched::Nothing => RangeAnswer::Found(0),
         Touched::Refused(why) => RangeAnswer::Refused { why, matches: 0 },

@@ -1,72 +1,68 @@
--- The loop that notes the runs, turn by turn; and that no run which is noted goes past the stands. Assumes nothing.
+-- The loop that notes the entries' numbers, turn by turn; and that no number which is noted is of a 65th entry. Assumes nothing.
 use mathlib.Core.Path.{_≡_, refl, sym, ap, _∙_}
 use mathlib.Core.Logic.{⊎-elim}
 use mathlib.Core.Bool.{Bool, true, false}
 use mathlib.Core.List.{List}
-use Prim.Native.Nat.{ℕ, zero, suc, _+_, _-_, _≤_, _<_}
+use Prim.Native.Nat.{ℕ, zero, suc, _+_, _-_, _/_, _≤_, _<_}
 use native.Mathlib.Omega.{arith}
 use native.Mathlib.Numerals.{add-one}
-use lib.IntN.{ℤ}
+use lib.Dec.{ltb}
 use lib.ListN.{length, getD, set}
+use borrow.Table.Steps.{cases}
+use borrow.Author.Tests.{lt-ltb, le-ltb}
 use Rattle.base.proofs.Members.{set-either, replicate-at}
-use Rattle.walk.specs.declared.entry.Entry.{Entry}
-use Rattle.walk.specs.declared.entry.EntryRead.{EntryRead}
-use Rattle.walk.specs.declared.entry.EntryRead.the-variants.{At, Broken}
-use Rattle.walk.specs.Entries.{entryRead}
-use Rattle.walk.proofs.Spelled.{within-facts, read-within}
-use Rattle.runs.specs.Notes.{Notes, notesOf, noteBy, noteFrom, blank}
-use Rattle.runs.specs.Sights.{agree, Ready}
+use Rattle.walk.specs.Entries.{entryWord}
+use Rattle.runs.specs.Notes.{Notes, notesOf, noteFrom, notesIn, blank}
 
--- ---- note: at entry e, which is left entries short of the end
+-- ---- at entry i, which is left entries short of the last
 
-pub record Noting (words : List ℕ) (stands count from : ℕ) (firsts₀ pasts₀ : List ℕ) (end : ℕ) (firsts pasts : List ℕ) (e : ℕ) : Type 0 where
-  pub within : e ≤ end
-  pub same : noteFrom words stands count from firsts₀ pasts₀ ≡ noteFrom words stands (end - e) e firsts pasts
+pub record Noting (words : List ℕ) (first count : ℕ) (numbers₀ numbers : List ℕ) (i : ℕ) : Type 0 where
+  pub there : first + count ≤ length words / 4
+  pub few : count ≤ 64
+  pub within : i ≤ count
+  pub same : notesIn words first count numbers₀ ≡ noteFrom words first (count - i) i numbers
 
-module _ (words : List ℕ) (stands count from : ℕ) (firsts₀ pasts₀ : List ℕ) where
-  pub note-begins : Noting words stands count from firsts₀ pasts₀ (from + count) firsts₀ pasts₀ from
-  note-begins = let z : from + count - from ≡ count = omega arith in record { within = omega arith; same = rw z }
+module _ (words : List ℕ) (first count : ℕ) (numbers₀ : List ℕ) where
+  pub note-missing : length words / 4 < first + count → notesOf numbers₀ false ≡ notesIn words first count numbers₀
+  unfolding notesIn
+  note-missing h = rw (lt-ltb (length words / 4) (first + count) h)
 
-  module _ (end : ℕ) (firsts pasts : List ℕ) (e : ℕ) (w : Noting words stands count from firsts₀ pasts₀ end firsts pasts e) where
-    module _ (l : e < end) (r : EntryRead) (read : r ≡ entryRead words stands e) where
-      turn : noteFrom words stands count from firsts₀ pasts₀ ≡ noteBy r firsts pasts (λ firsts pasts. noteFrom words stands (end - (e + 1)) (e + 1) firsts pasts)
+  pub note-begins : first + count ≤ length words / 4 → count ≤ 64 → Noting words first count numbers₀ numbers₀ 0
+  unfolding notesIn
+  note-begins h k =
+      let z : count - 0 ≡ count = omega arith in
+      record { there = h; few = k; within = omega arith; same = rw (le-ltb (length words / 4) (first + count) h, z) }
+
+  module _ (numbers : List ℕ) (i : ℕ) (w : Noting words first count numbers₀ numbers i) where
+    module _ (l : i < count) where
+      pub note-breaks : 64 ≤ entryWord words (first + i) 0 → notesOf numbers false ≡ notesIn words first count numbers₀
       unfolding noteFrom
-      turn = let z : end - e ≡ suc (end - (e + 1)) = omega arith in w .same ∙ rw (z, add-one e, ← read)
+      note-breaks h = let z : count - i ≡ suc (count - (i + 1)) = omega arith in sym (w .same ∙ rw (z, le-ltb (entryWord words (first + i) 0) 64 h))
 
-      pub note-breaks : r ≡ Broken → notesOf firsts pasts false ≡ noteFrom words stands count from firsts₀ pasts₀
-      note-breaks q = sym (turn ∙ rw q)
+      pub note-more : entryWord words (first + i) 0 < 64 → Noting words first count numbers₀ (set numbers (entryWord words (first + i) 0) i) (i + 1)
+      unfolding noteFrom
+      note-more h =
+          let z : count - i ≡ suc (count - (i + 1)) = omega arith in
+          record { there = w .there; few = w .few; within = omega arith; same = w .same ∙ rw (z, lt-ltb (entryWord words (first + i) 0) 64 h, add-one i) }
 
-      pub note-more : (x : Entry) → r ≡ At x
-          → Noting words stands count from firsts₀ pasts₀ end (set firsts (x .region) (x .first .0)) (set pasts (x .region) (x .past .0)) (e + 1)
-      note-more x q = record { within = omega arith; same = turn ∙ rw q }
-
-    pub note-ends : end ≤ e → notesOf firsts pasts true ≡ noteFrom words stands count from firsts₀ pasts₀
+    pub note-ends : count ≤ i → notesOf numbers true ≡ notesIn words first count numbers₀
     unfolding noteFrom
-    note-ends l = let z : end - e ≡ 0 = omega arith in sym (w .same ∙ rw z)
+    note-ends l = let z : count - i ≡ 0 = omega arith in sym (w .same ∙ rw z)
 
--- ---- no run that is noted goes past the stands
+-- ---- what is noted
 
-module _ (words : List ℕ) (stands : ℕ) where
-  pub note-within : (count e : ℕ) (firsts pasts : List ℕ) → ((r : ℕ) → getD pasts r 0 ≤ stands) → (r : ℕ) → getD (noteFrom words stands count e firsts pasts .pasts) r 0 ≤ stands
+module _ (words : List ℕ) (first : ℕ) where
+  numbers-small : (count i : ℕ) (numbers : List ℕ) → count + i ≤ 64 → ((r : ℕ) → getD numbers r 0 < 64) → (r : ℕ) → getD (noteFrom words first count i numbers .numbers) r 0 < 64
   unfolding noteFrom
-  note-within zero e firsts pasts h r = h r
-  note-within (suc count) e firsts pasts h r = step (entryRead words stands e) refl (note-within count (suc e))
-    where
-      step : (read : EntryRead) → entryRead words stands e ≡ read
-          → ((firsts pasts : List ℕ) → ((r : ℕ) → getD pasts r 0 ≤ stands) → (r : ℕ) → getD (noteFrom words stands count (suc e) firsts pasts .pasts) r 0 ≤ stands)
-          → getD (noteBy read firsts pasts (λ firsts pasts. noteFrom words stands count (suc e) firsts pasts) .pasts) r 0 ≤ stands
-      step Broken q below = h r
-      step (At x) q below =
-          below _ _
-          (λ k. ⊎-elim (λ u. rw u (within-facts stands x (read-within words stands e _ x refl q) .1)) (λ u. rw u (h k)) (set-either pasts (x .region) k (x .past .0) 0))
-          r
+  numbers-small zero i numbers h k r = k r
+  numbers-small (suc count) i numbers h k r =
+      let region = entryWord words (first + i) 0 in
+      cases (ltb region 64)
+      (λ q. rw q (numbers-small count (suc i) (set numbers region i) (omega arith) (λ j. ⊎-elim (λ u. rw u (omega arith)) (λ u. rw u (k j)) (set-either numbers region j i 0)) r))
+      (λ q. rw q (k r))
 
--- so a walk can go by the notes
-pub notes-ready : (east north : List ℤ) (order entries : List ℕ) (count first : ℕ) (firsts pasts : List ℕ) (whole : Bool)
-    → notesOf firsts pasts whole ≡ noteFrom entries (length east) count first blank blank → agree east north order ≡ true → Ready east north order pasts
-unfolding blank
-notes-ready east north order entries count first firsts pasts whole noted h =
-    record {
-      agreed = h;
-      ends = λ r. rw (ap (λ (n : Notes). n .pasts) noted) (note-within entries (length east) count first blank blank (λ k. omega (arith, replicate-at {A = ℕ} 64 k 0)) r);
-    }
+pub notes-small : (words : List ℕ) (first count : ℕ) → count ≤ 64 → (r : ℕ) → getD (notesIn words first count blank .numbers) r 0 < 64
+unfolding notesIn blank
+notes-small words first count h r =
+    let none : (j : ℕ) → getD blank j 0 < 64 = λ j. omega (arith, replicate-at {A = ℕ} 64 j 0) in
+    cases (ltb (length words / 4) (first + count)) (λ q. rw q (none r)) (λ q. rw q (numbers-small words first count 0 blank (omega arith) none r))

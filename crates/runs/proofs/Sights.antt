@@ -1,6 +1,6 @@
--- How a stand lies by the tests on the way; what there is to look at by those before it; and that it is the stands of some runs, or 7.
+-- How a stand lies by the tests on the way; and what there is to look at by those before it.
 -- Assumes nothing.
-use mathlib.Core.Path.{_≡_, refl, sym, ap, _∙_}
+use mathlib.Core.Path.{_≡_, refl, sym, _∙_, subst}
 use mathlib.Core.Logic.{inl, inr}
 use mathlib.Core.Bool.{Bool, true, false, cond, _&&_, not}
 use mathlib.Core.List.{List, [], _∷_}
@@ -8,28 +8,26 @@ use Prim.Native.Nat.{ℕ, _≤_, _<_}
 use native.Mathlib.Omega.{arith}
 use lib.Dec.{ltb}
 use lib.IntN.{ℤ}
-use lib.ListN.{length}
+use lib.ListN.{length, getD}
 use borrow.Table.Steps.{cases}
 use borrow.Author.Tests.{leb-true, ltb-true, lt-ltb, le-ltb}
 use Rattle.base.specs.Lists.{In, isEmpty}
 use Rattle.base.proofs.Tests.{every-at}
 use Rattle.rules.specs.declared.Grid.{Grid}
 use Rattle.rules.specs.declared.Rect.{Rect}
-use Rattle.rules.specs.declared.Refusal.{Refusal}
-use Rattle.rules.specs.declared.Refusal.the-variants.{NotLawful, RectReversed}
-use Rattle.rules.specs.Numbers.{refusalNumber}
 use Rattle.rules.specs.Places.{gridLawful, rectLawful}
 use Rattle.grid.specs.declared.cells.Cells.{Cells}
 use Rattle.grid.specs.Cells.{cellsOf, bothCells, regionsIn}
+use Rattle.grid.proofs.Listed.{listed-few}
 use Rattle.walk.specs.declared.listing.Listing.{Listing}
 use Rattle.walk.specs.declared.listing.Listing.the-variants.{Entries, Nowhere, Broken}
 use Rattle.runs.specs.declared.Touched.{Touched}
 use Rattle.runs.specs.declared.Touched.the-variants as touched
 use Rattle.runs.specs.declared.sight.Lies.{Lies}
 use Rattle.runs.specs.declared.sight.Lies.the-variants.{Inside, Outside, Unknown}
-use Rattle.runs.specs.Notes.{Notes, notesOf, noteFrom, blank, Blank}
-use Rattle.runs.specs.Sights.{inside, liesAs, known, touchedStands, agree, Ready, Sight, sightBy, notedSight, notesIn, wantedSight, listedSight, sightOf, Shows}
-use Rattle.runs.proofs.Noting.{notes-ready}
+use Rattle.runs.specs.Notes.{notesOf, notesIn, blank}
+use Rattle.runs.specs.Sights.{inside, liesAs, known, notedIn, agree, Ready, Look, lookBy, notedLook, wantedLook, listedLook, straightLook, lookAt}
+use Rattle.runs.proofs.Noting.{notes-small}
 
 -- ---- one stand
 
@@ -67,89 +65,73 @@ module _ (east north : List ℤ) (order : List ℕ) (h : agree east north order 
 
 -- ---- the whole, by the tests on the way
 
-module _ (east north : List ℤ) (order firsts pasts : List ℕ) (sight : Sight) where
-  -- where nothing is to be looked at no run is walked through
-  shows-refused : (why : Refusal) → Sight.refused (refusalNumber why) ≡ sight → Shows east north order sight (touched.Refused why) firsts pasts
-  shows-refused why e = record { same = e; ready = λ wanted q. let z : _≡_ {A = ℕ} 0 1 = cc q in absurd (omega arith) }
+module _ (grid : Grid) (entries : List ℕ) (cells : Cells) (first : ℕ) (rect : Rect) where
+  pub grid-breaks : gridLawful grid ≡ false → Look.refused 7 ≡ listedLook grid entries cells first rect
+  unfolding listedLook
+  grid-breaks g = rw g
 
-  shows-nothing : Sight.seen [] ≡ sight → Shows east north order sight touched.Nothing firsts pasts
-  shows-nothing e = record { same = e; ready = λ wanted q. let z : _≡_ {A = ℕ} 0 1 = cc q in absurd (omega arith) }
+  module _ (g : gridLawful grid ≡ true) (touching wanted : Cells) (t : touching ≡ cellsOf grid rect) (u : wanted ≡ bothCells cells touching)
+      (empty : Bool) (judged : empty ≡ isEmpty (regionsIn wanted)) where
+    by-wanted : listedLook grid entries cells first rect ≡ wantedLook entries cells first (regionsIn wanted)
+    unfolding listedLook
+    by-wanted = rw (g, ← t, ← u)
 
-  shows-regions : (wanted : Cells) → Sight.seen (touchedStands order firsts pasts (regionsIn wanted)) ≡ sight → Ready east north order pasts
-      → Shows east north order sight (touched.Regions wanted) firsts pasts
-  shows-regions wanted e y = record { same = e; ready = λ w q. y }
+    pub none-wanted : empty ≡ true → Look.nothing ≡ listedLook grid entries cells first rect
+    none-wanted none = sym (by-wanted ∙ rw (← judged, none))
 
-abbrev pub OnlySeven : Sight → Type 0
-OnlySeven (Sight.seen stands) = Unit {0}
-OnlySeven (Sight.refused n) = n ≡ 7
+    -- with the notes in hand
+    module _ (some : empty ≡ false) (count : ℕ) (all : count ≡ length (regionsIn cells)) (numbers₀ numbers : List ℕ) (b : numbers₀ ≡ blank) (whole : Bool)
+        (noted : notesOf numbers whole ≡ notesIn entries first count numbers₀) where
+      by-notes : listedLook grid entries cells first rect ≡ notedLook (notesOf numbers whole) first (regionsIn wanted)
+      by-notes =
+          let same : notesIn entries first (length (regionsIn cells)) blank ≡ notesOf numbers whole = sym (noted ∙ rw (all, b)) in
+          by-wanted ∙ rw (← judged, some, same)
 
-either : (test : Bool) (s z : Sight) → OnlySeven s → OnlySeven z → OnlySeven (cond test s z)
-either true s z h k = h
-either false s z h k = k
+      pub notes-break : whole ≡ false → Look.refused 7 ≡ listedLook grid entries cells first rect
+      notes-break w = sym (by-notes ∙ rw w)
 
-module _ (east north : List ℤ) (grid : Grid) (order entries : List ℕ) (cells : Cells) (first : ℕ) (rect : Rect) where
-  abbrev listed : Sight
-  listed = listedSight east north grid order entries cells first rect
-
-  pub grid-breaks : (firsts pasts : List ℕ) → gridLawful grid ≡ false → Shows east north order listed (touched.Refused NotLawful) firsts pasts
-  unfolding listedSight
-  grid-breaks firsts pasts g = shows-refused east north order firsts pasts _ NotLawful (rw g)
-
-  module _ (g : gridLawful grid ≡ true) where
-    pub parts-break : (firsts pasts : List ℕ) → agree east north order ≡ false → Shows east north order listed (touched.Refused NotLawful) firsts pasts
-    unfolding listedSight
-    parts-break firsts pasts h = shows-refused east north order firsts pasts _ NotLawful (rw (g, h))
-
-    module _ (h : agree east north order ≡ true) (touching wanted : Cells) (t : touching ≡ cellsOf grid rect) (u : wanted ≡ bothCells cells touching)
-        (empty : Bool) (judged : empty ≡ isEmpty (regionsIn wanted)) where
-      by-wanted : listed ≡ wantedSight entries (length east) cells first order (regionsIn wanted)
-      unfolding listedSight
-      by-wanted = rw (g, h, ← t, ← u)
-
-      pub none-wanted : (firsts pasts : List ℕ) → empty ≡ true → Shows east north order listed touched.Nothing firsts pasts
-      none-wanted firsts pasts none = shows-nothing east north order firsts pasts _ (sym (by-wanted ∙ rw (← judged, none)))
-
-      -- with the notes in hand
-      module _ (some : empty ≡ false) (count : ℕ) (all : count ≡ length (regionsIn cells)) (firsts₀ pasts₀ firsts pasts : List ℕ) (b : Blank firsts₀ pasts₀) (whole : Bool)
-          (noted : notesOf firsts pasts whole ≡ noteFrom entries (length east) count first firsts₀ pasts₀) where
-        blanks : notesOf firsts pasts whole ≡ noteFrom entries (length east) count first blank blank
-        blanks = rw (b .no-firsts, b .no-pasts) at noted
-
-        by-notes : listed ≡ notedSight (notesOf firsts pasts whole) order (regionsIn wanted)
-        by-notes =
-            let same : notesIn entries (length east) cells first ≡ notesOf firsts pasts whole = sym (blanks ∙ rw all) in
-            by-wanted ∙ rw (← judged, some, same)
-
-        pub notes-break : whole ≡ false → Shows east north order listed (touched.Refused NotLawful) firsts pasts
-        notes-break w = shows-refused east north order firsts pasts _ NotLawful (sym (by-notes ∙ rw w))
-
-        pub notes-show : whole ≡ true → Shows east north order listed (touched.Regions wanted) firsts pasts
-        notes-show w = shows-regions east north order firsts pasts _ wanted (sym (by-notes ∙ rw w)) (notes-ready east north order entries count first firsts pasts whole blanks h)
-
-  -- it is the stands of some runs, or 7
-  pub listed-only-7 : OnlySeven listed
-  unfolding listedSight
-  listed-only-7 =
-      let wanted = regionsIn (bothCells cells (cellsOf grid rect)) in
-      let notes = notesIn entries (length east) cells first in
-      either (gridLawful grid && agree east north order) _ _ (either (isEmpty wanted) _ _ tt (either (notes .whole) _ _ tt refl)) refl
+      pub notes-show : whole ≡ true → Look.regions (regionsIn wanted) first numbers ≡ listedLook grid entries cells first rect
+      notes-show w = sym (by-notes ∙ rw w)
 
 -- ---- from any listing
 
-module _ (east north : List ℤ) (grid : Grid) (order entries : List ℕ) (at : Listing) (rect : Rect) (firsts pasts : List ℕ) where
-  abbrev sight : Sight
-  sight = sightOf east north grid order entries at rect
-
-  pub shows-11 : rectLawful rect ≡ false → Shows east north order sight (touched.Refused RectReversed) firsts pasts
-  shows-11 f = shows-refused east north order firsts pasts _ RectReversed (rw f)
+module _ (grid : Grid) (entries : List ℕ) (at : Listing) (rect : Rect) where
+  pub look-11 : rectLawful rect ≡ false → Look.refused 11 ≡ lookAt grid entries at rect
+  look-11 f = rw f
 
   module _ (straight : rectLawful rect ≡ true) where
-    pub shows-entries : (cells : Cells) (first : ℕ) → at ≡ Entries cells first → (r : Touched)
-        → Shows east north order (listedSight east north grid order entries cells first rect) r firsts pasts → Shows east north order sight r firsts pasts
-    shows-entries cells first e r w = record { same = w .same ∙ sym (rw (straight, e)); ready = w .ready }
+    pub look-entries : (cells : Cells) (first : ℕ) → at ≡ Entries cells first → (l : Look) → l ≡ listedLook grid entries cells first rect → l ≡ lookAt grid entries at rect
+    look-entries cells first e l w = w ∙ sym (rw (straight, e))
 
-    pub shows-nowhere : at ≡ Nowhere → Shows east north order sight touched.Nothing firsts pasts
-    shows-nowhere e = shows-nothing east north order firsts pasts _ (rw (straight, e))
+    pub look-nowhere : at ≡ Nowhere → Look.nothing ≡ lookAt grid entries at rect
+    look-nowhere e = rw (straight, e)
 
-    pub shows-broken : at ≡ Broken → Shows east north order sight (touched.Refused NotLawful) firsts pasts
-    shows-broken e = shows-refused east north order firsts pasts _ NotLawful (rw (straight, e))
+    pub look-broken : at ≡ Broken → Look.refused 7 ≡ lookAt grid entries at rect
+    look-broken e = rw (straight, e)
+
+-- ---- the runs of the regions that it gives can be walked through
+
+abbrev Small : Look → Type 0
+Small (Look.regions wanted first numbers) = (r : ℕ) → getD numbers r 0 < 64
+Small Look.nothing = Unit {0}
+Small (Look.refused n) = Unit {0}
+
+either-small : (test : Bool) (look other : Look) → Small look → Small other → Small (cond test look other)
+either-small true look other h k = h
+either-small false look other h k = k
+
+straight-small : (grid : Grid) (entries : List ℕ) (at : Listing) (rect : Rect) → Small (straightLook grid entries at rect)
+unfolding listedLook
+straight-small grid entries (Entries cells first) rect =
+    let notes = notesIn entries first (length (regionsIn cells)) blank in
+    either-small (gridLawful grid) _ _
+    (either-small (isEmpty (regionsIn (bothCells cells (cellsOf grid rect)))) _ _ tt
+    (either-small (notes .whole) _ _ (notes-small entries first (length (regionsIn cells)) (listed-few cells)) tt)) tt
+straight-small grid entries Nowhere rect = tt
+straight-small grid entries Broken rect = tt
+
+pub look-ready : (east north : List ℤ) (grid : Grid) (order entries : List ℕ) (at : Listing) (rect : Rect) (t : Touched) (numbers : List ℕ) → lookBy t numbers ≡ lookAt grid entries at rect
+    → (wanted : Cells) (first : ℕ) → t ≡ touched.Regions wanted first → agree east north order ≡ true → Ready east north (notedIn east order entries first numbers)
+look-ready east north grid order entries at rect t numbers looks wanted first e h =
+    let is : lookAt grid entries at rect ≡ Look.regions (regionsIn wanted) first numbers = sym looks ∙ rw e in
+    record { all = refl; agreed = h; small = subst Small is (either-small (rectLawful rect) _ _ (straight-small grid entries at rect) tt) }

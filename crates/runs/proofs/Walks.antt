@@ -1,5 +1,5 @@
 -- A walk through the runs: place by place, and region by region. Assumes nothing.
-use mathlib.Core.Path.{_≡_, ap, _∙_}
+use mathlib.Core.Path.{_≡_, sym, ap, _∙_}
 use mathlib.Core.Bool.{false}
 use mathlib.Core.List.{List, [], _∷_, _++_}
 use Prim.Native.Nat.{ℕ, _+_, _≤_, _<_}
@@ -9,7 +9,11 @@ use lib.ListN.{length, getD, take, drop, length-take, drop-of-length-le}
 use lib.Seq.{slice, slice-cons}
 use Rattle.base.specs.Lists.{isEmpty, firstOf}
 use Rattle.base.proofs.Members.{first-rest}
-use Rattle.runs.specs.Sights.{runOf, touchedStands}
+use Rattle.walk.specs.declared.entry.Entry.{Entry}
+use Rattle.walk.specs.declared.entry.EntryRead.{EntryRead}
+use Rattle.walk.specs.declared.entry.EntryRead.the-variants.{At, Broken}
+use Rattle.walk.proofs.Spelled.{within-facts, read-within}
+use Rattle.runs.specs.Sights.{Noted, entryNoted, runBy, runOf, touchedStands}
 
 -- ---- at place i of a run
 
@@ -21,10 +25,20 @@ run-over order i end h = drop-of-length-le (take end order) {i = i} (omega (arit
 
 -- ---- at the first of some regions
 
+module _ (n : Noted) (r : ℕ) (a : EntryRead) (read : a ≡ entryNoted n r) where
+  -- its run, as the entry says that is noted for it; where that cannot be gone by, a stand that is not of the table
+  pub run-there : (x : Entry) → a ≡ At x → runOf n r ≡ slice (x .first .0) (x .past .0) (n .order)
+  run-there x e = ap (runBy n) (sym read ∙ e)
+
+  pub run-broken : a ≡ Broken → runOf n r ≡ n .stands ∷ []
+  run-broken e = ap (runBy n) (sym read ∙ e)
+
+  pub run-within : (x : Entry) → a ≡ At x → x .past .0 ≤ n .stands
+  run-within x e = within-facts (n .stands) x (read-within (n .entries) (n .stands) _ a x read e) .1
+
 module _ (left : List ℕ) (some : isEmpty left ≡ false) where
-  pub run-and-later : (order firsts pasts : List ℕ) (r : ℕ) → r ≡ firstOf left
-      → touchedStands order firsts pasts left ≡ runOf order firsts pasts r ++ touchedStands order firsts pasts (drop 1 left)
-  run-and-later order firsts pasts r least = rw least (ap (touchedStands order firsts pasts) (first-rest left some .0))
+  pub run-and-later : (n : Noted) (r : ℕ) → r ≡ firstOf left → touchedStands n left ≡ runOf n r ++ touchedStands n (drop 1 left)
+  run-and-later n r least = rw least (ap (touchedStands n) (first-rest left some .0))
 
   -- those that are left once it is done are fewer
   pub fewer : (later : List ℕ) → later ≡ drop 1 left → length later < length left

@@ -1,37 +1,29 @@
--- The runs that entries name, region by region, on any words.
+-- Which entry of a listing is of each region, on any words: entries are counted from the listing's first.
 use mathlib.Core.Path.{_≡_}
-use mathlib.Core.Bool.{Bool, true, false}
+use mathlib.Core.Bool.{Bool, true, false, cond}
 use mathlib.Core.List.{List}
-use Prim.Native.Nat.{ℕ, zero, suc}
-use lib.ListN.{set, replicate}
-use Rattle.walk.specs.declared.entry.EntryRead.{EntryRead}
-use Rattle.walk.specs.declared.entry.EntryRead.the-variants as entry
-use Rattle.walk.specs.Entries.{entryRead}
+use Prim.Native.Nat.{ℕ, zero, suc, _+_, _/_}
+use lib.Dec.{ltb}
+use lib.ListN.{length, set, replicate}
+use Rattle.walk.specs.Entries.{entryWord}
 
--- for each region its first place and the one past its last, and whether every entry could be gone by
+-- for each region its entry's number, and whether every entry is there and of a region
 pub record Notes : Type 0 where
-  pub firsts : List ℕ
-  pub pasts : List ℕ
+  pub numbers : List ℕ
   pub whole : Bool
 
-abbrev pub notesOf : List ℕ → List ℕ → Bool → Notes
-notesOf firsts pasts whole = record { firsts = firsts; pasts = pasts; whole = whole }
+abbrev pub notesOf : List ℕ → Bool → Notes
+notesOf numbers whole = record { numbers = numbers; whole = whole }
 
--- an entry's run put over what is noted
-abbrev pub noteBy : EntryRead → List ℕ → List ℕ → (List ℕ → List ℕ → Notes) → Notes
-noteBy (entry.At e) firsts pasts next = next (set firsts (e .region) (e .first .0)) (set pasts (e .region) (e .past .0))
-noteBy entry.Broken firsts pasts next = notesOf firsts pasts false
+-- count entries from number i on
+unfoldable pub noteFrom : List ℕ → ℕ → ℕ → ℕ → List ℕ → Notes
+noteFrom words first zero i numbers = notesOf numbers true
+noteFrom words first (suc count) i numbers =
+    cond (ltb (entryWord words (first + i) 0) 64) (noteFrom words first count (suc i) (set numbers (entryWord words (first + i) 0) i)) (notesOf numbers false)
 
--- those of count entries from a number on
-unfoldable pub noteFrom : List ℕ → ℕ → ℕ → ℕ → List ℕ → List ℕ → Notes
-noteFrom words stands zero number firsts pasts = notesOf firsts pasts true
-noteFrom words stands (suc count) number firsts pasts =
-    noteBy (entryRead words stands number) firsts pasts (λ firsts pasts. noteFrom words stands count (suc number) firsts pasts)
+unfoldable pub notesIn : List ℕ → ℕ → ℕ → List ℕ → Notes
+notesIn words first count numbers = cond (ltb (length words / 4) (first + count)) (notesOf numbers false) (noteFrom words first count 0 numbers)
 
 -- nothing noted
 unfoldable pub blank : List ℕ
 blank = replicate 64 0
-
-pub record Blank (firsts pasts : List ℕ) : Type 0 where
-  pub no-firsts : firsts ≡ blank
-  pub no-pasts : pasts ≡ blank

@@ -1,8 +1,8 @@
 -- What there is to look at for a rectangle, past a text's listing: the stands of some regions' runs, or a refusal. On any words.
 use mathlib.Core.Path.{_≡_}
-use mathlib.Core.Bool.{Bool, true, cond, _&&_}
+use mathlib.Core.Bool.{Bool, true, cond}
 use mathlib.Core.List.{List, [], _∷_}
-use Prim.Native.Nat.{ℕ, _≤_}
+use Prim.Native.Nat.{ℕ, _+_, _≤_, _<_}
 use lib.Dec.{ltb, leb}
 use lib.IntN.{ℤ}
 use lib.ListN.{length, getD}
@@ -15,13 +15,16 @@ use Rattle.rules.specs.Places.{gridLawful, rectLawful, inRect}
 use Rattle.rules.specs.Tables.{placeIn}
 use Rattle.grid.specs.declared.cells.Cells.{Cells}
 use Rattle.grid.specs.Cells.{cellsOf, bothCells, regionsIn}
+use Rattle.walk.specs.declared.entry.EntryRead.{EntryRead}
+use Rattle.walk.specs.declared.entry.EntryRead.the-variants as entry
 use Rattle.walk.specs.declared.listing.Listing.{Listing}
 use Rattle.walk.specs.declared.listing.Listing.the-variants.{Entries, Nowhere, Broken}
+use Rattle.walk.specs.Entries.{entryRead}
 use Rattle.runs.specs.declared.Touched.{Touched}
 use Rattle.runs.specs.declared.Touched.the-variants as touched
 use Rattle.runs.specs.declared.sight.Lies.{Lies}
 use Rattle.runs.specs.declared.sight.Lies.the-variants.{Inside, Outside, Unknown}
-use Rattle.runs.specs.Notes.{Notes, noteFrom, blank}
+use Rattle.runs.specs.Notes.{Notes, notesIn, blank}
 
 -- ---- one stand
 
@@ -43,58 +46,67 @@ known east l = all (λ s. ltb s (length east)) l
 
 -- ---- the stands of some regions
 
-abbrev pub runOf : List ℕ → List ℕ → List ℕ → ℕ → List ℕ
-runOf order firsts pasts r = slice (getD firsts r 0) (getD pasts r 0) order
+-- what says where they are: a listing's entries from the first on, the number of each region's entry, and the order of so many stands
+pub record Noted : Type 0 where
+  pub stands : ℕ
+  pub order : List ℕ
+  pub entries : List ℕ
+  pub first : ℕ
+  pub numbers : List ℕ
 
-abbrev pub touchedStands : List ℕ → List ℕ → List ℕ → List ℕ → List ℕ
-touchedStands order firsts pasts regions = eachList (runOf order firsts pasts) regions
+abbrev pub notedIn : List ℤ → List ℕ → List ℕ → ℕ → List ℕ → Noted
+notedIn east order entries first numbers = record { stands = length east; order = order; entries = entries; first = first; numbers = numbers }
+
+abbrev pub entryNoted : Noted → ℕ → EntryRead
+entryNoted n r = entryRead (n .entries) (n .stands) (n .first + getD (n .numbers) r 0)
+
+-- where an entry cannot be gone by there is one stand, and none of the table
+abbrev pub runBy : Noted → EntryRead → List ℕ
+runBy n (entry.At e) = slice (e .first .0) (e .past .0) (n .order)
+runBy n entry.Broken = n .stands ∷ []
+
+abbrev pub runOf : Noted → ℕ → List ℕ
+runOf n r = runBy n (entryNoted n r)
+
+abbrev pub touchedStands : Noted → List ℕ → List ℕ
+touchedStands n regions = eachList (runOf n) regions
 
 unfoldable pub agree : List ℤ → List ℤ → List ℕ → Bool
 agree east north order = every (leb (length east) 1024 ∷ leb (length east) (length north) ∷ leb (length east) (length order) ∷ [])
 
--- what a walk through the runs asks for: no run goes past the stands, which all have a place and a place in the order
-pub record Ready (east north : List ℤ) (order pasts : List ℕ) : Type 0 where
-  pub agreed : agree east north order ≡ true
-  pub ends : (r : ℕ) → getD pasts r 0 ≤ length east
+-- what a walk through the runs asks for: the stands all have a place and a place in the order, and no number is of a 65th entry
+pub record Ready (east north : List ℤ) (n : Noted) : Type 0 where
+  pub all : n .stands ≡ length east
+  pub agreed : agree east north (n .order) ≡ true
+  pub small : (r : ℕ) → getD (n .numbers) r 0 < 64
 
 -- ---- the whole
 
-pub data Sight : Type 0 where
-  seen : (stands : List ℕ) → Sight
-  refused : (n : ℕ) → Sight
+pub data Look : Type 0 where
+  regions : (wanted : List ℕ) (first : ℕ) (numbers : List ℕ) → Look
+  nothing : Look
+  refused : (n : ℕ) → Look
 
--- what the regions that the code gives come to, with what it noted
-abbrev pub sightBy : Touched → List ℕ → List ℕ → List ℕ → Sight
-sightBy (touched.Regions wanted) order firsts pasts = Sight.seen (touchedStands order firsts pasts (regionsIn wanted))
-sightBy touched.Nothing order firsts pasts = Sight.seen []
-sightBy (touched.Refused why) order firsts pasts = Sight.refused (refusalNumber why)
+-- what the code gives comes to, with what it noted
+abbrev pub lookBy : Touched → List ℕ → Look
+lookBy (touched.Regions wanted first) numbers = Look.regions (regionsIn wanted) first numbers
+lookBy touched.Nothing numbers = Look.nothing
+lookBy (touched.Refused why) numbers = Look.refused (refusalNumber why)
 
-abbrev pub notedSight : Notes → List ℕ → List ℕ → Sight
-notedSight notes order wanted = cond (notes .whole) (Sight.seen (touchedStands order (notes .firsts) (notes .pasts) wanted)) (Sight.refused 7)
-
--- the runs of a listing with these regions, from its first entry on
-abbrev pub notesIn : List ℕ → ℕ → Cells → ℕ → Notes
-notesIn entries stands cells first = noteFrom entries stands (length (regionsIn cells)) first blank blank
+abbrev pub notedLook : Notes → ℕ → List ℕ → Look
+notedLook notes first wanted = cond (notes .whole) (Look.regions wanted first (notes .numbers)) (Look.refused 7)
 
 -- with none wanted no entry is read
-abbrev pub wantedSight : List ℕ → ℕ → Cells → ℕ → List ℕ → List ℕ → Sight
-wantedSight entries stands cells first order wanted = cond (isEmpty wanted) (Sight.seen []) (notedSight (notesIn entries stands cells first) order wanted)
+abbrev pub wantedLook : List ℕ → Cells → ℕ → List ℕ → Look
+wantedLook entries cells first wanted = cond (isEmpty wanted) Look.nothing (notedLook (notesIn entries first (length (regionsIn cells)) blank) first wanted)
 
-unfoldable pub listedSight : List ℤ → List ℤ → Grid → List ℕ → List ℕ → Cells → ℕ → Rect → Sight
-listedSight east north grid order entries cells first rect =
-    cond (gridLawful grid && agree east north order)
-    (wantedSight entries (length east) cells first order (regionsIn (bothCells cells (cellsOf grid rect))))
-    (Sight.refused 7)
+unfoldable pub listedLook : Grid → List ℕ → Cells → ℕ → Rect → Look
+listedLook grid entries cells first rect = cond (gridLawful grid) (wantedLook entries cells first (regionsIn (bothCells cells (cellsOf grid rect)))) (Look.refused 7)
 
-abbrev pub sightAt : List ℤ → List ℤ → Grid → List ℕ → List ℕ → Listing → Rect → Sight
-sightAt east north grid order entries (Entries cells first) rect = listedSight east north grid order entries cells first rect
-sightAt east north grid order entries Nowhere rect = Sight.seen []
-sightAt east north grid order entries Broken rect = Sight.refused 7
+abbrev pub straightLook : Grid → List ℕ → Listing → Rect → Look
+straightLook grid entries (Entries cells first) rect = listedLook grid entries cells first rect
+straightLook grid entries Nowhere rect = Look.nothing
+straightLook grid entries Broken rect = Look.refused 7
 
-abbrev pub sightOf : List ℤ → List ℤ → Grid → List ℕ → List ℕ → Listing → Rect → Sight
-sightOf east north grid order entries at rect = cond (rectLawful rect) (sightAt east north grid order entries at rect) (Sight.refused 11)
-
--- the code gives this sight, and the runs of its regions can be walked through
-pub record Shows (east north : List ℤ) (order : List ℕ) (sight : Sight) (r : Touched) (firsts pasts : List ℕ) : Type 0 where
-  pub same : sightBy r order firsts pasts ≡ sight
-  pub ready : (wanted : Cells) → r ≡ touched.Regions wanted → Ready east north order pasts
+abbrev pub lookAt : Grid → List ℕ → Listing → Rect → Look
+lookAt grid entries at rect = cond (rectLawful rect) (straightLook grid entries at rect) (Look.refused 11)

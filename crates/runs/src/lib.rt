@@ -1,16 +1,17 @@
 // What a question about a rectangle has to look at: the stands of the regions that a text's listing and the rectangle share, region by region.
-// `notes` has where each region's run of stands is, `sight` how a stand lies to the rectangle. No stand is reached but through the listing.
+// `notes` has the entry of each such region, which says where its stands are, and `sight` how a stand lies to the rectangle.
+// No stand is reached but through the listing.
 ghost use mathlib.Core.Path.{_≡_};
 ghost use Rattle.base.specs.Lent.{given, after};
-ghost use Rattle.runs.specs.Notes.{Blank};
-ghost use Rattle.runs.specs.Sights.{agree, listedSight, sightOf, Shows};
+ghost use Rattle.runs.specs.Notes.{blank};
+ghost use Rattle.runs.specs.Sights.{agree, lookBy, listedLook, lookAt};
 
 pub mod notes;
 pub mod sight;
 
 use grid::cells::Cells;
 use grid::cells::cells_of;
-use notes::Places;
+use notes::EntryNumbers;
 use notes::note;
 use rules::Grid;
 use rules::Rect;
@@ -18,15 +19,15 @@ use rules::Refusal;
 use rules::Stand;
 use walk::listing::Listing;
 
-// The regions to be looked at: none, or some with their runs noted.
+// The regions to be looked at, their entries noted, with the listing's first entry; or none.
 pub enum Touched {
-    Regions(Cells),
+    Regions(Cells, u32),
     Nothing,
     Refused(Refusal),
 }
 
 // Whether there is a place for each stand, and a place in the order.
-fn agree(east: &[i32], north: &[i32], order: &[u32]) -> bool
+pub fn agree(east: &[i32], north: &[i32], order: &[u32]) -> bool
     ensures { λ r. ⌜ r ≡ agree (given east) (given north) (given order) ⌝ }
 {
     if Stand::MOST < east.len() {
@@ -40,67 +41,47 @@ fn agree(east: &[i32], north: &[i32], order: &[u32]) -> bool
 
 // Those of some listed regions that the rectangle touches. Where it touches none of them no entry is read.
 fn touched_of(
-    east: &[i32],
-    north: &[i32],
     grid: Grid,
-    order: &[u32],
     entries: &[u32],
     regions: Cells,
     first: u32,
     rect: Rect,
-    firsts: &mut Places,
-    pasts: &mut Places,
+    numbers: &mut EntryNumbers,
 ) -> Touched
-    requires { ⌜ Blank (now firsts) (now pasts) ⌝ }
-    ensures { λ r. ⌜ Shows (given east) (given north) (given order) (listedSight (given east) (given north) grid (given order) (given entries) regions first rect) r (after firsts) (after pasts) ⌝ }
+    requires { ⌜ now numbers ≡ blank ⌝ }
+    ensures { λ r. ⌜ lookBy r (after numbers) ≡ listedLook grid (given entries) regions first rect ⌝ }
 {
     if !grid::lawful(grid) {
-        return Touched::Refused(Refusal::NotLawful);
-    }
-    if !agree(east, north, order) {
         return Touched::Refused(Refusal::NotLawful);
     }
     let wanted = regions.both(cells_of(grid, rect));
     if wanted.is_empty() {
         return Touched::Nothing;
     }
-    if !note(entries, east.len(), first, regions.count(), firsts, pasts) {
+    if !note(entries, first, regions.count(), numbers) {
         return Touched::Refused(Refusal::NotLawful);
     }
-    Touched::Regions(wanted)
+    Touched::Regions(wanted, first)
 }
 
-// The regions of a text's listing that a rectangle touches; of each its run is noted.
+// The regions of a text's listing that a rectangle touches.
 pub fn touched_regions(
-    east: &[i32],
-    north: &[i32],
     grid: Grid,
-    order: &[u32],
     entries: &[u32],
     at: Listing,
     rect: Rect,
-    firsts: &mut Places,
-    pasts: &mut Places,
+    numbers: &mut EntryNumbers,
 ) -> Touched
-    requires { ⌜ Blank (now firsts) (now pasts) ⌝ }
-    ensures { λ r. ⌜ Shows (given east) (given north) (given order) (sightOf (given east) (given north) grid (given order) (given entries) at rect) r (after firsts) (after pasts) ⌝ }
+    requires { ⌜ now numbers ≡ blank ⌝ }
+    ensures { λ r. ⌜ lookBy r (after numbers) ≡ lookAt grid (given entries) at rect ⌝ }
 {
     if !grid::rect_lawful(rect) {
         return Touched::Refused(Refusal::RectReversed);
     }
     match at {
-        Listing::Entries(regions, first) => touched_of(
-            east,
-            north,
-            grid,
-            order,
-            entries,
-            regions,
-            first,
-            rect,
-            firsts,
-            pasts,
-        ),
+        Listing::Entries(regions, first) => {
+            touched_of(grid, entries, regions, first, rect, numbers)
+        }
         Listing::Nowhere => Touched::Nothing,
         Listing::Broken => Touched::Refused(Refusal::NotLawful),
     }

@@ -1,36 +1,53 @@
-// Where the stands that a listing has stand in the order, region by region, as its entries say. The words may be anything.
+// Which entry of a listing is of each region. The entries stand by their scores, and a rectangle is gone through by regions.
+// The words may be anything.
 ghost use mathlib.Core.Path.{_≡_};
+ghost use Prim.Native.Nat.{_+_, _≤_, _<_};
+ghost use lib.ListN.{length, getD};
 ghost use Rattle.base.specs.Lent.{given, after};
-ghost use Rattle.runs.specs.Notes.{notesOf, noteFrom};
+ghost use Rattle.walk.specs.Entries.{entryRead};
+ghost use Rattle.runs.specs.Notes.{notesOf, notesIn};
 use rules::Grid;
+use rules::layout::ENTRY_WORDS;
+use rules::layout::REGION;
 use walk::entry::EntryRead;
 use walk::entry::entry_at;
 
-// A place of the order for each region.
-pub type Places = [u32; Grid::REGIONS];
+// For each region the number of its entry, counted from the listing's first.
+pub type EntryNumbers = [u8; Grid::REGIONS];
 
-// The run of each region that one of count entries from one on is of: its first place, and the one past its last.
-// False, if an entry is missing or broken, or its run goes past the stands.
-pub fn note(
-    entries: &[u32],
-    stands: usize,
-    from: u32,
-    count: u32,
-    firsts: &mut Places,
-    pasts: &mut Places,
-) -> bool
-    ensures { λ r. ⌜ notesOf (after firsts) (after pasts) r ≡ noteFrom (given entries) stands count from (given firsts) (given pasts) ⌝ }
+// The numbers of count entries, each noted at its region. False, if one is missing or has no region.
+pub(crate) fn note(entries: &[u32], first: u32, count: u32, numbers: &mut EntryNumbers) -> bool
+    requires { ⌜ count ≤ 64 ⌝ }
+    ensures { λ r. ⌜ notesOf (after numbers) r ≡ notesIn (given entries) first count (given numbers) ⌝ }
 {
-    let end = from as usize + count as usize;
-    let mut e = from as usize;
-    while e < end {
-        let EntryRead::At(entry) = entry_at(entries, e, stands) else {
+    let from = first as usize;
+    let most = count as usize;
+    if entries.len() / ENTRY_WORDS < from + most {
+        return false;
+    }
+    let mut i = 0;
+    while i < most {
+        let region = entries[(from + i) * ENTRY_WORDS + REGION] as usize;
+        if Grid::REGIONS <= region {
             return false;
-        };
-        let region = entry.region as usize;
-        firsts[region] = entry.first.0;
-        pasts[region] = entry.past.0;
-        e += 1;
+        }
+        numbers[region] = i as u8;
+        i += 1;
     }
     true
+}
+
+// The entry that is noted for a region, in an order of so many places.
+pub fn noted_at(
+    entries: &[u32],
+    first: u32,
+    numbers: &EntryNumbers,
+    region: u32,
+    places: usize,
+) -> EntryRead
+    requires { ⌜ (region < 64) × (getD (now numbers) region 0 < 64) ⌝ }
+    ensures { λ r. ⌜ r ≡ entryRead (given entries) places (first + getD (given numbers) region 0) ⌝ }
+{
+    let number = numbers[region as usize] as usize;
+    entry_at(entries, first as usize + number, places)
 }

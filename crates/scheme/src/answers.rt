@@ -6,6 +6,7 @@ use crate::set::NORTH;
 use crate::set::SCORE;
 use crate::set::STARTS;
 use crate::set::TEXT;
+use finder::AnyAnswer;
 use finder::Built;
 use finder::Checked;
 use finder::Grid;
@@ -158,6 +159,68 @@ pub(crate) fn print_range(index: Index, typed: &[u8], rect: Rect, found: &mut [u
         }
     }
     print(b"\n");
+}
+
+fn print_yes_or_no(answer: AnyAnswer) {
+    match answer {
+        AnyAnswer::Yes(stand) => {
+            print(b"yes");
+            print_word(stand.0);
+        }
+        AnyAnswer::No => print(b"no"),
+        AnyAnswer::Refused(why) => print_refusal(why),
+    }
+    print(b"\n");
+}
+
+// Whether any stand is in a rectangle.
+pub(crate) fn print_any(index: Index, typed: &[u8], rect: Rect) {
+    let text = TEXT;
+    let starts = STARTS;
+    let east = EAST;
+    let north = NORTH;
+    let score = SCORE;
+    let order = index.order;
+    let nodes = index.nodes;
+    let entries = index.entries;
+    print_yes_or_no(finder::any(
+        &text,
+        &starts,
+        &east,
+        &north,
+        &score,
+        GRID,
+        &order,
+        &nodes,
+        &entries,
+        typed,
+        rect,
+    ));
+}
+
+// The same on the letters of a session.
+pub(crate) fn print_any_typed(index: Index, session: Session, rect: Rect) {
+    let text = TEXT;
+    let starts = STARTS;
+    let east = EAST;
+    let north = NORTH;
+    let score = SCORE;
+    let order = index.order;
+    let nodes = index.nodes;
+    let entries = index.entries;
+    print_yes_or_no(finder::any_typed(
+        &text,
+        &starts,
+        &east,
+        &north,
+        &score,
+        GRID,
+        &order,
+        &nodes,
+        &entries,
+        session,
+        rect,
+    ));
 }
 
 fn print_best(answer: RankedAnswer, found: [u32; MOST], values: [u64; MOST]) {

@@ -4,6 +4,8 @@ mod answers;
 mod set;
 
 use answers::print;
+use answers::print_any;
+use answers::print_any_typed;
 use answers::print_built;
 use answers::print_checked;
 use answers::print_path;
@@ -75,6 +77,19 @@ fn ranges(index: Index) {
     print_range(index, b"kibo", rect(0, 80, 0, 80), &mut two);
 }
 
+// Lines 5 and 6 as yes and no.
+fn yes_or_no(index: Index) {
+    print(b"any\n");
+    print_any(index, b"ki", rect(0, 12, 0, 9));
+    print_any(index, b"ki", rect(0, 11, 0, 9));
+    print_any(index, b"", rect(12, 12, 5, 5));
+    print_any(index, b"kiz", rect(0, 80, 0, 80));
+    print_any(index, b"ki", rect(11, 11, 0, 9));
+    print_any(index, b"ki", rect(1, 0, 0, 9));
+    print_any(index, b"kI", rect(12, 80, 0, 80));
+    print_any(index, b"k@", rect(0, 12, 0, 9));
+}
+
 // Lines 7 to 10, and line 9 in capitals.
 fn rankings(index: Index) {
     print(b"ranked\n");
@@ -108,16 +123,18 @@ fn press(index: Index, session: Session, byte: u8) -> Session {
     print_stroke(session::with_letter(&nodes, session, byte))
 }
 
-// Line 11, its last letter typed as a capital, and a question on the letters that stand at the end.
+// Line 11, its last letter typed as a capital, and questions on the letters that stand.
 fn keys(index: Index) {
     print(b"session\n");
     let k = press(index, Session::fresh(), b'k');
     let ki = press(index, k, b'i');
     let kiz = press(index, ki, b'Z');
     print_path(kiz);
+    print_any_typed(index, kiz, rect(0, 80, 0, 80));
     print_ranked_typed(index, kiz, asked(5, 5, 8, 4));
     let rubbed = print_stroke(session::rubbed_out(kiz));
     print_path(rubbed);
+    print_any_typed(index, rubbed, rect(0, 80, 0, 80));
     print_ranked_typed(index, rubbed, asked(5, 5, 8, 4));
 }
 
@@ -193,6 +210,7 @@ fn main() {
     regions();
     checks(index);
     ranges(index);
+    yes_or_no(index);
     rankings(index);
     limits(index);
     keys(index);

@@ -55,16 +55,19 @@ module _ (words : List ℕ) (places number : ℕ) where
 
 -- one that was read is there, and within the places
 module _ (words : List ℕ) (places number : ℕ) (r : EntryRead) (x : Entry) (read : r ≡ entryRead words places number) (e : r ≡ At x) where
-  read-facts : (ltb number (length words / 4) ≡ true) × (entryWithin places x ≡ true)
+  read-facts : (ltb number (length words / 4) ≡ true) × (entryWithin places x ≡ true) × (entryIn words number ≡ x)
   unfolding entryRead
   read-facts =
       let it = ltb number (length words / 4) && entryWithin places (entryIn words number) in
       cases it
-      (λ q. let same : entryIn words number ≡ x = cc (rw q at read) in let w = and-parts _ _ q in (w .0, rw same at (w .1)))
+      (λ q. let same : entryIn words number ≡ x = cc (rw q at read) in let w = and-parts _ _ q in (w .0, rw same at (w .1), same))
       (λ q. let z : _≡_ {A = ℕ} 0 1 = cc (rw q at read) in absurd (omega arith))
 
   pub read-there : number < length words / 4
   read-there = ltb-true _ _ (read-facts .0)
+
+  pub read-is : entryIn words number ≡ x
+  read-is = read-facts .2
 
   pub read-within : entryWithin places x ≡ true
   read-within = read-facts .1

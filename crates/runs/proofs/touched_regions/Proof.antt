@@ -1,7 +1,7 @@
 -- `touched_regions` meets its contract: by its ways out.
 -- Assumes nothing.
 use Rattle.base.proofs.Tests.{breaks, holds}
-use Rattle.runs.proofs.Sights.{shows-11, shows-entries, shows-nowhere, shows-broken}
+use Rattle.runs.proofs.Sights.{look-11, look-entries, look-nowhere, look-broken}
 use borrow.Author.Needs.{needs}
 use Rattle.runs.proofs.touched_regions.Statement.{statement}
 use Rattle.runs.proofs.touched_regions.Tie as tie
@@ -11,11 +11,11 @@ touched-regions-spec =
     tie.close
     (tie.spec
     (λ c κs. search needs)
-    (λ c. search (needs, shows-11, breaks))
+    (λ c. search (needs, look-11, breaks))
     (λ c. search needs)
     (λ c κs. search needs)
     (λ c. search needs)
     (λ c. search needs)
-    (λ c. search (needs, shows-entries, holds))
-    (λ c. search (needs, shows-nowhere, holds))
-    (λ c. search (needs, shows-broken, holds)))
+    (λ c. search (needs, look-entries, holds))
+    (λ c. search (needs, look-nowhere, holds))
+    (λ c. search (needs, look-broken, holds)))

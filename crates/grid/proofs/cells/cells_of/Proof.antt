@@ -1,14 +1,18 @@
--- `grid::cells::cells_of` meets its contract. The spans are those of the floored edges, and their rows, laid four to a word, the touched regions.
+-- `grid::cells::cells_of` meets its contract. The spans are those of the floored edges; their columns' mask at each of their rows is the word of the touched regions.
 -- Assumes nothing.
 use mathlib.Core.Path.{_≡_, _∙_}
+use Prim.Native.Nat.{_*_, _≤_}
+use native.Mathlib.Omega.{arith}
 use borrow.Author.Needs.{needs}
 use mir.Syntax.{w32}
 use mir.Facts.{toZ-ofZ}
+use Rattle.base.specs.Bits.{wordOf}
 use Rattle.base.proofs.Words.{word-less}
-use Rattle.grid.specs.Cells.{cellsOf, cellsBy, columnsOf, rowsOf, edgesSpan}
+use Rattle.grid.specs.Cells.{cellsOf, columnsOf, rowsOf, edgesSpan, touched}
 use Rattle.rules.proofs.Places.{cell-some}
 use Rattle.grid.proofs.Spans.{past-most}
-use Rattle.grid.proofs.Rows.{laid-touched}
+use Rattle.grid.proofs.Rows.{mask-touched}
+use Rattle.grid.proofs.Sets.{by-halves}
 use Rattle.grid.proofs.cells.cells_of.Statement.{statement}
 use Rattle.grid.proofs.cells.cells_of.Tie as tie
 
@@ -25,24 +29,30 @@ rows-are c =
     c .strips2 .ensures
     ∙ rw (toZ-ofZ {w = w32} {z = a .rect .south} (search needs), toZ-ofZ {w = w32} {z = a .rect .north} (search needs), toZ-ofZ {w = w32} {z = a .grid .south} (search needs))
 
-mask-requires : tie.Need-mask-requires
+-- both lie on the grid
+on-grid : (c : tie.After-strips2) → (c .before .before .before .before .strips .result .past ≤ 8) × (c .strips2 .result .past ≤ 8)
 unfolding edgesSpan
-mask-requires c κs = rw (columns-are (c .before .before .before .before)) (past-most _ _)
+on-grid c = (rw (columns-are (c .before .before .before .before)) (past-most _ _), rw (rows-are c) (past-most _ _))
 
-lay-requires : tie.Need-lay-requires
-lay-requires c κs = rw (c .mask .ensures) (word-less _ 0 8, search needs)
+mask-requires : tie.Need-mask-requires
+mask-requires c κs = omega (arith, on-grid c)
 
-lay-requires-2 : tie.Need-lay-requires-2
-lay-requires-2 c κs = rw (c .before .mask .ensures) (word-less _ 0 8, search needs)
+row-bits-requires : tie.Need-row-bits-requires
+row-bits-requires c κs = omega (arith, on-grid (c .before))
+
+-- the columns' mask at each row
+product : (c : tie.After-row-bits) → c .before .mask .result * c .row-bits .result ≡ wordOf (touched (c .before .before .before .before .before .before .strips .result) (c .before .before .strips2 .result)) 0 64
+product c = rw (c .before .mask .ensures, c .row-bits .ensures) (mask-touched _ _ 8)
+
+mul-bits : tie.Need-mul-bits
+mul-bits c = record { fits = rw (product c) (word-less _ 0 64) }
+
+cast-t9 : tie.Need-cast-t9
+cast-t9 c = omega (arith, mul-bits c .fits)
 
 returns : tie.Need-returns
-unfolding cellsOf cellsBy
-returns c =
-    let columns = columns-are (c .before .before .before .before .before .before .before) in
-    let rows = rows-are (c .before .before .before) in
-    let a = c .before .before .before .before .before .before .before .before .before .before .before .args in
-    let halves = laid-touched (columnsOf (a .grid) (a .rect)) (rowsOf (a .grid) (a .rect)) in
-    rw (c .before .lay .ensures, c .lay2 .ensures, c .before .before .mask .ensures, columns, rows, halves 0 4, halves 4 4)
+unfolding cellsOf
+returns c = rw (product c, columns-are (c .before .before .before .before .before .before), rows-are (c .before .before)) (by-halves _)
 
 pub cells-of-spec : {M : Type 1} → statement M
 cells-of-spec =
@@ -51,6 +61,9 @@ cells-of-spec =
     (λ c κs. cell-some _ (c .before .before .before .pre))
     (λ c κs. cell-some _ (c .before .before .before .before .before .before .before .pre))
     mask-requires
-    lay-requires
-    lay-requires-2
+    (λ c. search needs)
+    row-bits-requires
+    mul-bits
+    (λ c. search needs)
+    cast-t9
     returns)
