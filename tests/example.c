@@ -47,6 +47,16 @@ static void show_range(krz_found answer, const uint32_t *found, const char *type
     }
 }
 
+/* With a yes the stand is shown, too. */
+static void show_any(krz_any_found answer, const char *typed)
+{
+    printf("refusal %" PRIu32 " yes %" PRIu32 " stand %" PRIu32 "\n", answer.refusal, answer.yes, answer.stand);
+    if (answer.yes) {
+        show(answer.stand, typed);
+        printf("\n");
+    }
+}
+
 static void show_ranked(krz_found answer, const uint32_t *found, const uint64_t *values, const char *typed)
 {
     uint32_t i;
@@ -78,6 +88,8 @@ int main(void)
     const krz_rect near = {0, 12, 0, 9};
     const krz_rect wide = {0, 80, 0, 80};
     const krz_rect reversed = {1, 0, 0, 0};
+    const krz_rect from_6 = {6, 80, 0, 80};   /* has the stands 3, 2 and 1, by region */
+    const krz_rect between = {13, 74, 0, 74}; /* touches the cells of 2 and 1, and has neither */
     const uint8_t *ki = (const uint8_t *)"ki";
     const uint8_t *capitals = (const uint8_t *)"Ki";
     const uint8_t *kibo = (const uint8_t *)"kibo";
@@ -107,6 +119,12 @@ int main(void)
     show_range(krz_range(SET, kibo, 4, wide, found, 2), found, "kibo");
     printf("range reversed: ");
     show_range(krz_range(SET, ki, 2, reversed, found, KRZ_K_MOST), found, "ki");
+    printf("any ki: ");
+    show_any(krz_any(SET, ki, 2, from_6), "ki");
+    printf("any ki, none there: ");
+    show_any(krz_any(SET, ki, 2, between), "ki");
+    printf("any reversed: ");
+    show_any(krz_any(SET, ki, 2, reversed), "ki");
     printf("ranked ki, weight 8, k 4: ");
     show_ranked(krz_ranked(SET, ki, 2, here, 8, 4, found, KRZ_K_MOST, values, KRZ_K_MOST), found, values, "ki");
     printf("ranked ki, k 17: ");
@@ -117,10 +135,16 @@ int main(void)
     printf("letters: %.*s\n", (int)session.len, (const char *)session.text);
     printf("range kiz: ");
     show_range(krz_range_typed(SET, session, wide, found, KRZ_K_MOST), found, "kiz");
+    printf("any kiz: ");
+    show_any(krz_any_typed(SET, session, wide), "kiz");
     rub_out(&session);
     keys(&session, "[");
     printf("range ki, typed: ");
     show_range(krz_range_typed(SET, session, near, found, KRZ_K_MOST), found, "ki");
+    printf("any ki, typed: ");
+    show_any(krz_any_typed(SET, session, from_6), "ki");
+    printf("any ki, typed, reversed: ");
+    show_any(krz_any_typed(SET, session, reversed), "ki");
     printf("ranked ki, typed, weight 16, k 2: ");
     show_ranked(krz_ranked_typed(SET, session, here, 16, 2, found, KRZ_K_MOST, values, KRZ_K_MOST), found, values, "ki");
     return 0;

@@ -57,9 +57,11 @@ static void build(void) { refused |= krz_build(TABLE, INDEX).refusal; }
 static void check(void) { refused |= !krz_check(SET).lawful; }
 static void region(void) { refused |= krz_region(grid, here).refusal; }
 static void range(void) { refused |= krz_range(SET, text, 2, wide, found, STANDS).refusal; }
+static void any(void) { refused |= krz_any(SET, text, 2, wide).refusal; }
 static void ranked(void) { refused |= krz_ranked(SET, text, 2, here, 8, 16, found, STANDS, values, KRZ_K_MOST).refusal; }
 static void type(void) { refused |= krz_type(SET, &session, 'a'); }
 static void range_typed(void) { refused |= krz_range_typed(SET, session, wide, found, STANDS).refusal; }
+static void any_typed(void) { refused |= krz_any_typed(SET, session, wide).refusal; }
 static void ranked_typed(void) { refused |= krz_ranked_typed(SET, session, here, 8, 16, found, STANDS, values, KRZ_K_MOST).refusal; }
 static void rub_out(void) { refused |= krz_rub_out(SET, &session); }
 static void fresh(void) { session = krz_fresh(); }
@@ -92,7 +94,7 @@ static unsigned deepest(void (*const calls[])(void), unsigned count)
 int main(void)
 {
     static void (*const of_building[])(void) = {build, check};
-    static void (*const others[])(void) = {region, range, ranked, fresh, type, range_typed, ranked_typed, rub_out, rest};
+    static void (*const others[])(void) = {region, range, any, ranked, fresh, type, range_typed, any_typed, ranked_typed, rub_out, rest};
     unsigned building;
     unsigned other;
     fill();

@@ -1,4 +1,5 @@
-//! Tables made to be bad, each for something that a call goes through: stands under one node, entries, siblings, nodes, ties.
+//! Tables made to be bad, each for something that a call goes through: stands under one node, entries, siblings, nodes, ties, stands that
+//! lie just outside a rectangle.
 
 use crate::owned::{Owned, Row};
 use crate::port;
@@ -72,6 +73,13 @@ fn ties() -> Vec<Row> {
     (0..MOST).map(|i| (long(b""), place(63 - i / 16, 200, 200), 500)).collect()
 }
 
+/// Along the northernmost metre: a rectangle of all the rest touches the cells of every stand and has none, as the last test of its four
+/// edges tells.
+fn north_rim() -> Vec<Row> {
+    let north = GRID.cell as usize - 1;
+    (0..MOST).map(|i| (long(b""), place(56 + i / 128, 1 + i % 128, north), i as u32 % 1_001)).collect()
+}
+
 /// At each of 24 letters all 36 others stand before the z that leads on.
 fn siblings() -> Vec<Row> {
     let mut names: Vec<Vec<u8>> = (0..LONGEST * 36).map(|i| [&long(b"")[..i / 36], &[LETTERS[i % 36]]].concat()).collect();
@@ -86,13 +94,14 @@ fn apart() -> Vec<Row> {
 }
 
 /// A table's word, what it is, and its rows.
-pub const TABLES: [(&str, &str, fn() -> Vec<Row>); 8] = [
+pub const TABLES: [(&str, &str, fn() -> Vec<Row>); 9] = [
     ("equal", "equal names of 24 bytes, 16 in each cell, the nearer the later", equal),
     ("share-23", "names of 24 bytes that share 23", share_23),
     ("one-cell", "equal names of 24 bytes in one cell, the nearer the later", one_cell),
     ("each-cell-rising", "16 names of 24 bytes, each in each cell, scores rising with the region", each_cell_rising),
     ("each-cell-falling", "16 names of 24 bytes, each in each cell, scores falling with the region", each_cell_falling),
     ("ties", "equal names and scores, 16 at one place in each cell", ties),
+    ("north-rim", "equal names of 24 bytes along the northernmost metre", north_rim),
     ("siblings", "at each of 24 letters all 37 allowed bytes", siblings),
     ("apart", "names of 24 bytes that part at the second", apart),
 ];

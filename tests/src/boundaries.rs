@@ -7,8 +7,8 @@ use crate::damage;
 use crate::dice::Dice;
 use crate::finder;
 use crate::owned::Owned;
-use crate::questions::{compare_both, compare_range, compare_rest, By};
-use crate::records::{Rect, Session};
+use crate::questions::{compare_any, compare_each, compare_range, compare_rest, By, WORLD};
+use crate::records::Session;
 use crate::scan::Typist;
 use crate::strokes::{compare_stroke, letter, Key};
 use crate::Counts;
@@ -76,23 +76,24 @@ fn one_part_resized(dice: &mut Dice, set: &mut Owned) {
 
 /// All calls that go by the letters' node: as a text, past it to a sibling, as a session, one letter further, one letter less.
 fn compare_around(dice: &mut Dice, counts: &mut Counts, set: &Owned, typist: Option<&Typist>, text: &[u8], session: Session) {
-    let whole = Rect { west: i32::MIN, east: i32::MAX, south: i32::MIN, north: i32::MAX };
     let further = [letter(dice, set, text), dice.one_of(b" az")];
     let shorter = &text[..text.len().saturating_sub(1)];
     let texts = [text.to_vec(), [text, &further[..1]].concat(), [text, &further[1..]].concat(), [shorter, b"z"].concat()];
     for text in texts {
         let by = By::Text(text.into());
-        compare_range(dice, counts, set, typist.is_some(), &by, whole);
-        compare_both(dice, counts, set, typist.is_some(), &by);
+        compare_range(dice, counts, set, typist.is_some(), &by, WORLD);
+        compare_any(counts, set, typist.is_some(), &by, WORLD);
+        compare_each(dice, counts, set, typist.is_some(), &by);
     }
     compare_rest(counts, set, dice.below(set.score.len() + 1) as u32, text);
     let typist = typist.filter(|t| t.lawful(session));
-    compare_range(dice, counts, set, typist.is_some(), &By::Letters(session), whole);
+    compare_range(dice, counts, set, typist.is_some(), &By::Letters(session), WORLD);
+    compare_any(counts, set, typist.is_some(), &By::Letters(session), WORLD);
     for key in [Key::Letter(further[0]), Key::Letter(further[1]), Key::RubOut] {
         let mut session = session;
         compare_stroke(dice, counts, set, typist, &mut session, key);
         let typist = typist.filter(|t| t.lawful(session));
-        compare_both(dice, counts, set, typist.is_some(), &By::Letters(session));
+        compare_each(dice, counts, set, typist.is_some(), &By::Letters(session));
     }
 }
 

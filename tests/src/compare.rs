@@ -33,6 +33,14 @@ pub struct Counts {
     regions: u64,
     rests: u64,
     ranges: u64,
+    any: u64,
+    /// Exact answers to these: a yes, one with stands in several regions, and one whose first stand would be another by scores.
+    any_yes: u64,
+    yes_over_regions: u64,
+    yes_against_scores: u64,
+    /// A no, and one where a cell that the rectangle touches has a stand under the text.
+    any_no: u64,
+    no_in_touched_cells: u64,
     ranked: u64,
     /// Ranked lists with two stands that are equal by rounded distance only.
     rounded_ties: u64,

@@ -26,10 +26,17 @@ use villages::QUESTIONS;
 
 const SIZES: [usize; 3] = [64, 256, 1_024];
 
-const WHATS: [(&str, &str); 9] = [
+const WHATS: [(&str, &str); 16] = [
     ("ranked", "ranked, 3 letters, k = 5"),
     ("whole", "ranked, a whole name, k = 5"),
     ("range", "range, 3 letters"),
+    ("any", "any, 3 letters"),
+    ("range-beside", "range, 3 letters, none there, cells touched"),
+    ("any-beside", "any, 3 letters, none there, cells touched"),
+    ("range-far", "range, 3 letters, none there, no cell touched"),
+    ("any-far", "any, 3 letters, none there, no cell touched"),
+    ("range-many", "range, 1 letter, the whole grid"),
+    ("any-many", "any, 1 letter, the whole grid"),
     ("typing", "a name typed, all letters"),
     ("rest", "the rest of a name, 3 letters"),
     ("unlike-odd", "of one that begins otherwise, 3 letters"),
@@ -40,7 +47,16 @@ const WHATS: [(&str, &str); 9] = [
 
 /// Whether going over all stands can answer it.
 fn scanned(what: &str) -> bool {
-    matches!(what, "ranked" | "whole" | "range" | "typing")
+    matches!(what, "ranked" | "whole" | "typing") || what.starts_with("range") || what.starts_with("any")
+}
+
+/// Whether it is one of the any questions, and then how many of them are answered by yes.
+fn yeses(what: &str) -> Option<usize> {
+    match what {
+        "any" | "any-many" => Some(QUESTIONS),
+        "any-beside" | "any-far" => Some(0),
+        _ => None,
+    }
 }
 
 /// The villages with their index, built by the one that is not counted.
@@ -58,8 +74,10 @@ fn counted(what: &str, who: &str) -> String {
     match (what, who) {
         ("whole", _) => counted("ranked", who),
         ("unlike-odd" | "unlike-even", _) => counted("rest", who),
+        ("range-beside" | "range-far" | "range-many", _) => counted("range", who),
+        ("any-beside" | "any-far" | "any-many", _) => counted("any", who),
         ("typing", "finder") => String::from("krz_type"),
-        ("typing", "plain") => String::from("figures::plain::any"),
+        ("typing", "plain") => String::from("figures::plain::leads_on"),
         ("typing", "port") => String::from("figures::port::type_byte"),
         ("typing", "in-place") => String::from("figures::port::type_in_place"),
         ("range", "near") => String::from("figures::plain::range_near"),
@@ -119,6 +137,9 @@ fn compare() {
             if scanned(what) {
                 assert_eq!(ours, round(what, Who::Plain, &mut t, &asked), "{title}: finder and scan");
                 assert_eq!(ours, round(what, Who::InPlace, &mut t, &asked), "{title}: finder and port in place");
+            }
+            if let Some(yeses) = yeses(what) {
+                assert_eq!(ours.chunks(3).filter(|answer| answer[1] == 1).count(), yeses, "{title}: how many are answered by yes");
             }
             if what == "range" {
                 assert_eq!(ours, round(what, Who::Near, &mut t, &asked), "{title}: finder and scan by rectangle");

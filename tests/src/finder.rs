@@ -27,8 +27,10 @@ macro_rules! over_a_set {
 over_a_set! {
     krz_check() -> Checked;
     krz_range(typed: *const u8, typed_len: usize, rect: Rect, found: *mut u32, found_len: usize) -> Found;
+    krz_any(typed: *const u8, typed_len: usize, rect: Rect) -> AnyFound;
     krz_ranked(typed: *const u8, typed_len: usize, place: Place, weight: u32, k: u32, found: *mut u32, found_len: usize, values: *mut u64, values_len: usize) -> Found;
     krz_range_typed(session: Session, rect: Rect, found: *mut u32, found_len: usize) -> Found;
+    krz_any_typed(session: Session, rect: Rect) -> AnyFound;
     krz_ranked_typed(session: Session, place: Place, weight: u32, k: u32, found: *mut u32, found_len: usize, values: *mut u64, values_len: usize) -> Found;
     krz_type(session: *mut Session, byte: u8) -> u32;
     krz_rub_out(session: *mut Session) -> u32;
@@ -100,6 +102,10 @@ pub fn range(set: &Set, typed: &[u8], rect: Rect, found: &mut [u32]) -> Found {
     call!(krz_range, set, typed.as_ptr(), typed.len(), rect, found.as_mut_ptr(), found.len())
 }
 
+pub fn any(set: &Set, typed: &[u8], rect: Rect) -> AnyFound {
+    call!(krz_any, set, typed.as_ptr(), typed.len(), rect)
+}
+
 pub fn ranked(set: &Set, typed: &[u8], asked: Ranking, found: &mut [u32], values: &mut [u64]) -> Found {
     call!(
         krz_ranked, set, typed.as_ptr(), typed.len(), asked.place, asked.weight, asked.k,
@@ -109,6 +115,10 @@ pub fn ranked(set: &Set, typed: &[u8], asked: Ranking, found: &mut [u32], values
 
 pub fn range_typed(set: &Set, session: Session, rect: Rect, found: &mut [u32]) -> Found {
     call!(krz_range_typed, set, session, rect, found.as_mut_ptr(), found.len())
+}
+
+pub fn any_typed(set: &Set, session: Session, rect: Rect) -> AnyFound {
+    call!(krz_any_typed, set, session, rect)
 }
 
 pub fn ranked_typed(set: &Set, session: Session, asked: Ranking, found: &mut [u32], values: &mut [u64]) -> Found {

@@ -14,11 +14,13 @@ pub struct Hard<'a> {
 }
 
 /// The calls in the order of the tables that are printed.
-pub const CALLS: [&str; 11] = [
+pub const CALLS: [&str; 13] = [
     "krz_ranked",
     "krz_ranked_typed",
     "krz_range",
     "krz_range_typed",
+    "krz_any",
+    "krz_any_typed",
     "krz_type",
     "krz_rub_out",
     "krz_build",
@@ -84,8 +86,9 @@ fn ranked<'a>(set: &'a Owned, text: &'a [u8]) -> Vec<Hard<'a>> {
     all
 }
 
-/// All the world, the grid less a metre at each side, and less three cells at each side.
-fn rects(set: &Set) -> [(&'static str, Rect); 3] {
+/// All the world, the grid less a metre at each side, less three cells at each side, and the world from the middle of the southernmost
+/// cells on, which touches all cells and has no stand close to the southern edge.
+fn rects(set: &Set) -> [(&'static str, Rect); 4] {
     let (grid, side) = (set.grid, 8 * set.grid.cell as i32 - 1);
     let less = |by: i32| Rect {
         west: grid.west + by,
@@ -94,7 +97,13 @@ fn rects(set: &Set) -> [(&'static str, Rect); 3] {
         north: grid.south + side - by,
     };
     let world = Rect { west: i32::MIN, east: i32::MAX, south: i32::MIN, north: i32::MAX };
-    [("all the world", world), ("the grid less its rim", less(1)), ("the middle four cells", less(3 * grid.cell as i32))]
+    let cell = grid.cell as i32;
+    [
+        ("all the world", world),
+        ("the grid less its rim", less(1)),
+        ("the middle four cells", less(3 * cell)),
+        ("all but half a cell in the south", Rect { south: grid.south + cell / 2, ..world }),
+    ]
 }
 
 fn range<'a>(set: &'a Owned, text: &'a [u8], room: usize) -> Vec<Hard<'a>> {
@@ -107,6 +116,17 @@ fn range<'a>(set: &'a Owned, text: &'a [u8], room: usize) -> Vec<Hard<'a>> {
         let mut found = vec![0; room];
         let by_letters = move || told(finder::range_typed(&set.lent(), typed, rect, &mut found));
         all.push(hard("krz_range_typed", words, by_letters));
+    }
+    all
+}
+
+fn any<'a>(set: &'a Owned, text: &'a [u8]) -> Vec<Hard<'a>> {
+    let typed = session(&set.lent(), text);
+    let mut all = Vec::new();
+    for (part, rect) in rects(&set.lent()) {
+        let words = format!("{}, {part}", letters(text));
+        all.push(hard("krz_any", words.clone(), move || told(finder::any(&set.lent(), text, rect))));
+        all.push(hard("krz_any_typed", words, move || told(finder::any_typed(&set.lent(), typed, rect))));
     }
     all
 }
@@ -142,6 +162,7 @@ pub fn asked<'a>(set: &'a Owned, text: &'a [u8], room: usize) -> Vec<Hard<'a>> {
     for text in [&text[..0], text] {
         all.extend(ranked(set, text));
         all.extend(range(set, text, room));
+        all.extend(any(set, text));
     }
     all
 }

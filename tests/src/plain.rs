@@ -1,6 +1,6 @@
 //! The questions answered with no index, by going over every stand: what the figures hold the finder against.
 
-use crate::records::{Found, Ranking, Rect, Set};
+use crate::records::{AnyFound, Found, Ranking, Rect, Set};
 
 fn name<'a>(set: &Set<'a>, i: usize) -> &'a [u8] {
     &set.text[set.starts[i] as usize..set.starts[i + 1] as usize]
@@ -8,13 +8,18 @@ fn name<'a>(set: &Set<'a>, i: usize) -> &'a [u8] {
 
 /// Whether any stand's name begins with the text: what a keystroke finds out.
 #[inline(never)]
-pub fn any(set: &Set, typed: &[u8]) -> bool {
+pub fn leads_on(set: &Set, typed: &[u8]) -> bool {
     (0..set.score.len()).any(|i| name(set, i).starts_with(typed))
 }
 
 fn in_rect(set: &Set, i: usize, rect: Rect) -> bool {
     let (east, north) = (set.east[i], set.north[i]);
     rect.west <= east && east <= rect.east && rect.south <= north && north <= rect.north
+}
+
+fn region(set: &Set, i: usize) -> i64 {
+    let strip = |edge: i32, x: i32| (i64::from(x) - i64::from(edge)) / i64::from(set.grid.cell);
+    strip(set.grid.south, set.north[i]) * 8 + strip(set.grid.west, set.east[i])
 }
 
 /// The stands that pass a test, by region. They come by number, so those of a region stay by number.
@@ -28,15 +33,10 @@ fn listed(set: &Set, found: &mut [u32], wanted: impl Fn(usize) -> bool) -> Found
             count += 1;
         }
     }
-    let region = |&stand: &u32| {
-        let strip = |edge: i32, x: i32| (i64::from(x) - i64::from(edge)) / i64::from(set.grid.cell);
-        let i = stand as usize;
-        strip(set.grid.south, set.north[i]) * 8 + strip(set.grid.west, set.east[i])
-    };
     if found.len() < count {
         return Found { refusal: 13, count: count as u32 };
     }
-    found[..count].sort_by_key(region);
+    found[..count].sort_by_key(|&stand| region(set, stand as usize));
     Found { refusal: 0, count: count as u32 }
 }
 
@@ -49,6 +49,16 @@ pub fn range(set: &Set, typed: &[u8], rect: Rect, found: &mut [u32]) -> Found {
 #[inline(never)]
 pub fn range_near(set: &Set, typed: &[u8], rect: Rect, found: &mut [u32]) -> Found {
     listed(set, found, |i| in_rect(set, i, rect) && name(set, i).starts_with(typed))
+}
+
+/// Every stand is gone over, since a later one can be of a smaller region; of a region the first stays.
+#[inline(never)]
+pub fn any(set: &Set, typed: &[u8], rect: Rect) -> AnyFound {
+    let there = (0..set.score.len()).filter(|&i| name(set, i).starts_with(typed) && in_rect(set, i, rect));
+    match there.min_by_key(|&i| region(set, i)) {
+        Some(i) => AnyFound { refusal: 0, yes: 1, stand: i as u32 },
+        None => AnyFound { refusal: 0, yes: 0, stand: 0 },
+    }
 }
 
 /// Equal values keep the smaller number first, since stands come by number.

@@ -66,6 +66,14 @@ pub struct Found {
 
 #[repr(C)]
 #[derive(Clone, Copy, Debug, PartialEq)]
+pub struct AnyFound {
+    pub refusal: u32,
+    pub yes: u32,
+    pub stand: u32,
+}
+
+#[repr(C)]
+#[derive(Clone, Copy, Debug, PartialEq)]
 pub struct Part {
     pub start: u32,
     pub length: u32,

@@ -2,8 +2,8 @@
 //! Nothing that a room held before is in it.
 
 use crate::owned::Owned;
-use crate::records::{Found, Session, Set};
-use crate::villages::Question;
+use crate::records::{Found, Rect, Session, Set};
+use crate::villages::{Question, WHOLE};
 use crate::{finder, plain, port};
 use std::hint::black_box;
 
@@ -50,46 +50,62 @@ fn check(who: Who, t: &Owned) -> Vec<u64> {
     [checked.lawful, checked.nodes, checked.entries].map(u64::from).to_vec()
 }
 
+/// A call in a frame of its own. Callgrind on Arm can miss where a call ends, and counts on until its caller returns: with this caller that
+/// is a few instructions, and not all that is done with the answer.
+#[inline(never)]
+fn alone<T>(call: impl FnOnce() -> T) -> T {
+    black_box(call())
+}
+
 fn told(answer: Found, found: &[u32]) -> impl Iterator<Item = u64> + '_ {
     std::iter::once(u64::from(answer.count)).chain(found[..answer.count as usize].iter().map(|&s| u64::from(s)))
 }
 
-fn range(who: Who, set: &Set, letters: &[u8], q: &Question) -> Vec<u64> {
+fn range(who: Who, set: &Set, letters: &[u8], rect: Rect) -> Vec<u64> {
     let mut found = [0u32; 1_024];
-    let answer = match who {
-        Who::Finder => finder::range(set, letters, q.rect, &mut found),
-        Who::Plain => plain::range(set, letters, q.rect, &mut found),
-        Who::Near => plain::range_near(set, letters, q.rect, &mut found),
-        _ => port::range(set, letters, q.rect, &mut found),
-    };
+    let answer = alone(|| match who {
+        Who::Finder => finder::range(set, letters, rect, &mut found),
+        Who::Plain => plain::range(set, letters, rect, &mut found),
+        Who::Near => plain::range_near(set, letters, rect, &mut found),
+        _ => port::range(set, letters, rect, &mut found),
+    });
     told(answer, &found).collect()
+}
+
+fn any(who: Who, set: &Set, letters: &[u8], rect: Rect) -> Vec<u64> {
+    let answer = alone(|| match who {
+        Who::Finder => finder::any(set, letters, rect),
+        Who::Plain => plain::any(set, letters, rect),
+        _ => port::any(set, letters, rect),
+    });
+    [answer.refusal, answer.yes, answer.stand].map(u64::from).to_vec()
 }
 
 fn ranked(who: Who, set: &Set, letters: &[u8], q: &Question) -> Vec<u64> {
     let mut found = [0u32; 16];
     let mut values = [0u64; 16];
-    let answer = match who {
+    let answer = alone(|| match who {
         Who::Finder => finder::ranked(set, letters, q.asked, &mut found, &mut values),
         Who::Plain => plain::ranked(set, letters, q.asked, &mut found, &mut values),
         _ => port::ranked(set, letters, q.asked, &mut found, &mut values),
-    };
+    });
     told(answer, &found).chain(values[..answer.count as usize].iter().copied()).collect()
 }
 
 /// Of each letter of a name whether any name goes on so.
 fn typing(who: Who, set: &Set, name: &[u8]) -> Vec<u64> {
     let mut session = finder::fresh();
-    let mut any = |i: usize, step: &dyn Fn(&mut Session) -> u32| {
+    let mut leads_on = |i: usize, step: &dyn Fn(&mut Session) -> u32| {
         step(&mut session);
         session.path[i + 1] != 0
     };
     let mut told = Vec::with_capacity(name.len());
     for (i, &byte) in name.iter().enumerate() {
         told.push(u64::from(match who {
-            Who::Plain => plain::any(set, &name[..=i]),
-            Who::Finder => any(i, &|s| finder::type_byte(set, s, byte)),
-            Who::InPlace => any(i, &|s| port::type_in_place(set.nodes, s, byte)),
-            _ => any(i, &|s| port::type_byte(set.nodes, s, byte)),
+            Who::Plain => plain::leads_on(set, &name[..=i]),
+            Who::Finder => leads_on(i, &|s| finder::type_byte(set, s, byte)),
+            Who::InPlace => leads_on(i, &|s| port::type_in_place(set.nodes, s, byte)),
+            _ => leads_on(i, &|s| port::type_byte(set.nodes, s, byte)),
         }));
     }
     told
@@ -115,7 +131,14 @@ pub fn round(what: &str, who: Who, t: &mut Owned, asked: &[Question]) -> Vec<u64
         let name = t.name(q.stand);
         let letters = &name[..3.min(name.len())];
         match what {
-            "range" => range(who, &set, letters, q),
+            "range" => range(who, &set, letters, q.rect),
+            "range-beside" => range(who, &set, letters, q.beside),
+            "range-far" => range(who, &set, letters, q.far),
+            "range-many" => range(who, &set, &name[..1], WHOLE),
+            "any" => any(who, &set, letters, q.rect),
+            "any-beside" => any(who, &set, letters, q.beside),
+            "any-far" => any(who, &set, letters, q.far),
+            "any-many" => any(who, &set, &name[..1], WHOLE),
             "ranked" => ranked(who, &set, letters, q),
             "whole" => ranked(who, &set, name, q),
             "rest" => rest(who, &set, letters, q.stand),

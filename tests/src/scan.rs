@@ -3,7 +3,7 @@
 //! A program that uses this file uses only some of it.
 #![allow(dead_code)]
 
-use crate::records::{Built, Checked, Grid, Located, Part, Place, Ranking, Rect, Session, Set};
+use crate::records::{AnyFound, Built, Checked, Grid, Located, Part, Place, Ranking, Rect, Session, Set};
 use std::collections::BTreeSet;
 
 const SIDE: i64 = 8;
@@ -216,7 +216,7 @@ pub fn text_refusal(text: &[u8]) -> u32 {
     }
 }
 
-/// The first of refusals 9, 8 and 11, or 0.
+/// The first of refusals 9, 8 and 11, or 0: those of both questions about a rectangle.
 pub fn range_refusal(text: &[u8], rect: Rect) -> u32 {
     match text_refusal(text) {
         0 if rect.east < rect.west || rect.north < rect.south => 11,
@@ -239,6 +239,28 @@ pub fn range(set: &Set, text: &[u8], rect: Rect) -> Vec<u32> {
     let mut found: Vec<usize> = under(set, &folded(text)).into_iter().filter(|&i| inside(place(set, i))).collect();
     found.sort_by_key(|&i| (region_of(set.grid, place(set, i)), i));
     found.into_iter().map(|i| i as u32).collect()
+}
+
+/// Whether a range question finds any, and the first of its list.
+pub fn any(set: &Set, text: &[u8], rect: Rect) -> AnyFound {
+    match range(set, text, rect).first() {
+        Some(&stand) => AnyFound { refusal: 0, yes: 1, stand },
+        None => AnyFound { refusal: 0, yes: 0, stand: 0 },
+    }
+}
+
+/// Whether a rectangle has a metre of the cell that a place is in.
+fn touches(grid: Grid, rect: Rect, place: Place) -> bool {
+    let meets = |edge: i32, x: i32, low: i32, high: i32| {
+        let first = i64::from(edge) + strip(edge, grid.cell, x) * i64::from(grid.cell);
+        i64::from(low) < first + i64::from(grid.cell) && first <= i64::from(high)
+    };
+    meets(grid.west, place.east, rect.west, rect.east) && meets(grid.south, place.north, rect.south, rect.north)
+}
+
+/// Whether a cell that the rectangle touches has a stand whose name begins with the text; the stand can be outside the rectangle.
+pub fn touched(set: &Set, text: &[u8], rect: Rect) -> bool {
+    under(set, &folded(text)).into_iter().any(|i| touches(set.grid, rect, place(set, i)))
 }
 
 /// The largest whole number whose square is at most n: of two that it lies between, the middle takes the place of one.

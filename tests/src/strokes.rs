@@ -1,10 +1,11 @@
 //! Keystrokes, held against the letters that stand and the session that the rules give for them.
 
+use crate::asking;
 use crate::damage;
 use crate::dice::Dice;
 use crate::finder;
 use crate::owned::Owned;
-use crate::questions::{compare_both, By};
+use crate::questions::{compare_any, compare_each, By};
 use crate::records::Session;
 use crate::rooms::lend_session;
 use crate::scan::{self, Typist};
@@ -58,7 +59,14 @@ pub fn letter(dice: &mut Dice, set: &Owned, letters: &[u8]) -> u8 {
     }
 }
 
-/// A session from fresh on, compared record by record; now and then both questions on its letters.
+/// Whether any stand is there, on the letters of a lawful session and with no other question beside it.
+fn compare_any_alone(dice: &mut Dice, counts: &mut Counts, set: &Owned, session: Session) {
+    let rect = asking::rect(dice, &set.lent());
+    compare_any(counts, set, true, &By::Letters(session), rect);
+    counts.on_letters += 1;
+}
+
+/// A session from fresh on, compared record by record; now and then each question on its letters, or whether any stand is there.
 pub fn compare_session(dice: &mut Dice, counts: &mut Counts, set: &Owned, typist: &Typist, strokes: usize) -> Session {
     let mut letters: Vec<u8> = Vec::new();
     let mut session = finder::fresh();
@@ -72,8 +80,10 @@ pub fn compare_session(dice: &mut Dice, counts: &mut Counts, set: &Owned, typist
         assert_eq!(key.press(dice, set, &mut session), told, "a keystroke's refusal");
         assert_eq!(session, typist.session(&letters), "the session");
         counts.strokes += 1;
-        if dice.once_in(4) {
-            compare_both(dice, counts, set, true, &By::Letters(session));
+        match dice.below(8) {
+            0 | 1 => compare_each(dice, counts, set, true, &By::Letters(session)),
+            2 => compare_any_alone(dice, counts, set, session),
+            _ => {}
         }
     }
     session
@@ -106,7 +116,7 @@ pub fn compare_strokes(dice: &mut Dice, counts: &mut Counts, set: &Owned, typist
     let mut session = session;
     for _ in 0..strokes {
         let typist = typist.filter(|t| t.lawful(session));
-        compare_both(dice, counts, set, typist.is_some(), &By::Letters(session));
+        compare_each(dice, counts, set, typist.is_some(), &By::Letters(session));
         let key = if dice.once_in(3) { Key::RubOut } else { Key::Letter(letter(dice, set, &[])) };
         compare_stroke(dice, counts, set, typist, &mut session, key);
     }

@@ -52,28 +52,77 @@ pub fn table(stands: usize) -> Owned {
     Owned::of(GRID, &rows)
 }
 
-/// A question: a stand whose name is asked for, a place, and a rectangle two cells wide around it.
+/// All of the grid.
+pub const WHOLE: Rect = Rect {
+    west: GRID.west,
+    east: GRID.west + 8 * GRID.cell as i32 - 1,
+    south: GRID.south,
+    north: GRID.south + 8 * GRID.cell as i32 - 1,
+};
+
+/// A question: a stand whose name is asked for, a place, and a rectangle two cells wide around it. Two more rectangles of that width have
+/// no stand that begins with the name's first three letters: one beside such stands, touching a cell that has some, and one far from them.
 pub struct Question {
     pub stand: usize,
     pub asked: Ranking,
     pub rect: Rect,
+    pub beside: Rect,
+    pub far: Rect,
+}
+
+/// So many metres to each side of a place.
+fn around(place: Place, metres: i32) -> Rect {
+    Rect { west: place.east - metres, east: place.east + metres, south: place.north - metres, north: place.north + metres }
+}
+
+fn within(rect: Rect, place: Place) -> bool {
+    rect.west <= place.east && place.east <= rect.east && rect.south <= place.north && place.north <= rect.north
+}
+
+/// All the cells that a rectangle touches, and as many beyond the grid where it goes beyond.
+fn cells(rect: Rect) -> Rect {
+    let side = GRID.cell as i32;
+    let first = |edge: i32, x: i32| edge + (x - edge).div_euclid(side) * side;
+    Rect {
+        west: first(GRID.west, rect.west),
+        east: first(GRID.west, rect.east) + side - 1,
+        south: first(GRID.south, rect.south),
+        north: first(GRID.south, rect.north) + side - 1,
+    }
+}
+
+/// A rectangle two cells wide, around some place of the grid, that passes a test.
+fn rect_where(dice: &mut Dice, test: impl Fn(Rect) -> bool) -> Rect {
+    let side = GRID.cell as usize;
+    let mut tried = (0..1_000).map(|_| {
+        let place = Place { east: GRID.west + dice.below(8 * side) as i32, north: GRID.south + dice.below(8 * side) as i32 };
+        around(place, side as i32)
+    });
+    tried.find(|&rect| test(rect)).expect("a rectangle that passes")
+}
+
+/// The rectangles of a question that have no stand like this one.
+fn empty(dice: &mut Dice, t: &Owned, stand: usize) -> [Rect; 2] {
+    let letters = &t.name(stand)[..3];
+    let alike: Vec<Place> = (0..t.score.len())
+        .filter(|&i| t.name(i).starts_with(letters))
+        .map(|i| Place { east: t.east[i], north: t.north[i] })
+        .collect();
+    let has = |rect: Rect| alike.iter().any(|&place| within(rect, place));
+    [rect_where(dice, |rect| !has(rect) && has(cells(rect))), rect_where(dice, |rect| !has(cells(rect)))]
 }
 
 pub fn questions(t: &Owned) -> Vec<Question> {
     let dice = &mut Dice(7);
+    let others = &mut Dice(8);
     let side = GRID.cell as i32;
     (0..QUESTIONS)
         .map(|_| {
             let stand = dice.below(t.score.len());
             let mut near = |x: i32, edge: i32| (x + dice.below(2 * side as usize) as i32 - side).clamp(edge, edge + 8 * side - 1);
             let place = Place { east: near(t.east[stand], GRID.west), north: near(t.north[stand], GRID.south) };
-            let rect = Rect {
-                west: place.east - side,
-                east: place.east + side,
-                south: place.north - side,
-                north: place.north + side,
-            };
-            Question { stand, asked: Ranking { place, weight: 8, k: 5 }, rect }
+            let [beside, far] = empty(others, t, stand);
+            Question { stand, asked: Ranking { place, weight: 8, k: 5 }, rect: around(place, side), beside, far }
         })
         .collect()
 }

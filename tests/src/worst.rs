@@ -58,7 +58,7 @@ fn most(word: &str) -> Vec<Most> {
 }
 
 fn print_row(title: &str, most: &[Most]) {
-    let counts: Vec<String> = most.iter().take(8).map(|m| if m.count == 0 { String::from("-") } else { m.count.to_string() }).collect();
+    let counts: Vec<String> = most.iter().take(10).map(|m| if m.count == 0 { String::from("-") } else { m.count.to_string() }).collect();
     println!("| {title} | {} |", counts.join(" | "));
 }
 
@@ -77,8 +77,8 @@ pub fn print_instructions() {
     let rows: Vec<(&str, Vec<Most>)> = bad::TABLES.iter().map(|&(word, title, _)| (title, most(word))).collect();
     print_most(&rows);
     println!();
-    println!("| 1,024 stands | ranked | on letters | range | on letters | a key | rub-out | build | check |");
-    println!("|---|---|---|---|---|---|---|---|---|");
+    println!("| 1,024 stands | ranked | on letters | range | on letters | any | on letters | a key | rub-out | build | check |");
+    println!("|---|---|---|---|---|---|---|---|---|---|---|");
     for (title, most) in &rows {
         print_row(title, most);
     }
