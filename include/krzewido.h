@@ -121,7 +121,7 @@ typedef struct {
     uint32_t refusal, count;
 } krz_found;
 
-/* yes is 1 or 0; but with a yes stand is 0. */
+/* yes is 1 or 0, and without a yes stand is 0. */
 typedef struct {
     uint32_t refusal, yes, stand;
 } krz_any_found;

@@ -55,7 +55,7 @@ pub struct Found {
     pub count: u32,
 }
 
-// Yes is 1 or 0; but with yes the stand is 0.
+// Yes is 1 or 0, and without a yes the stand is 0.
 #[repr(C)]
 pub struct AnyFound {
     pub refusal: u32,

@@ -1,18 +1,16 @@
 -- The walk through a list of stands: how it goes on from one list to the next, what it counts, and what it leaves in the room.
 -- Assumes nothing.
 use mathlib.Core.Path.{_≡_, refl, sym, ap, _∙_}
-use mathlib.Core.Logic.{inl, inr}
-use mathlib.Core.Bool.{Bool, true, false}
+use mathlib.Core.Bool.{true, false}
 use mathlib.Core.List.{List, [], _∷_, _++_}
-use Prim.Native.Nat.{ℕ, suc, _+_, _≤_, _<_}
+use Prim.Native.Nat.{ℕ, suc, _+_, _≤_}
 use native.Mathlib.Omega.{arith}
 use lib.Dec.{ltb}
 use lib.IntN.{ℤ}
 use lib.ListN.{length, drop, set, length-set}
 use lib.Seq.{sets, sets-eq}
 use borrow.Table.Steps.{cases}
-use borrow.Author.Tests.{lt-ltb, le-ltb}
-use Rattle.base.specs.Lists.{In, all, keep, written}
+use Rattle.base.specs.Lists.{all, keep, written}
 use Rattle.base.proofs.Tests.{never, and-parts}
 use Rattle.rules.specs.declared.Rect.{Rect}
 use Rattle.runs.specs.declared.sight.Lies.{Lies}

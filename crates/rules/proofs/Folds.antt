@@ -14,12 +14,13 @@ use Rattle.base.proofs.Members.{length-each}
 use Rattle.rules.specs.declared.Grid.{Grid}
 use Rattle.rules.specs.declared.Rect.{Rect}
 use Rattle.rules.specs.declared.Ranking.{Ranking}
+use Rattle.rules.specs.Numbers.{AnyTold}
 use Rattle.rules.specs.Names.{allowed, capital, folded, foldedText, textRefusal, restOf, restAt}
 use Rattle.rules.specs.Tables.{Table}
 use Rattle.rules.specs.Outcomes.{Outcome}
 use Rattle.rules.specs.Indexes.{Index, setLawful}
 use Rattle.rules.specs.Sessions.{typeRefusal, lettersTyped}
-use Rattle.rules.specs.Promises.{RangeKept, RankedKept, RangePromise, RankedPromise}
+use Rattle.rules.specs.Promises.{RangeKept, AnyKept, RankedKept, RangePromise, AnyPromise, RankedPromise}
 use Rattle.rules.proofs.Bytes.{letter, between, text-parts}
 
 -- ---- a byte
@@ -95,7 +96,10 @@ text-same p e = letters-same p (text-parts p e .1)
 
 -- ---- a folded text is taken as the text is: all by folding twice
 
--- both questions promise for a text what they promise for its folded text
+-- the questions promise for a text what they promise for its folded text
+pub any-folded : (t : Table) (g : Grid) (x : Index) (p : List ℕ) (r : Rect) (o : AnyTold) → AnyPromise t g x (foldedText p) r o ≡ AnyPromise t g x p r o
+any-folded t g x p r o = ap (λ l. AnyKept (setLawful t g x ≡ true) t g l r o) (text-twice p)
+
 module _ (t : Table) (g : Grid) (x : Index) (p : List ℕ) (rooms : List (List ℕ)) (o : Outcome) where
   pub range-folded : (r : Rect) → RangePromise t g x (foldedText p) r rooms o ≡ RangePromise t g x p r rooms o
   range-folded r = ap (λ l. RangeKept (setLawful t g x ≡ true) t g l r rooms o) (text-twice p)

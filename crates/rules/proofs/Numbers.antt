@@ -20,7 +20,6 @@ use Rattle.rules.specs.declared.Checked.{Checked}
 use Rattle.rules.specs.declared.Checked.the-variants as checked
 use Rattle.rules.specs.declared.RangeAnswer.{RangeAnswer}
 use Rattle.rules.specs.declared.RangeAnswer.the-variants as range
-use Rattle.rules.specs.declared.Stand.{Stand}
 use Rattle.rules.specs.declared.AnyAnswer.{AnyAnswer}
 use Rattle.rules.specs.declared.AnyAnswer.the-variants as any
 use Rattle.rules.specs.declared.RankedAnswer.{RankedAnswer}

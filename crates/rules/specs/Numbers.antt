@@ -61,7 +61,7 @@ pub record CheckTold : Type 0 where
   pub nodes : ℕ
   pub entries : ℕ
 
--- yes: 1 is yes, 0 no; but with a yes the stand is 0
+-- yes: 1 is yes, 0 no, and without a yes the stand is 0
 pub record AnyTold : Type 0 where
   pub refusal : ℕ
   pub yes : ℕ

@@ -6,8 +6,7 @@ use mathlib.Core.Bool.{Bool, true, false, cond, not}
 use mathlib.Core.List.{List, [], _∷_}
 use Prim.Native.Nat.{ℕ, suc, _+_, _/_, _≤_, _<_}
 use native.Mathlib.Omega.{arith}
-use lib.ListN.{length, getD, drop, length-replicate}
-use lib.Seq.{slice}
+use lib.ListN.{length, drop, length-replicate}
 use borrow.Table.Steps.{cases}
 use borrow.Author.Tests.{eqb-true, le-leb, le-ltb}
 use Rattle.base.specs.Lists.{upTo, keep, each, eachList, isEmpty, firstOf, In}
@@ -21,7 +20,6 @@ use Rattle.rules.specs.Places.{regions, inRect}
 use Rattle.rules.specs.Tables.{Table, stands, placeOf}
 use Rattle.rules.specs.Questions.{under, regionOfStand, inRegion, rangeList}
 use Rattle.rules.specs.Indexes.{occupied, regionsUnder, entryOf, entriesOf, orderWords, Index}
-use Rattle.rules.specs.Indexes as rules
 use Rattle.rules.proofs.Lawful.{SetParts}
 use Rattle.grid.specs.declared.cells.Cells.{Cells}
 use Rattle.grid.specs.Cells.{cellsOf, hasCell, bothCells, regionsIn}

@@ -1,7 +1,7 @@
 -- The loop that notes the entries' numbers, turn by turn; and that no number which is noted is of a 65th entry. Assumes nothing.
-use mathlib.Core.Path.{_≡_, refl, sym, ap, _∙_}
+use mathlib.Core.Path.{_≡_, sym, _∙_}
 use mathlib.Core.Logic.{⊎-elim}
-use mathlib.Core.Bool.{Bool, true, false}
+use mathlib.Core.Bool.{true, false}
 use mathlib.Core.List.{List}
 use Prim.Native.Nat.{ℕ, zero, suc, _+_, _-_, _/_, _≤_, _<_}
 use native.Mathlib.Omega.{arith}
@@ -12,7 +12,7 @@ use borrow.Table.Steps.{cases}
 use borrow.Author.Tests.{lt-ltb, le-ltb}
 use Rattle.base.proofs.Members.{set-either, replicate-at}
 use Rattle.walk.specs.Entries.{entryWord}
-use Rattle.runs.specs.Notes.{Notes, notesOf, noteFrom, notesIn, blank}
+use Rattle.runs.specs.Notes.{notesOf, noteFrom, notesIn, blank}
 
 -- ---- at entry i, which is left entries short of the last
 

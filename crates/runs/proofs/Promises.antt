@@ -1,6 +1,6 @@
 -- The promise of a question about a rectangle, from a listing: kept wherever the question answers what there is to look at.
 -- Assumes nothing.
-use mathlib.Core.Path.{_≡_, refl, sym, ap, ap₂, _∙_, subst}
+use mathlib.Core.Path.{_≡_, refl, sym, ap, _∙_, subst}
 use mathlib.Core.Logic.{inl, inr}
 use mathlib.Core.Bool.{Bool, true, false, cond}
 use mathlib.Core.List.{List, []}
@@ -15,7 +15,7 @@ use Rattle.rules.specs.declared.Grid.{Grid}
 use Rattle.rules.specs.declared.Rect.{Rect}
 use Rattle.rules.specs.Places.{regions, gridLawful, rectLawful, inRect}
 use Rattle.rules.specs.Tables.{Table, placeOf}
-use Rattle.rules.specs.Questions.{under, inRegion, byRegion, rangeList, rectRefusal}
+use Rattle.rules.specs.Questions.{under, inRegion, byRegion, rangeList}
 use Rattle.rules.specs.Indexes.{indexOf}
 use Rattle.rules.specs.Promises.{Harmless}
 use Rattle.rules.proofs.Lawful.{set-parts}
@@ -27,7 +27,7 @@ use Rattle.walk.specs.declared.listing.Listing.the-variants.{Entries, Nowhere, 
 use Rattle.walk.specs.Asked.{Listed}
 use Rattle.walk.proofs.Listed.{nowhere-none, never-broken, entries-listed}
 use Rattle.runs.specs.Notes.{notesIn, blank}
-use Rattle.runs.specs.Sights.{inside, known, notedIn, touchedStands, agree, Look, listedLook, straightLook, lookAt}
+use Rattle.runs.specs.Sights.{inside, known, agree, Look, listedLook, straightLook, lookAt}
 use Rattle.runs.specs.Promises.{RectFrom, Answers}
 use Rattle.runs.proofs.Meaning.{agreed, numbers, looked-at, look-is, seen, seen-are, seen-known, range-is}
 use Rattle.runs.proofs.Meaning as meaning

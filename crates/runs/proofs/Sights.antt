@@ -2,15 +2,12 @@
 -- Assumes nothing.
 use mathlib.Core.Path.{_≡_, refl, sym, _∙_, subst}
 use mathlib.Core.Logic.{inl, inr}
-use mathlib.Core.Bool.{Bool, true, false, cond, _&&_, not}
+use mathlib.Core.Bool.{Bool, true, false, cond}
 use mathlib.Core.List.{List, [], _∷_}
 use Prim.Native.Nat.{ℕ, _≤_, _<_}
-use native.Mathlib.Omega.{arith}
-use lib.Dec.{ltb}
 use lib.IntN.{ℤ}
 use lib.ListN.{length, getD}
-use borrow.Table.Steps.{cases}
-use borrow.Author.Tests.{leb-true, ltb-true, lt-ltb, le-ltb}
+use borrow.Author.Tests.{leb-true, lt-ltb, le-ltb}
 use Rattle.base.specs.Lists.{In, isEmpty}
 use Rattle.base.proofs.Tests.{every-at}
 use Rattle.rules.specs.declared.Grid.{Grid}
@@ -23,7 +20,6 @@ use Rattle.walk.specs.declared.listing.Listing.{Listing}
 use Rattle.walk.specs.declared.listing.Listing.the-variants.{Entries, Nowhere, Broken}
 use Rattle.runs.specs.declared.Touched.{Touched}
 use Rattle.runs.specs.declared.Touched.the-variants as touched
-use Rattle.runs.specs.declared.sight.Lies.{Lies}
 use Rattle.runs.specs.declared.sight.Lies.the-variants.{Inside, Outside, Unknown}
 use Rattle.runs.specs.Notes.{notesOf, notesIn, blank}
 use Rattle.runs.specs.Sights.{inside, liesAs, known, notedIn, agree, Ready, Look, lookBy, notedLook, wantedLook, listedLook, straightLook, lookAt}

@@ -1,5 +1,4 @@
 -- Which entry of a listing is of each region, on any words: entries are counted from the listing's first.
-use mathlib.Core.Path.{_≡_}
 use mathlib.Core.Bool.{Bool, true, false, cond}
 use mathlib.Core.List.{List}
 use Prim.Native.Nat.{ℕ, zero, suc, _+_, _/_}

@@ -19,7 +19,7 @@ use rules::Refusal;
 use rules::Stand;
 use walk::listing::Listing;
 
-// The regions to be looked at, their entries noted, with the listing's first entry; or none.
+// The regions to be looked at, with the number of the listing's first entry; that there are none; or why the question is refused.
 pub enum Touched {
     Regions(Cells, u32),
     Nothing,

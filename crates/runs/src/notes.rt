@@ -2,7 +2,7 @@
 // The words may be anything.
 ghost use mathlib.Core.Path.{_≡_};
 ghost use Prim.Native.Nat.{_+_, _≤_, _<_};
-ghost use lib.ListN.{length, getD};
+ghost use lib.ListN.{getD};
 ghost use Rattle.base.specs.Lent.{given, after};
 ghost use Rattle.walk.specs.Entries.{entryRead};
 ghost use Rattle.runs.specs.Notes.{notesOf, notesIn};
