@@ -37,7 +37,7 @@ use Rattle.walk.specs.Asked.{Listed}
 use Rattle.walk.proofs.Asked.{from-kept, text-refused, text-listed}
 use Rattle.runs.specs.declared.Touched.{Touched}
 use Rattle.runs.specs.declared.Touched.the-variants as touched
-use Rattle.runs.specs.Sights.{inside, liesAs, known, notedIn, touchedStands, agree, lookBy, lookAt}
+use Rattle.runs.specs.Sights.{inside, sighted, known, notedIn, touchedStands, agree, lookBy, lookAt}
 use Rattle.runs.specs.Promises.{Answers}
 use Rattle.runs.proofs.Promises.{look-kept}
 use Rattle.any.specs.Scans.{firstSeen}
@@ -48,14 +48,14 @@ use Rattle.any.specs.Promises.{AnyFrom}
 module _ (east north : List ℤ) (rect : Rect) where
   -- the first that is seen in the rectangle is the first of those in it
   first-exact : (seen : List ℕ) → known east seen ≡ true → anyNumbers (firstSeen east north rect seen) ≡ anyOutcome 0 (keep (inside east north rect) seen)
-  unfolding firstSeen liesAs
+  unfolding firstSeen sighted
   first-exact [] q = refl
   first-exact (s ∷ l) q =
       let k = and-parts (ltb s (length east)) (known east l) q in
       cases (inside east north rect s) (λ e. rw (k .0, e)) (λ e. rw (k .0, e) (first-exact l (k .1)))
 
   first-harmless : (seen : List ℕ) → Harmless (anyOutcome 0) (refusingAny 7) (anyNumbers (firstSeen east north rect seen))
-  unfolding firstSeen liesAs
+  unfolding firstSeen sighted
   first-harmless [] = inr ([], refl)
   first-harmless (s ∷ l) =
       cases (ltb s (length east))

@@ -9,16 +9,19 @@ use lib.ListN.{length, getD, drop}
 use lib.Seq.{slice}
 use Rattle.base.specs.Lists.{isEmpty, firstOf}
 use Rattle.base.proofs.Members.{empty-of}
+use Rattle.rules.specs.declared.Place.{Place}
 use Rattle.rules.specs.declared.Rect.{Rect}
+use Rattle.rules.specs.Places.{inRect}
 use Rattle.rules.specs.declared.AnyAnswer.{AnyAnswer}
 use Rattle.rules.specs.declared.AnyAnswer.the-variants.{Yes, No, Refused}
 use Rattle.rules.specs.declared.Refusal.the-variants.{NotLawful}
 use Rattle.walk.specs.declared.entry.Entry.{Entry}
 use Rattle.walk.specs.declared.entry.EntryRead.{EntryRead}
 use Rattle.walk.specs.declared.entry.EntryRead.the-variants.{At, Broken}
-use Rattle.runs.specs.declared.sight.Lies.{Lies}
-use Rattle.runs.specs.declared.sight.Lies.the-variants.{Inside, Outside, Unknown}
-use Rattle.runs.specs.Sights.{liesAs, Noted, entryNoted, touchedStands, Ready}
+use Rattle.runs.specs.declared.sight.Sighted.{Sighted}
+use Rattle.runs.specs.declared.sight.Sighted.the-variants.{Unknown}
+use Rattle.runs.specs.declared.sight.Sighted.the-variants as here
+use Rattle.runs.specs.Sights.{sighted, Noted, entryNoted, touchedStands, Ready}
 use Rattle.runs.proofs.Sights.{is-unknown, places-enough}
 use Rattle.runs.proofs.Walks.{place-and-later, run-over, run-there, run-broken, run-within, run-and-later}
 use Rattle.any.specs.Scans.{firstSeen}
@@ -48,7 +51,7 @@ module _ (east north : List ℤ) (n : Noted) (rect : Rect) where
     scan-unread e =
         let first : touchedStands n left ≡ n .stands ∷ touchedStands n (drop 1 left) =
         run-and-later left some n r least ∙ ap (λ (run : List ℕ). run ++ touchedStands n (drop 1 left)) (run-broken n r a read e) in
-        let unknown : Unknown ≡ liesAs east north rect (n .stands) = is-unknown east north rect (n .stands) (omega (arith, ready .all)) in
+        let unknown : Unknown ≡ sighted east north (n .stands) = is-unknown east north (n .stands) (omega (arith, ready .all)) in
         sym (ap scan first ∙ rw (← unknown))
 
     pub run-begins : (x : Entry) → a ≡ At x → Running east north n rect left (x .past .0) (x .first .0)
@@ -64,21 +67,22 @@ module _ (east north : List ℤ) (n : Noted) (rect : Rect) where
   -- ---- at place i of its run
 
   module _ (left : List ℕ) (end i : ℕ) (w : Running east north n rect left end i) where
-    module _ (l : i < end) (how : Lies) (is : how ≡ liesAs east north rect (getD (n .order) i 0)) where
+    module _ (l : i < end) (seen : Sighted) (is : seen ≡ sighted east north (getD (n .order) i 0)) where
       turn : scan (touchedStands n left) ≡ scan (getD (n .order) i 0 ∷ (slice (i + 1) end (n .order) ++ touchedStands n (drop 1 left)))
       turn = w .scanning .same ∙ ap (λ (run : List ℕ). scan (run ++ touchedStands n (drop 1 left))) (place-and-later (n .order) i end l (w .within))
 
-      pub scan-hits : how ≡ Inside → Yes (record { 0 = getD (n .order) i 0 }) ≡ scan (touchedStands n left)
-      unfolding firstSeen
-      scan-hits e = sym (turn ∙ rw (← is, e))
-
-      pub scan-breaks : how ≡ Unknown → Refused NotLawful ≡ scan (touchedStands n left)
+      pub scan-breaks : seen ≡ Unknown → Refused NotLawful ≡ scan (touchedStands n left)
       unfolding firstSeen
       scan-breaks e = sym (turn ∙ rw (← is, e))
 
-      pub scan-misses : how ≡ Outside → Running east north n rect left end (i + 1)
-      unfolding firstSeen
-      scan-misses e = record { within = w .within; scanning = record { ready = w .scanning .ready; same = turn ∙ rw (← is, e) } }
+      module _ (p : Place) (at : seen ≡ here.At p) where
+        pub scan-hits : inRect rect p ≡ true → Yes (record { 0 = getD (n .order) i 0 }) ≡ scan (touchedStands n left)
+        unfolding firstSeen
+        scan-hits e = sym (turn ∙ rw (← is, at, e))
+
+        pub scan-misses : inRect rect p ≡ false → Running east north n rect left end (i + 1)
+        unfolding firstSeen
+        scan-misses e = record { within = w .within; scanning = record { ready = w .scanning .ready; same = turn ∙ rw (← is, at, e) } }
 
     pub run-ends : end ≤ i → scan (touchedStands n left) ≡ scan (touchedStands n (drop 1 left))
     run-ends h = w .scanning .same ∙ ap (λ (run : List ℕ). scan (run ++ touchedStands n (drop 1 left))) (run-over (n .order) i end h)

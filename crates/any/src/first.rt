@@ -5,14 +5,15 @@ ghost use Rattle.grid.specs.Cells.{regionsIn};
 ghost use Rattle.runs.specs.Sights.{notedIn, touchedStands, Ready};
 ghost use Rattle.any.specs.Scans.{firstSeen};
 use grid::cells::Cells;
+use grid::in_rect;
 use rules::AnyAnswer;
 use rules::Rect;
 use rules::Refusal;
 use rules::Stand;
 use runs::notes::EntryNumbers;
 use runs::notes::noted_at;
-use runs::sight::Lies;
-use runs::sight::look;
+use runs::sight::Sighted;
+use runs::sight::sight;
 use walk::entry::EntryRead;
 
 // Entries are gone by in the order of their regions, as in the range's list, and not in the order that they stand in, which is by score.
@@ -40,11 +41,13 @@ pub(crate) fn first_in(
             let mut i = entry.first.0 as usize;
             while i < end {
                 let stand = Stand(order[i]);
-                match look(east, north, rect, stand) {
-                    Lies::Inside => break 'scan AnyAnswer::Yes(stand),
-                    Lies::Outside => i += 1,
-                    Lies::Unknown => break 'scan AnyAnswer::Refused(Refusal::NotLawful),
+                let Sighted::At(place) = sight(east, north, stand) else {
+                    break 'scan AnyAnswer::Refused(Refusal::NotLawful);
+                };
+                if in_rect(rect, place) {
+                    break 'scan AnyAnswer::Yes(stand);
                 }
+                i += 1;
             }
             left = left.but_least();
         }

@@ -12,10 +12,12 @@ use lib.Seq.{sets, sets-eq}
 use borrow.Table.Steps.{cases}
 use Rattle.base.specs.Lists.{all, keep, written}
 use Rattle.base.proofs.Tests.{never, and-parts}
+use Rattle.rules.specs.declared.Place.{Place}
 use Rattle.rules.specs.declared.Rect.{Rect}
-use Rattle.runs.specs.declared.sight.Lies.{Lies}
-use Rattle.runs.specs.declared.sight.Lies.the-variants.{Inside, Outside, Unknown}
-use Rattle.runs.specs.Sights.{inside, liesAs, known}
+use Rattle.rules.specs.Places.{inRect}
+use Rattle.runs.specs.declared.sight.Sighted.{Sighted}
+use Rattle.runs.specs.declared.sight.Sighted.the-variants.{At, Unknown}
+use Rattle.runs.specs.Sights.{inside, sighted, known}
 use Rattle.range.specs.declared.gather.Tally.{Tally}
 use Rattle.range.specs.declared.gather.Tally.the-variants.{Count, Broken}
 use Rattle.range.specs.Fetches.{Gathered, tallied, gathered}
@@ -29,18 +31,19 @@ sets-written words room h =
 module _ (east north : List ℤ) (rect : Rect) where
   -- ---- one stand
 
-  module _ (s : ℕ) (l room : List ℕ) (n : ℕ) (how : Lies) (is : how ≡ liesAs east north rect s) where
-    pub stand-off : how ≡ Unknown → gathered east north rect room n (s ∷ l) ≡ tallied Broken room
+  module _ (s : ℕ) (l room : List ℕ) (n : ℕ) (seen : Sighted) (is : seen ≡ sighted east north s) where
+    pub stand-off : seen ≡ Unknown → gathered east north rect room n (s ∷ l) ≡ tallied Broken room
     unfolding gathered
     stand-off e = rw (← is, e)
 
-    pub stand-in : how ≡ Inside → gathered east north rect room n (s ∷ l) ≡ gathered east north rect (set room n s) (suc n) l
-    unfolding gathered
-    stand-in e = rw (← is, e)
+    module _ (p : Place) (at : seen ≡ At p) where
+      pub stand-in : inRect rect p ≡ true → gathered east north rect room n (s ∷ l) ≡ gathered east north rect (set room n s) (suc n) l
+      unfolding gathered
+      stand-in e = rw (← is, at, e)
 
-    pub stand-out : how ≡ Outside → gathered east north rect room n (s ∷ l) ≡ gathered east north rect room n l
-    unfolding gathered
-    stand-out e = rw (← is, e)
+      pub stand-out : inRect rect p ≡ false → gathered east north rect room n (s ∷ l) ≡ gathered east north rect room n l
+      unfolding gathered
+      stand-out e = rw (← is, at, e)
 
   -- ---- one list after another
 
@@ -50,7 +53,7 @@ module _ (east north : List ℤ) (rect : Rect) where
   onward Broken room k = tallied Broken room
 
   walk-append : (l k room : List ℕ) (n : ℕ) → gathered east north rect room n (l ++ k) ≡ onward (gathered east north rect room n l .tally) (gathered east north rect room n l .room) k
-  unfolding gathered liesAs
+  unfolding gathered sighted
   walk-append [] k room n = refl
   walk-append (s ∷ l) k room n =
       cases (ltb s (length east))
@@ -67,7 +70,7 @@ module _ (east north : List ℤ) (rect : Rect) where
   hits l = keep (inside east north rect) l
 
   pub walk-size : (l room : List ℕ) (n : ℕ) → length (gathered east north rect room n l .room) ≡ length room
-  unfolding gathered liesAs
+  unfolding gathered sighted
   walk-size [] room n = refl
   walk-size (s ∷ l) room n =
       cases (ltb s (length east))
@@ -76,7 +79,7 @@ module _ (east north : List ℤ) (rect : Rect) where
 
   -- where all are of the table those are counted, and written as far as the room goes
   pub walk-whole : (l room : List ℕ) (n : ℕ) → known east l ≡ true → gathered east north rect room n l ≡ tallied (Count (n + length (hits l))) (sets room n (hits l))
-  unfolding gathered liesAs
+  unfolding gathered sighted
   walk-whole [] room n q = let z : n ≡ n + 0 = omega arith in rw (← z)
   walk-whole (s ∷ l) room n q =
       let k = and-parts (ltb s (length east)) (known east l) q in
@@ -87,7 +90,7 @@ module _ (east north : List ℤ) (rect : Rect) where
 
   -- where one is not of the table the walk breaks off
   pub walk-broken : (l room : List ℕ) (n : ℕ) → known east l ≡ false → gathered east north rect room n l .tally ≡ Broken
-  unfolding gathered liesAs
+  unfolding gathered sighted
   walk-broken [] room n q = never true refl q
   walk-broken (s ∷ l) room n q =
       cases (ltb s (length east))

@@ -10,13 +10,15 @@ use lib.ListN.{length, getD, set, take, drop, length-set, length-take, length-dr
 use lib.Seq.{slice}
 use Rattle.base.specs.Lists.{isEmpty, firstOf}
 use Rattle.base.proofs.Members.{first-rest, empty-of, length-keep}
+use Rattle.rules.specs.declared.Place.{Place}
 use Rattle.rules.specs.declared.Rect.{Rect}
-use Rattle.runs.specs.declared.sight.Lies.{Lies}
-use Rattle.runs.specs.declared.sight.Lies.the-variants.{Inside, Outside, Unknown}
+use Rattle.rules.specs.Places.{inRect}
+use Rattle.runs.specs.declared.sight.Sighted.{Sighted}
+use Rattle.runs.specs.declared.sight.Sighted.the-variants.{At, Unknown}
 use Rattle.walk.specs.declared.entry.Entry.{Entry}
 use Rattle.walk.specs.declared.entry.EntryRead.{EntryRead}
 use Rattle.walk.specs.declared.entry.EntryRead.the-variants as entry
-use Rattle.runs.specs.Sights.{inside, liesAs, Noted, entryNoted, touchedStands, Ready}
+use Rattle.runs.specs.Sights.{inside, sighted, Noted, entryNoted, touchedStands, Ready}
 use Rattle.runs.proofs.Sights.{is-unknown, stands-few, norths-enough, places-enough}
 use Rattle.runs.proofs.Walks.{place-and-later, run-over, run-there, run-broken, run-within, run-and-later}
 use Rattle.range.specs.declared.gather.Tally.{Tally}
@@ -43,9 +45,9 @@ module _ (east north : List ℤ) (order : List ℕ) (rect : Rect) (found₀ : Li
     here : slice i end order ≡ getD order i 0 ∷ slice (i + 1) end order
     here = place-and-later order i end l (w .fits)
 
-    module _ (how : Lies) (is : how ≡ liesAs east north rect (getD order i 0)) where
-      pub run-breaks : how ≡ Unknown → tallied Broken found ≡ gathered east north rect found₀ before (slice first end order)
-      run-breaks e = sym (w .same ∙ ap (gathered east north rect found n) here ∙ stand-off east north rect (getD order i 0) (slice (i + 1) end order) found n how is e)
+    module _ (seen : Sighted) (is : seen ≡ sighted east north (getD order i 0)) where
+      pub run-breaks : seen ≡ Unknown → tallied Broken found ≡ gathered east north rect found₀ before (slice first end order)
+      run-breaks e = sym (w .same ∙ ap (gathered east north rect found n) here ∙ stand-off east north rect (getD order i 0) (slice (i + 1) end order) found n seen is e)
 
     -- one place on, with what is found by then
     on : (found′ : List ℕ) (n′ : ℕ) → n′ ≤ n + 1 → length found′ ≡ length found
@@ -54,12 +56,12 @@ module _ (east north : List ℤ) (order : List ℕ) (rect : Rect) (found₀ : Li
     on found′ n′ m z e =
         record { wide = w .wide; fits = w .fits; room = w .room; few = omega (arith, w .few); size = z ∙ w .size; same = w .same ∙ ap (gathered east north rect found n) here ∙ e }
 
-    module _ (how : Lies) (is : how ≡ liesAs east north rect (getD order i 0)) (found′ : List ℕ) (n′ : ℕ) where
-      pub run-hit : how ≡ Inside → found′ ≡ set found n (getD order i 0) → n′ ≡ n + 1 → Gathering east north order rect found₀ before end first found′ (i + 1) n′
-      run-hit q f m = rw (f, m) (on _ _ (omega arith) (length-set found n _) (stand-in east north rect (getD order i 0) (slice (i + 1) end order) found n how is q ∙ rw (add-one n)))
+    module _ (seen : Sighted) (is : seen ≡ sighted east north (getD order i 0)) (p : Place) (at : seen ≡ At p) (found′ : List ℕ) (n′ : ℕ) where
+      pub run-hit : inRect rect p ≡ true → found′ ≡ set found n (getD order i 0) → n′ ≡ n + 1 → Gathering east north order rect found₀ before end first found′ (i + 1) n′
+      run-hit q f m = rw (f, m) (on _ _ (omega arith) (length-set found n _) (stand-in east north rect (getD order i 0) (slice (i + 1) end order) found n seen is p at q ∙ rw (add-one n)))
 
-      pub run-miss : how ≡ Outside → found′ ≡ found → n′ ≡ n → Gathering east north order rect found₀ before end first found′ (i + 1) n′
-      run-miss q f m = rw (f, m) (on _ _ (omega arith) refl (stand-out east north rect (getD order i 0) (slice (i + 1) end order) found n how is q))
+      pub run-miss : inRect rect p ≡ false → found′ ≡ found → n′ ≡ n → Gathering east north order rect found₀ before end first found′ (i + 1) n′
+      run-miss q f m = rw (f, m) (on _ _ (omega arith) refl (stand-out east north rect (getD order i 0) (slice (i + 1) end order) found n seen is p at q))
 
   pub run-ends : end ≤ i → tallied (Count n) found ≡ gathered east north rect found₀ before (slice first end order)
   unfolding gathered
@@ -84,7 +86,7 @@ module _ (east north : List ℤ) (n : Noted) (rect : Rect) (regions found₀ : L
       sweep-unread e =
           sym (w .same
           ∙ ap (gathered east north rect found m) (run-and-later left some n r least ∙ ap (λ (run : List ℕ). run ++ touchedStands n (drop 1 left)) (run-broken n r a read e))
-          ∙ stand-off east north rect (n .stands) (touchedStands n (drop 1 left)) found m Unknown (is-unknown east north rect (n .stands) (omega (arith, w .ready .all))) refl)
+          ∙ stand-off east north rect (n .stands) (touchedStands n (drop 1 left)) found m Unknown (is-unknown east north (n .stands) (omega (arith, w .ready .all))) refl)
 
       module _ (x : Entry) (e : a ≡ entry.At x) where
         abbrev run : List ℕ

@@ -7,7 +7,7 @@ use lib.ListN.{length, set}
 use Rattle.base.specs.Lists.{keep}
 use Rattle.rules.specs.declared.Rect.{Rect}
 use Rattle.rules.specs.Outcomes.{Outcome, refused, rangeOutcome}
-use Rattle.runs.specs.Sights.{inside, liesAs, byLies, known}
+use Rattle.runs.specs.Sights.{inside, sighted, bySight, known}
 use Rattle.range.specs.declared.gather.Tally.{Tally}
 use Rattle.range.specs.declared.gather.Tally.the-variants as tallies
 
@@ -23,7 +23,7 @@ tallied tally room = record { tally = tally; room = room }
 unfoldable pub gathered : List ℤ → List ℤ → Rect → List ℕ → ℕ → List ℕ → Gathered
 gathered east north rect room n [] = tallied (tallies.Count n) room
 gathered east north rect room n (s ∷ l) =
-    byLies (liesAs east north rect s) (gathered east north rect (set room n s) (suc n) l) (gathered east north rect room n l) (tallied tallies.Broken room)
+    bySight (sighted east north s) rect (gathered east north rect (set room n s) (suc n) l) (gathered east north rect room n l) (tallied tallies.Broken room)
 
 -- what the walk through one run asks for, behind as many as were found before
 pub record RunFits (east north : List ℤ) (order : List ℕ) (past before : ℕ) : Type 0 where

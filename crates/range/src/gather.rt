@@ -10,13 +10,14 @@ ghost use Rattle.grid.specs.Cells.{regionsIn};
 ghost use Rattle.runs.specs.Sights.{notedIn, touchedStands, Ready};
 ghost use Rattle.range.specs.Fetches.{tallied, gathered, RunFits};
 use grid::cells::Cells;
+use grid::in_rect;
 use rules::OrderPlace;
 use rules::Rect;
 use rules::Stand;
 use runs::notes::EntryNumbers;
 use runs::notes::noted_at;
-use runs::sight::Lies;
-use runs::sight::look;
+use runs::sight::Sighted;
+use runs::sight::sight;
 use walk::entry::EntryRead;
 
 // How many stands are in the rectangle.
@@ -70,13 +71,12 @@ fn gather_run(
     let mut n = before;
     while i < end {
         let stand = Stand(order[i]);
-        match look(east, north, rect, stand) {
-            Lies::Inside => {
-                put(found, n, stand);
-                n += 1;
-            }
-            Lies::Outside => {}
-            Lies::Unknown => return Tally::Broken,
+        let Sighted::At(place) = sight(east, north, stand) else {
+            return Tally::Broken;
+        };
+        if in_rect(rect, place) {
+            put(found, n, stand);
+            n += 1;
         }
         i += 1;
     }

@@ -1,4 +1,4 @@
--- How a stand lies by the tests on the way; and what there is to look at by those before it.
+-- Where a stand is, by the tests on the way; and what there is to look at by those before it.
 -- Assumes nothing.
 use mathlib.Core.Path.{_≡_, refl, sym, _∙_, subst}
 use mathlib.Core.Logic.{inl, inr}
@@ -11,8 +11,10 @@ use borrow.Author.Tests.{leb-true, lt-ltb, le-ltb}
 use Rattle.base.specs.Lists.{In, isEmpty}
 use Rattle.base.proofs.Tests.{every-at}
 use Rattle.rules.specs.declared.Grid.{Grid}
+use Rattle.rules.specs.declared.Place.{Place}
 use Rattle.rules.specs.declared.Rect.{Rect}
 use Rattle.rules.specs.Places.{gridLawful, rectLawful}
+use Rattle.rules.specs.Tables.{placeIn}
 use Rattle.grid.specs.declared.cells.Cells.{Cells}
 use Rattle.grid.specs.Cells.{cellsOf, bothCells, regionsIn}
 use Rattle.grid.proofs.Listed.{listed-few}
@@ -20,25 +22,21 @@ use Rattle.walk.specs.declared.listing.Listing.{Listing}
 use Rattle.walk.specs.declared.listing.Listing.the-variants.{Entries, Nowhere, Broken}
 use Rattle.runs.specs.declared.Touched.{Touched}
 use Rattle.runs.specs.declared.Touched.the-variants as touched
-use Rattle.runs.specs.declared.sight.Lies.the-variants.{Inside, Outside, Unknown}
+use Rattle.runs.specs.declared.sight.Sighted.the-variants.{At, Unknown}
 use Rattle.runs.specs.Notes.{notesOf, notesIn, blank}
-use Rattle.runs.specs.Sights.{inside, liesAs, known, notedIn, agree, Ready, Look, lookBy, notedLook, wantedLook, listedLook, straightLook, lookAt}
+use Rattle.runs.specs.Sights.{sighted, known, notedIn, agree, Ready, Look, lookBy, notedLook, wantedLook, listedLook, straightLook, lookAt}
 use Rattle.runs.proofs.Noting.{notes-small}
 
 -- ---- one stand
 
-module _ (east north : List ℤ) (rect : Rect) (s : ℕ) where
-  pub is-unknown : length east ≤ s → Unknown ≡ liesAs east north rect s
-  unfolding liesAs
+module _ (east north : List ℤ) (s : ℕ) where
+  pub is-unknown : length east ≤ s → Unknown ≡ sighted east north s
+  unfolding sighted
   is-unknown h = rw (le-ltb s (length east) h)
 
-  pub is-inside : s < length east → inside east north rect s ≡ true → Inside ≡ liesAs east north rect s
-  unfolding liesAs
-  is-inside h e = rw (lt-ltb s (length east) h, e)
-
-  pub is-outside : s < length east → inside east north rect s ≡ false → Outside ≡ liesAs east north rect s
-  unfolding liesAs
-  is-outside h e = rw (lt-ltb s (length east) h, e)
+  pub is-placed : s < length east → (p : Place) → p ≡ placeIn east north s → At p ≡ sighted east north s
+  unfolding sighted
+  is-placed h p e = rw (lt-ltb s (length east) h, e)
 
 pub known-of : (east : List ℤ) (l : List ℕ) → ((s : ℕ) → In s l → s < length east) → known east l ≡ true
 known-of east [] h = refl

@@ -22,8 +22,8 @@ use Rattle.walk.specs.declared.listing.Listing.the-variants.{Entries, Nowhere, 
 use Rattle.walk.specs.Entries.{entryRead}
 use Rattle.runs.specs.declared.Touched.{Touched}
 use Rattle.runs.specs.declared.Touched.the-variants as touched
-use Rattle.runs.specs.declared.sight.Lies.{Lies}
-use Rattle.runs.specs.declared.sight.Lies.the-variants.{Inside, Outside, Unknown}
+use Rattle.runs.specs.declared.sight.Sighted.{Sighted}
+use Rattle.runs.specs.declared.sight.Sighted.the-variants as sighting
 use Rattle.runs.specs.Notes.{Notes, notesIn, blank}
 
 -- ---- one stand
@@ -31,14 +31,13 @@ use Rattle.runs.specs.Notes.{Notes, notesIn, blank}
 abbrev pub inside : List ℤ → List ℤ → Rect → ℕ → Bool
 inside east north rect s = inRect rect (placeIn east north s)
 
-unfoldable pub liesAs : List ℤ → List ℤ → Rect → ℕ → Lies
-liesAs east north rect s = cond (ltb s (length east)) (cond (inside east north rect s) Inside Outside) Unknown
+unfoldable pub sighted : List ℤ → List ℤ → ℕ → Sighted
+sighted east north s = cond (ltb s (length east)) (sighting.At (placeIn east north s)) sighting.Unknown
 
--- one of three, by how a stand lies
-abbrev pub byLies : {A : Type 0} → Lies → (in-it out-of-it unknown : A) → A
-byLies Inside a b c = a
-byLies Outside a b c = b
-byLies Unknown a b c = c
+-- one of three, by where a stand is: in the rectangle, out of it, or nowhere
+abbrev pub bySight : {A : Type 0} → Sighted → Rect → (in-it out-of-it unknown : A) → A
+bySight (sighting.At p) rect a b c = cond (inRect rect p) a b
+bySight sighting.Unknown rect a b c = c
 
 -- whether all of a list are stands of the table
 abbrev pub known : List ℤ → List ℕ → Bool

@@ -1,5 +1,5 @@
 // What a question about a rectangle has to look at: the stands of the regions that a text's listing and the rectangle share, region by region.
-// `notes` has the entry of each such region, which says where its stands are, and `sight` how a stand lies to the rectangle.
+// `notes` has the entry of each such region, which says where its stands are in the order, and `sight` where a stand is on the map.
 // No stand is reached but through the listing.
 ghost use mathlib.Core.Path.{_≡_};
 ghost use Rattle.base.specs.Lent.{given, after};

@@ -50,7 +50,7 @@ loop2-holds : tie.Need-loop2-holds Inv-loop2 μ-loop2 Inv-loop μ-loop Inv-scan 
 loop2-holds c = run-begins _ _ _ _ _ (c .before .before .before .before .before .before .before .before .before .loop .inv .ready) (some (c .before .before .before .before .before .before .before)) _ (c .before .before .before .before .before .before .least .ensures) _ (c .before .before .before .before .before .noted-at .ensures) _ (c .before .before .before .entry .given .1)
 
 loop2-again : tie.Need-loop2-again Inv-loop2 μ-loop2 Inv-loop μ-loop Inv-scan μ-scan
-loop2-again c = scan-misses _ _ _ _ _ _ _ (c .before .before .before .before .before .loop2 .inv) (c .before .before .before .before .loop2-test .taken) _ (c .before .before .look .ensures) (c .enum-told3 .given .1)
+loop2-again c = scan-misses _ _ _ _ _ _ _ (c .before .before .before .before .before .before .before .before .loop2 .inv) (c .before .before .before .before .before .before .before .loop2-test .taken) _ (c .before .before .before .before .before .sight .ensures) _ (c .before .before .before .place .given .1) (sym (c .before .in-rect .ensures) ∙ c .if2 .left)
 
 loop-again : tie.Need-loop-again Inv-loop2 μ-loop2 Inv-loop μ-loop Inv-scan μ-scan
 loop-again c =
@@ -65,15 +65,15 @@ returns c =
 
 returns-2 : tie.Need-returns-2 Inv-loop2 μ-loop2 Inv-loop μ-loop Inv-scan μ-scan
 returns-2 c =
-    scan-hits _ _ _ _ _ _ _ (c .before .before .before .before .before .loop2 .inv) (c .before .before .before .before .loop2-test .taken) _ (c .before .before .look .ensures) (c .enum-told2 .given .1)
+    scan-breaks _ _ _ _ _ _ _ (c .before .before .before .before .before .loop2 .inv) (c .before .before .before .before .loop2-test .taken) _ (c .before .before .sight .ensures) (c .enum-told2 .given .1)
     ∙ sym (c .before .before .before .before .before .before .before .before .before .before .before .before .before .before .before .loop .inv .same)
     ∙ sym (c .before .before .before .before .before .before .before .before .before .before .before .before .before .before .before .before .scan .inv .same)
 
 returns-3 : tie.Need-returns-3 Inv-loop2 μ-loop2 Inv-loop μ-loop Inv-scan μ-scan
 returns-3 c =
-    scan-breaks _ _ _ _ _ _ _ (c .before .before .before .before .before .loop2 .inv) (c .before .before .before .before .loop2-test .taken) _ (c .before .before .look .ensures) (c .enum-told4 .given .1)
-    ∙ sym (c .before .before .before .before .before .before .before .before .before .before .before .before .before .before .before .loop .inv .same)
-    ∙ sym (c .before .before .before .before .before .before .before .before .before .before .before .before .before .before .before .before .scan .inv .same)
+    scan-hits _ _ _ _ _ _ _ (c .before .before .before .before .before .before .before .before .loop2 .inv) (c .before .before .before .before .before .before .before .loop2-test .taken) _ (c .before .before .before .before .before .sight .ensures) _ (c .before .before .before .place .given .1) (sym (c .before .in-rect .ensures) ∙ c .if2 .taken)
+    ∙ sym (c .before .before .before .before .before .before .before .before .before .before .before .before .before .before .before .before .before .before .loop .inv .same)
+    ∙ sym (c .before .before .before .before .before .before .before .before .before .before .before .before .before .before .before .before .before .before .before .scan .inv .same)
 
 returns-4 : tie.Need-returns-4 Inv-loop2 μ-loop2 Inv-loop μ-loop Inv-scan μ-scan
 returns-4 c =
@@ -104,10 +104,10 @@ first-in-spec =
     (λ c κs. search (needs, norths-enough))
     (λ c. search needs)
     (λ c. search needs)
+    (λ c κs. search needs)
     (λ c. search needs)
     (λ c. search needs)
     loop2-again
-    (λ c. search needs)
     (λ c κs. search (needs, some))
     (λ c. search (needs, fewer, some))
     loop-again
