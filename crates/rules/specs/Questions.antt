@@ -1,5 +1,6 @@
--- The two questions, worked out from the table alone: no index is in sight.
--- For each the list that is meant, and the first refusal that holds. What is told of a list stands in Outcomes.
+-- What is asked, worked out from the table alone: no index is in sight.
+-- For a range and for a ranking the list that is meant, and the first refusal that holds. What is told of a list stands in Outcomes; there
+-- whether any stand is in a range goes by the range's list.
 use mathlib.Core.Bool.{Bool, cond}
 use mathlib.Core.List.{List, [], _∷_}
 use Prim.Native.Nat.{ℕ}
