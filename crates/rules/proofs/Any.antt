@@ -20,7 +20,7 @@ use Rattle.rules.specs.Promises.{RangeKept, AnyKept}
 use Rattle.rules.proofs.Outcomes.{any-tells-refusal}
 
 -- a list begins with a stand
-abbrev BeginsWith : ℕ → List ℕ → Type 0
+abbrev pub BeginsWith : ℕ → List ℕ → Type 0
 BeginsWith s list = (rest : List ℕ) × (list ≡ s ∷ rest)
 
 -- ---- of any list
@@ -41,7 +41,7 @@ none-told (suc n) list z = refl
 
 -- what both questions come to, the range question with room for one: both refuse alike; or there is no stand; or there is one alone, the same;
 -- or there are several, too many for the room
-abbrev Agree : AnyTold → List ℕ → Outcome → Type 0
+abbrev pub Agree : AnyTold → List ℕ → Outcome → Type 0
 Agree a room o =
     ((a .refusal ≡ 0 → ⊥) × (o ≡ refused (a .refusal) (room ∷ [])))
     ⊎ ((a .yes ≡ 0) × (o ≡ outcome (telling 0) (room ∷ [])))
