@@ -11,22 +11,23 @@ use lib.Seq.{take-at}
 use borrow.Author.Tests.{lt-leb, le-leb}
 use Rattle.base.specs.Lists.{written}
 use Rattle.rules.specs.declared.Rect.{Rect}
+use Rattle.rules.specs.declared.RangeAnswer.{RangeAnswer}
 use Rattle.rules.specs.declared.RangeAnswer.the-variants.{Found, Refused}
-use Rattle.rules.specs.declared.Refusal.the-variants.{NotLawful, RoomTooSmall}
+use Rattle.rules.specs.declared.Refusal.the-variants.{RoomTooSmall}
 use Rattle.rules.specs.Outcomes.{rangeCame}
 use Rattle.runs.specs.Sights.{known}
 use Rattle.range.specs.declared.gather.Tally.{Tally}
 use Rattle.range.specs.declared.gather.Tally.the-variants.{Count, Broken}
-use Rattle.range.specs.Fetches.{Gathered, tallied, gathered, looked}
+use Rattle.range.specs.Fetches.{Gathered, tallied, gathered, unlawful, looked}
 use Rattle.range.proofs.Gathers.{hits, sets-written, walk-size, walk-whole, walk-counts, walk-breaks-off}
 
 module _ (east north : List ℤ) (rect : Rect) (seen room near₀ near : List ℕ) (t : Tally) (counted : tallied t near ≡ gathered east north rect near₀ 0 seen) where
   tally : gathered east north rect near₀ 0 seen .tally ≡ t
   tally = ap (λ (g : Gathered). g .tally) (sym counted)
 
-  pub fill-breaks : t ≡ Broken → rangeCame (Refused NotLawful 0) room ≡ looked east north rect seen room
+  pub fill-breaks : (a : RangeAnswer) → a ≡ unlawful → t ≡ Broken → rangeCame a room ≡ looked east north rect seen room
   unfolding looked
-  fill-breaks e = rw (walk-breaks-off east north rect seen near₀ 0 (tally ∙ e))
+  fill-breaks a u e = rw (u, walk-breaks-off east north rect seen near₀ 0 (tally ∙ e))
 
   module _ (m : ℕ) (e : t ≡ Count m) where
     abbrev all : List ℕ

@@ -13,9 +13,9 @@ use Rattle.base.specs.Lists.{keep}
 use Rattle.base.proofs.Tests.{never}
 use Rattle.rules.specs.declared.Grid.{Grid}
 use Rattle.rules.specs.declared.Rect.{Rect}
+use Rattle.rules.specs.declared.RangeAnswer.{RangeAnswer}
 use Rattle.rules.specs.declared.RangeAnswer.the-variants.{Found, Refused}
 use Rattle.rules.specs.declared.Refusal.{Refusal}
-use Rattle.rules.specs.declared.Refusal.the-variants.{NotLawful}
 use Rattle.rules.specs.declared.Verdict.{Verdict}
 use Rattle.rules.specs.declared.Verdict.the-variants as verdict
 use Rattle.rules.specs.Numbers.{verdictNumber}
@@ -39,7 +39,7 @@ use Rattle.runs.specs.declared.Touched.the-variants as touched
 use Rattle.runs.specs.Sights.{inside, known, notedIn, touchedStands, agree, lookBy, lookAt}
 use Rattle.runs.specs.Promises.{Sees, Answers}
 use Rattle.runs.proofs.Promises.{look-kept}
-use Rattle.range.specs.Fetches.{looked}
+use Rattle.range.specs.Fetches.{unlawful, looked}
 use Rattle.range.specs.Promises.{RangeFrom}
 
 -- ---- from a listing
@@ -65,8 +65,8 @@ module _ (east north : List ℤ) (g : Grid) (order entries : List ℕ) (at : Lis
       east north g order entries r o edges at (lookBy t numbers) looks
 
   module _ (wanted : Cells) (first : ℕ) (e : t ≡ touched.Regions wanted first) where
-    pub from-apart : agree east north order ≡ false → RangeFrom east north g order entries at r (room ∷ []) (rangeCame (Refused NotLawful 0) room)
-    from-apart h = kept _ (rw e (record { agreed = λ q. absurd (never _ q h); apart = λ q. refl }))
+    pub from-apart : agree east north order ≡ false → (a : RangeAnswer) → a ≡ unlawful → RangeFrom east north g order entries at r (room ∷ []) (rangeCame a room)
+    from-apart h a u = kept _ (rw (e, u) (record { agreed = λ q. absurd (never _ q h); apart = λ q. refl }))
 
     pub from-regions : agree east north order ≡ true → (o : Outcome)
         → o ≡ looked east north r (touchedStands (notedIn east order entries first numbers) (regionsIn wanted)) room → RangeFrom east north g order entries at r (room ∷ []) o

@@ -6,6 +6,9 @@ use lib.IntN.{ℤ}
 use lib.ListN.{length, set}
 use Rattle.base.specs.Lists.{keep}
 use Rattle.rules.specs.declared.Rect.{Rect}
+use Rattle.rules.specs.declared.RangeAnswer.{RangeAnswer}
+use Rattle.rules.specs.declared.RangeAnswer.the-variants.{Refused}
+use Rattle.rules.specs.declared.Refusal.the-variants.{NotLawful}
 use Rattle.rules.specs.Outcomes.{Outcome, refused, rangeOutcome}
 use Rattle.runs.specs.Sights.{inside, sighted, bySight, known}
 use Rattle.range.specs.declared.gather.Tally.{Tally}
@@ -30,6 +33,9 @@ pub record RunFits (east north : List ℤ) (order : List ℕ) (past before : ℕ
   pub placed : length east ≤ length north
   pub within : past ≤ length order
   pub few : before + past < 4294967296
+
+abbrev pub unlawful : RangeAnswer
+unlawful = Refused NotLawful 0
 
 -- the outcome of some stands that were looked at: 7 where one is not of the table
 unfoldable pub looked : List ℤ → List ℤ → Rect → List ℕ → List ℕ → Outcome

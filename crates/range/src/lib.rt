@@ -9,7 +9,7 @@ ghost use Rattle.rules.specs.Indexes.{indexIn};
 ghost use Rattle.rules.specs.Promises.{RangePromise};
 ghost use Rattle.runs.specs.Sights.{notedIn, touchedStands, Ready};
 ghost use Rattle.range.specs.Promises.{RangeFrom};
-ghost use Rattle.range.specs.Fetches.{looked};
+ghost use Rattle.range.specs.Fetches.{unlawful, looked};
 
 mod gather;
 
@@ -30,6 +30,16 @@ use runs::touched_regions;
 use table::text::text_verdict;
 use walk::listing::Listing;
 use walk::listing::listing_of;
+
+// The words cannot be those of a lawful set.
+fn unlawful() -> RangeAnswer
+    ensures { λ r. ⌜ r ≡ unlawful ⌝ }
+{
+    RangeAnswer::Refused {
+        why: Refusal::NotLawful,
+        matches: 0,
+    }
+}
 
 // The regions' matches, written once they are known to fit the room. Up to NEAR of them are kept from the count;
 // only for more the regions are gone through again.
@@ -59,10 +69,7 @@ fn fill(
         rect,
         &mut near,
     ) else {
-        return RangeAnswer::Refused {
-            why: Refusal::NotLawful,
-            matches: 0,
-        };
+        return unlawful();
     };
     let count = matches as usize;
     if found.len() < count {
@@ -106,10 +113,7 @@ pub fn range_from(
     match touched_regions(grid, entries, at, rect, &mut numbers) {
         Touched::Regions(wanted, first) => {
             if !agree(east, north, order) {
-                return RangeAnswer::Refused {
-                    why: Refusal::NotLawful,
-                    matches: 0,
-                };
+                return unlawful();
             }
             fill(
                 east,

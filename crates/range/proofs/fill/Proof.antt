@@ -16,6 +16,7 @@ fill-spec =
     (λ c κs. search needs)
     (λ c. search needs)
     (λ c. search needs)
+    (λ c κs. search needs)
     (λ c. search (needs, fill-breaks))
     (λ c. search needs)
     (λ c. search (needs, fill-over))

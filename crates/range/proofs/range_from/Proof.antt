@@ -15,8 +15,8 @@ edges c = search needs
 
 returns : tie.Need-returns
 returns c =
-    let t = c .before .before .before .before .before in
-    from-apart _ _ _ _ _ _ _ (edges t) _ _ _ (t .touched-regions .ensures) _ _ (c .before .before .before .wanted .given .1) (breaks _ _ (c .before .agree .ensures) (c .if1 .taken))
+    let t = c .before .before .before .before .before .before in
+    from-apart _ _ _ _ _ _ _ (edges t) _ _ _ (t .touched-regions .ensures) _ _ (c .before .before .before .before .wanted .given .1) (breaks _ _ (c .before .before .agree .ensures) (c .before .if1 .taken)) _ (c .unlawful .ensures)
 
 fill-requires : tie.Need-fill-requires
 fill-requires c κs =
@@ -45,6 +45,7 @@ range-from-spec =
     (tie.spec
     (λ c κs. search needs)
     (λ c. search needs)
+    (λ c κs. search needs)
     (λ c κs. search needs)
     returns
     fill-requires
