@@ -13,6 +13,7 @@ mod questions;
 mod records;
 mod rooms;
 mod scan;
+mod strips;
 mod strokes;
 mod tables;
 
@@ -149,6 +150,7 @@ fn main() {
     let sizes: Vec<usize> = SIZES.into_iter().filter(|&size| size as u64 <= stands).collect();
     let dice = &mut Dice::new(seed);
     let mut counts = Counts::default();
+    strips::compare_strips(&mut counts);
     for number in 0..tables {
         compare_table(dice, &mut counts, sizes[number as usize % sizes.len()]);
     }

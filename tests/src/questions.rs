@@ -7,6 +7,7 @@ use crate::owned::Owned;
 use crate::records::{AnyFound, Found, Place, Ranking, Rect, Session};
 use crate::rooms::{room32, room64};
 use crate::scan;
+use crate::strips::compare_region;
 use crate::Counts;
 use std::cmp::Reverse;
 
@@ -201,8 +202,7 @@ pub fn compare_questions(dice: &mut Dice, counts: &mut Counts, set: &Owned, lawf
 
 /// The calls that need no index: exact on any input.
 fn compare_small(dice: &mut Dice, counts: &mut Counts, set: &Owned, text: &[u8], place: Place) {
-    assert_eq!(finder::region(set.grid, place), scan::region(set.grid, place), "region");
-    counts.regions += 1;
+    compare_region(counts, set.grid, place);
     let stand = if dice.once_in(8) { dice.word() as u32 } else { dice.below(set.score.len() + 1) as u32 };
     compare_rest(counts, set, stand, text);
 }

@@ -1,6 +1,7 @@
 -- Laws of signed metres, places, roots, ways, values and sets of regions; and what the rectangle's regions and the bounds are good for.
 pub mod Signed
 pub mod Floors
+pub mod Steps
 pub mod Compared
 pub mod Squares
 pub mod Distances

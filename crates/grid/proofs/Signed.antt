@@ -43,10 +43,10 @@ pub raised-back : (x : ℤ) → SFits w32 x → toZ w64 (ofZ w64 (toZ w64 (ofZ w
 raised-back x h = rw (raised x h) (toZ-ofZ (lifted-fits x h))
 
 -- differences of natural numbers
-sub-up : (a b : ℕ) → b ≤ a → subℕ a b ≡ pos (a - b)
+pub sub-up : (a b : ℕ) → b ≤ a → subℕ a b ≡ pos (a - b)
 sub-up a b h = rw (le-ltb a b h)
 
-sub-down : (a b : ℕ) → a < b → subℕ a b ≡ negsuc (b - suc a)
+pub sub-down : (a b : ℕ) → a < b → subℕ a b ≡ negsuc (b - suc a)
 sub-down a b h = rw (lt-ltb a b h)
 
 -- a signed difference by the lifted numbers: x is not below o

@@ -77,8 +77,8 @@ impl Cells {
     }
 }
 
-// The grid's last column, and its last row.
-const LAST: i64 = (Grid::SIDE - 1) as i64;
+// The grid's last column, and its last row, as a floored edge is held against them.
+const LAST: i64 = super::LAST as i64;
 
 // One bit for each row of the grid, eight apart.
 const EVERY_ROW: u64 = 0x0101_0101_0101_0101;

@@ -17,6 +17,10 @@ use rules::Located;
 use rules::Place;
 use rules::Rect;
 use rules::Refusal;
+use std::num::wrapping_sub_u64;
+
+// The grid's last column, and its last row.
+const LAST: u32 = Grid::SIDE - 1;
 
 // Refusal 2 is for a grid that is not lawful.
 pub fn lawful(grid: Grid) -> bool
@@ -52,7 +56,7 @@ pub fn region_of(grid: Grid, place: Place) -> u32
 {
     let column = strip(grid.west, grid.cell, place.east);
     let row = strip(grid.south, grid.cell, place.north);
-    row * Grid::SIDE + column
+    (row << Grid::SIDE_BITS) + column
 }
 
 // The region of any place in any grid, or why there is none.
@@ -103,23 +107,28 @@ fn edge_lawful(edge: i32) -> bool
     edge <= Grid::EDGE_MOST
 }
 
-// Whether x is one of the metres from the grid's edge on that its cells cover.
+// Whether x is one of the metres from the grid's edge on that its cells cover. Where it lies before the edge, the wrapped difference
+// is larger than what any cells cover.
 fn within(edge: i32, cell: u32, x: i32) -> bool
     ensures { λ r. ⌜ r ≡ within edge cell x ⌝ }
 {
-    let start = lift(edge);
-    let at = lift(x);
-    if at < start {
-        return false;
-    }
-    at < start + (Grid::SIDE as u64) * (cell as u64)
+    let into = wrapping_sub_u64(lift(x), lift(edge));
+    into < (Grid::SIDE as u64) * (cell as u64)
 }
 
-// The column or row of a coordinate of the grid.
+// The column or row of a coordinate of the grid. Cell sides are added until they reach past it, and behind the last strip none is left to
+// add: seven steps at most, and no division, which a processor without one would have to link.
 fn strip(edge: i32, cell: u32, x: i32) -> u32
     requires { ⌜ (0 < cell) × (within edge cell x ≡ true) ⌝ }
     ensures { λ r. ⌜ r ≡ strip edge cell x ⌝ }
 {
-    let into = lift(x) - lift(edge);
-    (into / (cell as u64)) as u32
+    let at = x as i64;
+    let side = cell as i64;
+    let mut next = (edge as i64) + side;
+    let mut strip = 0;
+    while strip < LAST && next <= at {
+        next += side;
+        strip += 1;
+    }
+    strip
 }

@@ -1,6 +1,7 @@
 -- `grid::region_of` meets its contract. Column and row are below 8, so that the sum fits.
 -- Assumes nothing.
 use mathlib.Core.Path.{_≡_, _∙_}
+use Prim.Native.Nat.{_<_}
 use native.Mathlib.Omega.{arith}
 use borrow.Author.Needs.{needs}
 use Rattle.base.proofs.Machine.{both-arrive}
@@ -20,21 +21,20 @@ row-is c =
     let a = c .before .before .before .before .before .before .args in
     c .strip2 .ensures ∙ both-arrive (λ o x. strip o (a .grid .cell) x) (a .grid .south) (a .place .north) (search needs) (search needs)
 
-mul-result : tie.Need-mul-result
-mul-result c =
+row-less : (c : tie.After-strip2) → c .strip2 .result < 8
+row-less c =
     let s = c .before .before .before .before .before .before in
-    rw (row-is c) (omega (arith, strip-less _ _ _ (north-inside _ _ (s .pre .1)) (cell-some _ (s .pre .0))))
+    rw (row-is c) (strip-less _ _ _ (north-inside _ _ (s .pre .1)) (cell-some _ (s .pre .0)))
 
 add-result : tie.Need-add-result
 add-result c =
     let s = c .before .before .before .before .before .before in
     let column = strip-less _ _ _ (east-inside _ _ (s .pre .1)) (cell-some _ (s .pre .0)) in
-    let row = strip-less _ _ _ (north-inside _ _ (s .pre .1)) (cell-some _ (s .pre .0)) in
-    rw (row-is c, column-is (c .before .before .before)) (omega arith)
+    omega (arith, column-is (c .before .before .before), column, row-less c)
 
 returns : tie.Need-returns
 unfolding regionOf
-returns c = rw (row-is c, column-is (c .before .before .before))
+returns c = omega (arith, row-is c, column-is (c .before .before .before), row-less c)
 
 pub region-of-spec : {M : Type 1} → statement M
-region-of-spec = tie.close (tie.spec (λ c κs. search (needs, cell-some, east-inside)) (λ c κs. search (needs, cell-some, north-inside)) mul-result add-result returns)
+region-of-spec = tie.close (tie.spec (λ c κs. search (needs, cell-some, east-inside)) (λ c κs. search (needs, cell-some, north-inside)) add-result returns)

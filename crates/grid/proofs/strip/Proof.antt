@@ -1,31 +1,62 @@
--- `grid::strip` meets its contract. Inside the grid the difference is not negative and the quotient below 8.
--- Assumes nothing.
-use mathlib.Core.Path.{_≡_, _∙_}
+-- `grid::strip` meets its contract: its loop's invariant is `Stepping`, whose laws are of proofs/Steps.antt. Seven steps are the most,
+-- as its measure tells. Assumes nothing.
+use Prim.Native.Nat.{_-_}
 use native.Mathlib.Omega.{arith}
 use borrow.Author.Needs.{needs}
-use Rattle.base.proofs.Machine.{arrives}
-use Rattle.rules.specs.Places.{lifted}
-use Rattle.rules.proofs.Places.{from-edge, strip-less}
+use mir.Syntax.{w32}
+use mir.Val.{toZ}
+use mir.Facts.{toZ-ofZ}
+use Rattle.grid.proofs.Signed.{widened, wide}
+use Rattle.grid.proofs.Steps.{Axis, Stepping, side-is, first-fits, first, next-fits, stepped, found-last, found-here}
 use Rattle.grid.proofs.strip.Statement.{statement}
 use Rattle.grid.proofs.strip.Tie as tie
 
-x-is : (c : tie.After-lift) → c .lift .result ≡ lifted (c .before .args .x)
-x-is c = c .lift .ensures ∙ arrives lifted (c .before .args .x) (c .before .fits .x)
+abbrev Inv-loop : tie.InvT-loop
+Inv-loop edge cell x at side next₀ strip₀ next strip = Stepping (toZ w32 edge) cell (toZ w32 x) next strip
 
-edge-is : (c : tie.After-lift2) → c .lift2 .result ≡ lifted (c .before .before .args .edge)
-edge-is c = c .lift2 .ensures ∙ arrives lifted (c .before .before .args .edge) (c .before .before .fits .edge)
+abbrev μ-loop : tie.MeasureT-loop
+μ-loop edge cell x at side next₀ strip₀ next strip = 7 - strip
 
-sub-into : tie.Need-sub-into
-sub-into c = omega (arith, x-is (c .before), edge-is c, from-edge _ _ _ (c .before .before .pre .1))
+axis : (c : tie.Start Inv-loop μ-loop) → Axis (c .args .edge) (c .args .cell) (c .args .x)
+axis c = record { edge-fits = c .fits .edge; cell-fits = c .fits .cell; x-fits = c .fits .x; inside = c .pre .1 }
 
-cast-result : tie.Need-cast-result
-cast-result c =
-    let s = c .before .before in
-    rw (x-is (c .before), edge-is c) (record { fits = omega (arith, strip-less _ _ _ (s .pre .1) (s .pre .0)) })
+stepping : (c : tie.At-loop Inv-loop μ-loop) → Stepping (c .before .args .edge) (c .before .args .cell) (c .before .args .x) (c .loop .next) (c .loop .strip)
+stepping c = rw (toZ-ofZ (c .before .fits .edge), toZ-ofZ (c .before .fits .x)) at (c .loop .inv)
 
-returns : tie.Need-returns
-returns c = rw (x-is (c .before), edge-is c)
+add-next : tie.Need-add-next Inv-loop μ-loop
+add-next c = rw (wide (c .args .edge) (c .fits .edge), side-is _ _ _ (axis c)) (first-fits _ _ _ (axis c))
+
+loop-holds : tie.Need-loop-holds Inv-loop μ-loop
+loop-holds c = rw (wide (c .args .edge) (c .fits .edge), toZ-ofZ (c .fits .edge), toZ-ofZ (c .fits .x), side-is _ _ _ (axis c)) (first _ _ _ (axis c))
+
+add-next-2 : tie.Need-add-next-2 Inv-loop μ-loop
+add-next-2 c = next-fits _ _ _ (axis (c .before .before .before)) _ _ (stepping (c .before .before)) (c .before .loop-test .taken)
+
+loop-again : tie.Need-loop-again Inv-loop μ-loop
+loop-again c =
+    let s = c .before .before .before in
+    rw (toZ-ofZ (s .fits .edge), toZ-ofZ (s .fits .x)) (stepped _ _ _ (axis s) _ _ (stepping (c .before .before)) (c .before .loop-test .taken) (c .if1 .taken))
+
+returns : tie.Need-returns Inv-loop μ-loop
+returns c = found-here _ _ _ (axis (c .before .before .before)) _ _ (stepping (c .before .before)) (c .if1 .left)
+
+returns-2 : tie.Need-returns-2 Inv-loop μ-loop
+returns-2 c = found-last _ _ _ (axis (c .before .before)) _ _ (stepping (c .before)) (c .loop-test .left)
 
 pub strip-spec : {M : Type 1} → statement M
 strip-spec =
-    tie.close (tie.spec (λ c. search needs) (λ c. search needs) sub-into (λ c. search needs) cast-result returns)
+    tie.close
+    (tie.spec
+    Inv-loop
+    μ-loop
+    (λ c. widened (c .args .x) (c .fits .x))
+    (λ c. search needs)
+    (λ c. widened (c .args .edge) (c .fits .edge))
+    add-next
+    loop-holds
+    add-next-2
+    (λ c. search needs)
+    (λ c. search needs)
+    loop-again
+    returns
+    returns-2)

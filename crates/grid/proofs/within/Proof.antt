@@ -1,42 +1,42 @@
--- `grid::within` meets its contract. Lifted numbers fit 32 bits, so that the end fits.
+-- `grid::within` meets its contract: of a coordinate before the edge the wrapped difference is near 2 ^ 64.
 -- Assumes nothing.
 use mathlib.Core.Path.{_∙_, _≡_}
-use Prim.Native.Nat.{_<_, _≤_}
+use mathlib.Core.Logic.{⊎-elim}
+use mathlib.Core.Bool.{_&&_}
+use Prim.Native.Nat.{ℕ, suc, _+_, _*_, _%_, _^_, _<_, _≤_}
 use native.Mathlib.Omega.{arith}
-use borrow.Author.Tests.{lt-leb, le-leb}
+use lib.Dec.{leb, ltb}
+use borrow.Author.Tests.{lt-leb, le-leb, le-ltb}
 use borrow.Author.Needs.{needs}
 use Rattle.base.proofs.Machine.{arrives}
+use Rattle.base.proofs.Tests.{le-or-lt}
 use Rattle.rules.specs.Places.{within, lifted}
 use Rattle.grid.proofs.Signed.{lifted-less}
+use Rattle.grid.proofs.Floors.{same-test}
 use Rattle.grid.proofs.within.Statement.{statement}
 use Rattle.grid.proofs.within.Tie as tie
 
-start-is : (c : tie.After-lift) → c .lift .result ≡ lifted (c .before .args .edge)
-start-is c = c .lift .ensures ∙ arrives lifted (c .before .args .edge) (c .before .fits .edge)
+-- one test of a wrapped difference for both ends
+one-test : (edge x into width : ℕ) → edge < 4294967296 → x < 4294967296 → into < 18446744073709551616 → width ≤ 34359738368 → (into + edge) % 2 ^ 64 ≡ x → ltb into width ≡ (leb edge x && ltb x (edge + width))
+one-test edge x into width edge-small x-small into-small width-small wraps =
+    ⊎-elim
+    (λ (h : edge ≤ x). let e : x ≡ edge + into = omega (arith, wraps) in rw (le-leb edge x h, e) (same-test (suc into) width (suc (edge + into)) (edge + width) (λ h. omega arith) (λ h. omega arith)))
+    (λ (h : x < edge). rw (lt-leb edge x h) (le-ltb into width (omega (arith, wraps))))
+    (le-or-lt edge x)
 
-at-is : (c : tie.After-lift2) → c .lift2 .result ≡ lifted (c .before .before .args .x)
-at-is c = c .lift2 .ensures ∙ arrives lifted (c .before .before .args .x) (c .before .before .fits .x)
+x-is : (c : tie.After-lift) → c .lift .result ≡ lifted (c .before .args .x)
+x-is c = c .lift .ensures ∙ arrives lifted (c .before .args .x) (c .before .fits .x)
+
+edge-is : (c : tie.After-lift2) → c .lift2 .result ≡ lifted (c .before .before .args .edge)
+edge-is c = c .lift2 .ensures ∙ arrives lifted (c .before .before .args .edge) (c .before .before .fits .edge)
 
 returns : tie.Need-returns
 unfolding within
 returns c =
     let s = c .before .before .before in
-    let h : lifted (s .args .x) < lifted (s .args .edge) = omega (arith, at-is (c .before), start-is (c .before .before)) in
-    rw (lt-leb _ _ h)
-
-add-result : tie.Need-add-result
-add-result c =
-    let s = c .before .before .before in
-    omega (arith, start-is (c .before .before), lifted-less _ (s .fits .edge), s .fits .cell)
-
-returns-2 : tie.Need-returns-2
-unfolding within
-returns-2 c =
-    let s = c .before .before .before in
-    let h : lifted (s .args .edge) ≤ lifted (s .args .x) = omega (arith, at-is (c .before), start-is (c .before .before)) in
-    rw (le-leb _ _ h, at-is (c .before), start-is (c .before .before))
+    one-test _ _ (c .wrapping-sub-u64 .result) (8 * s .args .cell) (lifted-less _ (s .fits .edge)) (lifted-less _ (s .fits .x)) (c .wrapping-sub-u64 .ok) (omega (arith, s .fits .cell .fits)) (rw (x-is (c .before .before), edge-is (c .before)) at (c .wrapping-sub-u64 .ensures))
 
 pub within-spec : {M : Type 1} → statement M
 within-spec =
     tie.close
-    (tie.spec (λ c. search needs) (λ c. search needs) returns (λ c. search needs) (λ c. search needs) add-result returns-2)
+    (tie.spec (λ c κs. search needs) (λ c κs. search needs) (λ c κs. search needs) (λ c. search needs) (λ c. search needs) returns)
