@@ -26,7 +26,7 @@ between n c k least next =
     let split : n ≡ k * c + (n - k * c) = omega arith in
     ap (λ (m : ℕ). m / c) split ∙ digits-div k (omega (arith, suc-mul k c))
 
--- the metre that begins the strip after n strips, which 64 bits hold
+-- 64 bits hold any metre up to eight of the widest cells from an edge
 reach-fits : (edge : ℤ) (n : ℕ) → SFits w32 edge → n ≤ 34359738368 → SFits w64 (edge +ℤ pos n)
 reach-fits (pos e) n fe h = record { sfits = omega (arith, fe .sfits) }
 reach-fits (negsuc e) n fe h =
@@ -35,11 +35,15 @@ reach-fits (negsuc e) n fe h =
     (λ (g : n < suc e). rw (sub-down n (suc e) g) (record { sfits = omega (arith, fe .sfits) }))
     (le-or-lt (suc e) n)
 
--- strips passed, and where the next one begins, in the bits that hold it
+-- so many strips are passed; where the next one begins, in the bits that hold it
 pub record Stepping (edge : ℤ) (c : ℕ) (x : ℤ) (next passed : ℕ) : Type 0 where
   pub few : passed ≤ 7
   pub begins : next ≡ ofZ w64 (edge +ℤ pos (suc passed * c))
   pub behind : lifted edge + passed * c ≤ lifted x
+
+-- whether the next strip has begun at x, as the code tests it
+abbrev begun : ℕ → ℤ → Bool
+begun next x = leZ (toZ w64 next) (toZ w64 (ofZ w64 (toZ w32 (ofZ w32 x))))
 
 -- a coordinate of the grid, and the numbers that it is found by
 pub record Axis (edge : ℤ) (c : ℕ) (x : ℤ) : Type 0 where
@@ -69,13 +73,13 @@ module _ (edge : ℤ) (c : ℕ) (x : ℤ) (a : Axis edge c x) where
     read : toZ w64 next ≡ edge +ℤ pos (suc passed * c)
     read = rw (s .begins) (toZ-ofZ (begin-fits (suc passed) (omega (arith, s .few))))
 
-    reached : {t : Bool} → leZ (toZ w64 next) (toZ w64 (ofZ w64 (toZ w32 (ofZ w32 x)))) ≡ t → leb (lifted edge + suc passed * c) (lifted x) ≡ t
+    reached : {t : Bool} → begun next x ≡ t → leb (lifted edge + suc passed * c) (lifted x) ≡ t
     reached e = sym (reach-order edge (suc passed * c) x (a .edge-fits) (a .x-fits)) ∙ (rw (read, wide x (a .x-fits)) at e)
 
     pub next-fits : passed < 7 → SFits w64 (toZ w64 next +ℤ toZ w64 c)
     next-fits h = rw (read, side-is, further (suc passed)) (begin-fits (suc (suc passed)) (omega arith))
 
-    pub stepped : passed < 7 → leZ (toZ w64 next) (toZ w64 (ofZ w64 (toZ w32 (ofZ w32 x)))) ≡ true → Stepping edge c x (ofZ w64 (toZ w64 next +ℤ toZ w64 c)) (passed + 1)
+    pub stepped : passed < 7 → begun next x ≡ true → Stepping edge c x (ofZ w64 (toZ w64 next +ℤ toZ w64 c)) (passed + 1)
     stepped h e =
         record {
           few = omega arith;
@@ -93,5 +97,5 @@ module _ (edge : ℤ) (c : ℕ) (x : ℤ) (a : Axis edge c x) where
     pub found-last : 7 ≤ passed → passed ≡ strip edge c x
     found-last h = found (omega (arith, before-end edge c x (a .inside), mul-le-mul-right c h, suc-mul passed c))
 
-    pub found-here : leZ (toZ w64 next) (toZ w64 (ofZ w64 (toZ w32 (ofZ w32 x)))) ≡ false → passed ≡ strip edge c x
+    pub found-here : begun next x ≡ false → passed ≡ strip edge c x
     found-here e = found (leb-false _ _ (reached e))

@@ -22,6 +22,9 @@ use std::num::wrapping_sub_u64;
 // The grid's last column, and its last row.
 const LAST: u32 = Grid::SIDE - 1;
 
+// How far a row's number is shifted to count the cells of the rows before it.
+const ROW_SHIFT: u32 = u32::trailing_zeros(Grid::SIDE);
+
 // Refusal 2 is for a grid that is not lawful.
 pub fn lawful(grid: Grid) -> bool
     ensures { λ r. ⌜ r ≡ gridLawful grid ⌝ }
@@ -56,7 +59,7 @@ pub fn region_of(grid: Grid, place: Place) -> u32
 {
     let column = strip(grid.west, grid.cell, place.east);
     let row = strip(grid.south, grid.cell, place.north);
-    (row << Grid::SIDE_BITS) + column
+    (row << ROW_SHIFT) + column
 }
 
 // The region of any place in any grid, or why there is none.
@@ -107,8 +110,8 @@ fn edge_lawful(edge: i32) -> bool
     edge <= Grid::EDGE_MOST
 }
 
-// Whether x is one of the metres from the grid's edge on that its cells cover. Where it lies before the edge, the wrapped difference
-// is larger than what any cells cover.
+// Whether x is one of the metres from the grid's edge on that its cells cover. Of one before the edge the difference wraps, and is then
+// more than any cells cover.
 fn within(edge: i32, cell: u32, x: i32) -> bool
     ensures { λ r. ⌜ r ≡ within edge cell x ⌝ }
 {
@@ -116,8 +119,8 @@ fn within(edge: i32, cell: u32, x: i32) -> bool
     into < (Grid::SIDE as u64) * (cell as u64)
 }
 
-// The column or row of a coordinate of the grid. Cell sides are added until they reach past it, and behind the last strip none is left to
-// add: seven steps at most, and no division, which a processor without one would have to link.
+// The column or row of a coordinate of the grid: cell sides are added while the next strip does not begin past it. The last strip has no
+// next one, so that seven steps are the most. A division would be a routine to link where the processor has none.
 fn strip(edge: i32, cell: u32, x: i32) -> u32
     requires { ⌜ (0 < cell) × (within edge cell x ≡ true) ⌝ }
     ensures { λ r. ⌜ r ≡ strip edge cell x ⌝ }
@@ -126,7 +129,7 @@ fn strip(edge: i32, cell: u32, x: i32) -> u32
     let side = cell as i64;
     let mut next = (edge as i64) + side;
     let mut strip = 0;
-    while strip < LAST && next <= at {
+    while next <= at && strip < LAST {
         next += side;
         strip += 1;
     }

@@ -39,10 +39,8 @@ impl Grid {
 
     pub const CELL_MOST: u32 = 8_192;
 
-    // Cells to a row, and rows: two to the power of SIDE_BITS, so that a row's cells are counted by a shift.
-    pub const SIDE_BITS: u32 = 3;
-
-    pub const SIDE: u32 = 1 << Grid::SIDE_BITS;
+    // Cells to a row, and rows.
+    pub const SIDE: u32 = 8;
 
     pub const REGIONS: usize = (Grid::SIDE * Grid::SIDE) as usize;
 }

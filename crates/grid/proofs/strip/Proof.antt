@@ -1,7 +1,8 @@
 -- `grid::strip` meets its contract: its loop's invariant is `Stepping`, whose laws are of proofs/Steps.antt. Seven steps are the most,
 -- as its measure tells. Assumes nothing.
-use Prim.Native.Nat.{_-_}
+use Prim.Native.Nat.{_-_, _<_}
 use native.Mathlib.Omega.{arith}
+use borrow.Author.Tests.{ltb-true, ltb-false}
 use borrow.Author.Needs.{needs}
 use mir.Syntax.{w32}
 use mir.Val.{toZ}
@@ -29,19 +30,23 @@ add-next c = rw (wide (c .args .edge) (c .fits .edge), side-is _ _ _ (axis c)) (
 loop-holds : tie.Need-loop-holds Inv-loop μ-loop
 loop-holds c = rw (wide (c .args .edge) (c .fits .edge), toZ-ofZ (c .fits .edge), toZ-ofZ (c .fits .x), side-is _ _ _ (axis c)) (first _ _ _ (axis c))
 
+-- a step is taken only where one of seven is left
+left : (c : tie.Then1 Inv-loop μ-loop) → c .before .before .loop .strip < 7
+left c = ltb-true _ _ (c .if1 .taken)
+
 add-next-2 : tie.Need-add-next-2 Inv-loop μ-loop
-add-next-2 c = next-fits _ _ _ (axis (c .before .before .before)) _ _ (stepping (c .before .before)) (c .before .loop-test .taken)
+add-next-2 c = next-fits _ _ _ (axis (c .before .before .before)) _ _ (stepping (c .before .before)) (left c)
 
 loop-again : tie.Need-loop-again Inv-loop μ-loop
 loop-again c =
     let s = c .before .before .before in
-    rw (toZ-ofZ (s .fits .edge), toZ-ofZ (s .fits .x)) (stepped _ _ _ (axis s) _ _ (stepping (c .before .before)) (c .before .loop-test .taken) (c .if1 .taken))
+    rw (toZ-ofZ (s .fits .edge), toZ-ofZ (s .fits .x)) (stepped _ _ _ (axis s) _ _ (stepping (c .before .before)) (left c) (c .before .loop-test .taken))
 
 returns : tie.Need-returns Inv-loop μ-loop
-returns c = found-here _ _ _ (axis (c .before .before .before)) _ _ (stepping (c .before .before)) (c .if1 .left)
+returns c = found-last _ _ _ (axis (c .before .before .before)) _ _ (stepping (c .before .before)) (ltb-false _ _ (c .if1 .left))
 
 returns-2 : tie.Need-returns-2 Inv-loop μ-loop
-returns-2 c = found-last _ _ _ (axis (c .before .before)) _ _ (stepping (c .before)) (c .loop-test .left)
+returns-2 c = found-here _ _ _ (axis (c .before .before)) _ _ (stepping (c .before)) (c .loop-test .left)
 
 pub strip-spec : {M : Type 1} → statement M
 strip-spec =
@@ -55,8 +60,8 @@ strip-spec =
     add-next
     loop-holds
     add-next-2
-    (λ c. search needs)
-    (λ c. search needs)
+    (λ c. omega (arith, left c))
+    (λ c. omega (arith, left c))
     loop-again
     returns
     returns-2)
