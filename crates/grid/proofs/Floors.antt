@@ -49,7 +49,11 @@ same-test a b c d up down =
 pub reach-order : (a : ℤ) (n : ℕ) (b : ℤ) → SFits w32 a → SFits w32 b → leZ (a +ℤ pos n) b ≡ leb (lifted a + n) (lifted b)
 reach-order (pos a) n (pos b) fa fb = same-test (a + n) b (a + 2147483648 + n) (b + 2147483648) (λ h. omega arith) (λ h. omega arith)
 reach-order (pos a) n (negsuc b) fa fb = sym (lt-leb (a + 2147483648 + n) (2147483647 - b) (omega arith))
-reach-order (negsuc a) n b fa fb = ⊎-elim (λ (h : suc a ≤ n). rw (sub-up n (suc a) h) (past b fb h)) (λ (h : n < suc a). rw (sub-down n (suc a) h) (short b fb h)) (le-or-lt (suc a) n)
+reach-order (negsuc a) n b fa fb =
+    ⊎-elim
+    (λ (h : suc a ≤ n). rw (sub-up n (suc a) h) (past b fb h))
+    (λ (h : n < suc a). rw (sub-down n (suc a) h) (short b fb h))
+    (le-or-lt (suc a) n)
   where
     past : (b : ℤ) → SFits w32 b → suc a ≤ n → leZ (pos (n - suc a)) b ≡ leb (2147483647 - a + n) (lifted b)
     past (pos b) fb h = same-test (n - suc a) b (2147483647 - a + n) (b + 2147483648) (λ g. omega (arith, fa .sfits)) (λ g. omega (arith, fa .sfits))

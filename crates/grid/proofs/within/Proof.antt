@@ -17,12 +17,15 @@ use Rattle.grid.proofs.within.Statement.{statement}
 use Rattle.grid.proofs.within.Tie as tie
 
 -- one test of a wrapped difference for both ends
-one-test : (edge x into width : ℕ) → edge < 4294967296 → x < 4294967296 → into < 18446744073709551616 → width ≤ 34359738368 → (into + edge) % 2 ^ 64 ≡ x → ltb into width ≡ (leb edge x && ltb x (edge + width))
-one-test edge x into width edge-small x-small into-small width-small wraps =
-    ⊎-elim
-    (λ (h : edge ≤ x). let e : x ≡ edge + into = omega (arith, wraps) in rw (le-leb edge x h, e) (same-test (suc into) width (suc (edge + into)) (edge + width) (λ h. omega arith) (λ h. omega arith)))
-    (λ (h : x < edge). rw (lt-leb edge x h) (le-ltb into width (omega (arith, wraps))))
-    (le-or-lt edge x)
+module _ (edge x into width : ℕ) (edge-small : edge < 4294967296) (x-small : x < 4294967296) (into-small : into < 18446744073709551616) (width-small : width ≤ 34359738368) (wraps : (into + edge) % 2 ^ 64 ≡ x) where
+  one-test : ltb into width ≡ (leb edge x && ltb x (edge + width))
+  one-test =
+      ⊎-elim
+      (λ (h : edge ≤ x).
+      let x-is : x ≡ edge + into = omega (arith, wraps) in
+      rw (le-leb edge x h, x-is) (same-test (suc into) width (suc (edge + into)) (edge + width) (λ h. omega arith) (λ h. omega arith)))
+      (λ (h : x < edge). rw (lt-leb edge x h) (le-ltb into width (omega (arith, wraps))))
+      (le-or-lt edge x)
 
 x-is : (c : tie.After-lift) → c .lift .result ≡ lifted (c .before .args .x)
 x-is c = c .lift .ensures ∙ arrives lifted (c .before .args .x) (c .before .fits .x)
@@ -34,7 +37,8 @@ returns : tie.Need-returns
 unfolding within
 returns c =
     let s = c .before .before .before in
-    one-test _ _ (c .wrapping-sub-u64 .result) (8 * s .args .cell) (lifted-less _ (s .fits .edge)) (lifted-less _ (s .fits .x)) (c .wrapping-sub-u64 .ok) (omega (arith, s .fits .cell .fits)) (rw (x-is (c .before .before), edge-is (c .before)) at (c .wrapping-sub-u64 .ensures))
+    let wraps = rw (x-is (c .before .before), edge-is (c .before)) at (c .wrapping-sub-u64 .ensures) in
+    one-test _ _ _ (8 * s .args .cell) (lifted-less _ (s .fits .edge)) (lifted-less _ (s .fits .x)) (c .wrapping-sub-u64 .ok) (omega (arith, s .fits .cell .fits)) wraps
 
 pub within-spec : {M : Type 1} → statement M
 within-spec =
