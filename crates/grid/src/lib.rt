@@ -57,8 +57,8 @@ pub fn region_of(grid: Grid, place: Place) -> u32
     requires { ⌜ (gridLawful grid ≡ true) × (inGrid grid place ≡ true) ⌝ }
     ensures { λ r. ⌜ r ≡ regionOf grid place ⌝ }
 {
-    let column = strip(grid.west, grid.cell, place.east);
     let row = strip(grid.south, grid.cell, place.north);
+    let column = strip(grid.west, grid.cell, place.east);
     (row << ROW_SHIFT) + column
 }
 
