@@ -46,12 +46,13 @@ const index = slices(
   room(Uint32Array, stands.length),
   room(Uint32Array, 8 * (bytes.length + 1)),
   room(Uint32Array, 4 * (bytes.length + stands.length)),
+  room(Uint32Array, 2 * (2 * stands.length - 1)),
 );
 
-const built = room(Uint32Array, 3);
+const built = room(Uint32Array, 4);
 krz_build(built.at, ...table, ...index);
-const [refusal, nodes, entries] = built.numbers();
-console.log(`build: refusal ${refusal} nodes ${nodes} entries ${entries}`);
+const [refusal, nodes, entries, bits] = built.numbers();
+console.log(`build: refusal ${refusal} nodes ${nodes} entries ${entries} bit records ${bits}`);
 
 const typed = lend(Uint8Array, new TextEncoder().encode("ki"));
 const place = lend(Int32Array, [5, 5]);

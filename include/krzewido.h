@@ -20,13 +20,13 @@
  * A typed text, given to a call or letter by letter, has at most 24 bytes, each a to z, 0 to 9, space, or A to Z. A capital is read as its
  * small letter before it is judged or stored: "Ki" finds what "ki" finds, and the session holds "ki". In a name a capital is refused.
  *
- * The index is three buffers of words that krz_build fills: order, nodes, entries. Table, grid and index together are a set, passed to
- * every call in the same order. A set is lawful if krz_check says so; a set that krz_build has just written is. Words are in the machine's
- * byte order: saved and brought to a machine of the other order, they are no lawful index there.
+ * The index is four buffers of words that krz_build fills: order, nodes, entries, bits. Table, grid and index together are a set, passed
+ * to every call in the same order. A set is lawful if krz_check says so; a set that krz_build has just written is. Words are in the
+ * machine's byte order: saved and brought to a machine of the other order, they are no lawful index there.
  *
  * Macros of your own keep the calls short, as in tests/example.c:
  *   #define TABLE text, TEXT_BYTES, starts, STANDS + 1, east, STANDS, north, STANDS, score, STANDS, grid
- *   #define INDEX order, ORDER_WORDS, nodes, NODES_WORDS, entries, ENTRIES_WORDS
+ *   #define INDEX order, ORDER_WORDS, nodes, NODES_WORDS, entries, ENTRIES_WORDS, bits, BITS_WORDS
  *   #define SET TABLE, INDEX
  *   built = krz_build(TABLE, INDEX);
  *   answer = krz_ranked(SET, typed, typed_bytes, here, 8, 5, found, KRZ_K_MOST, values, KRZ_K_MOST);
@@ -52,14 +52,16 @@ extern "C" {
 #define KRZ_K_MOST 16
 #define KRZ_NODE_WORDS 8
 #define KRZ_ENTRY_WORDS 4
+#define KRZ_RECORD_WORDS 2
 
 /* Room that is always enough for the index of N stands, in words, and never 0. What krz_build answers tells how much of it is used. */
 #define KRZ_ORDER_WORDS(stands) ((stands) > 0 ? (stands) : 1)
 #define KRZ_NODES_WORDS(stands) KRZ_NODES_WORDS_FOR_TEXT(KRZ_NAME_MOST * (stands))
 #define KRZ_ENTRIES_WORDS(stands) KRZ_ENTRIES_WORDS_FOR_TEXT(KRZ_NAME_MOST * (stands), stands)
+#define KRZ_BITS_WORDS(stands) ((stands) > 0 ? KRZ_RECORD_WORDS * (2 * (stands) - 1) : KRZ_RECORD_WORDS)
 
 /* The same where the table's text is known, which mostly is far shorter than 24 bytes a name: as many nodes as the text has bytes and one
- * more, as many entries as it has bytes and stands. */
+ * more, as many entries as it has bytes and stands. Bit records are fewer than two for each stand, whatever the text. */
 #define KRZ_NODES_WORDS_FOR_TEXT(bytes) (KRZ_NODE_WORDS * ((bytes) + 1))
 #define KRZ_ENTRIES_WORDS_FOR_TEXT(bytes, stands) ((bytes) + (stands) > 0 ? KRZ_ENTRY_WORDS * ((bytes) + (stands)) : 1)
 
@@ -73,7 +75,7 @@ enum krz_refusal {
     KRZ_NAME_NOT_ALLOWED = 3,          /* a name's length or a byte of it, a capital among them */
     KRZ_NAMES_OUT_OF_ORDER = 4,        /* a name stands before a smaller one */
     KRZ_STAND_NOT_ALLOWED = 5,         /* a stand outside the grid, or a score over 1,000 */
-    KRZ_BUFFER_TOO_SMALL = 6,          /* a buffer has no room for the index */
+    KRZ_BUFFER_TOO_SMALL = 6,          /* one of the four buffers has no room for its part of the index */
     KRZ_NOT_LAWFUL = 7,                /* set or session is not lawful, and the call noticed; never given for a lawful one */
     KRZ_TEXT_BYTE_NOT_ALLOWED = 8,     /* a byte of the text, or the byte typed; never A to Z */
     KRZ_TEXT_TOO_LONG = 9,             /* over 24 bytes, or a 25th typed */
@@ -109,12 +111,13 @@ typedef struct {
     uint32_t refusal, region;
 } krz_located;
 
+/* bits is how many bit records there are: the root has one, and each node whose regions are not its parent's. */
 typedef struct {
-    uint32_t refusal, nodes, entries;
+    uint32_t refusal, nodes, entries, bits;
 } krz_built;
 
 typedef struct {
-    uint32_t lawful, nodes, entries;
+    uint32_t lawful, nodes, entries, bits;
 } krz_checked;
 
 typedef struct {
@@ -133,22 +136,24 @@ typedef struct {
 /* The region of a place: row times 8 and column, from the south-west, 0 to 63. Refuses 2, then 12 for a place outside the grid. */
 krz_located krz_region(krz_grid grid, krz_place place);
 
-/* Writes the index of a table: N words of order, 8 for each node and 4 for each entry, at the start of the three buffers; words behind
- * these stay as they were. Answers how many nodes and entries there are. Refuses 1 to 6, in this order, and then writes nothing. */
+/* Writes the index of a table: N words of order, 8 for each node, 4 for each entry and 2 for each bit record, at the start of the four
+ * buffers; words behind these stay as they were. Answers how many nodes, entries and bit records there are. Refuses 1 to 6, in this
+ * order, and then writes nothing. */
 krz_built krz_build(
     const uint8_t *text, size_t text_len, const uint32_t *starts, size_t starts_len,
     const int32_t *east, size_t east_len, const int32_t *north, size_t north_len,
     const uint32_t *score, size_t score_len, krz_grid grid,
-    uint32_t *order, size_t order_len, uint32_t *nodes, size_t nodes_len, uint32_t *entries, size_t entries_len);
+    uint32_t *order, size_t order_len, uint32_t *nodes, size_t nodes_len,
+    uint32_t *entries, size_t entries_len, uint32_t *bits, size_t bits_len);
 
-/* Whether a set is lawful: the table and the grid would not be refused 1 to 5, and the three buffers begin with what krz_build writes.
- * lawful is 1, with the numbers of nodes and entries, or 0 with zeros. To be asked once where a set comes from outside. */
+/* Whether a set is lawful: the table and the grid would not be refused 1 to 5, and the four buffers begin with what krz_build writes.
+ * lawful is 1, with the numbers of nodes, entries and bit records, or 0 with zeros. To be asked once where a set comes from outside. */
 krz_checked krz_check(
     const uint8_t *text, size_t text_len, const uint32_t *starts, size_t starts_len,
     const int32_t *east, size_t east_len, const int32_t *north, size_t north_len,
     const uint32_t *score, size_t score_len, krz_grid grid,
     const uint32_t *order, size_t order_len, const uint32_t *nodes, size_t nodes_len,
-    const uint32_t *entries, size_t entries_len);
+    const uint32_t *entries, size_t entries_len, const uint32_t *bits, size_t bits_len);
 
 /* The stands whose name begins with the typed text and which are in the rectangle: smaller region first, in a region smaller number first.
  * Their numbers go to found[0] to found[count - 1]; found[count] and on stay as they were. Refuses 7, 9, 8, 11, then 13 where more match
@@ -158,7 +163,7 @@ krz_found krz_range(
     const int32_t *east, size_t east_len, const int32_t *north, size_t north_len,
     const uint32_t *score, size_t score_len, krz_grid grid,
     const uint32_t *order, size_t order_len, const uint32_t *nodes, size_t nodes_len,
-    const uint32_t *entries, size_t entries_len,
+    const uint32_t *entries, size_t entries_len, const uint32_t *bits, size_t bits_len,
     const uint8_t *typed, size_t typed_len, krz_rect rect, uint32_t *found, size_t found_len);
 
 /* Whether any stand whose name begins with the typed text is in the rectangle, for greying out an empty map: yes with the first stand that
@@ -168,7 +173,7 @@ krz_any_found krz_any(
     const int32_t *east, size_t east_len, const int32_t *north, size_t north_len,
     const uint32_t *score, size_t score_len, krz_grid grid,
     const uint32_t *order, size_t order_len, const uint32_t *nodes, size_t nodes_len,
-    const uint32_t *entries, size_t entries_len,
+    const uint32_t *entries, size_t entries_len, const uint32_t *bits, size_t bits_len,
     const uint8_t *typed, size_t typed_len, krz_rect rect);
 
 /* The best k stands whose name begins with the typed text, best first; all of them where there are fewer. A stand's value is
@@ -182,7 +187,7 @@ krz_found krz_ranked(
     const int32_t *east, size_t east_len, const int32_t *north, size_t north_len,
     const uint32_t *score, size_t score_len, krz_grid grid,
     const uint32_t *order, size_t order_len, const uint32_t *nodes, size_t nodes_len,
-    const uint32_t *entries, size_t entries_len,
+    const uint32_t *entries, size_t entries_len, const uint32_t *bits, size_t bits_len,
     const uint8_t *typed, size_t typed_len, krz_place place, uint32_t weight, uint32_t k,
     uint32_t *found, size_t found_len, uint64_t *values, size_t values_len);
 
@@ -196,7 +201,8 @@ uint32_t krz_type(
     const int32_t *east, size_t east_len, const int32_t *north, size_t north_len,
     const uint32_t *score, size_t score_len, krz_grid grid,
     const uint32_t *order, size_t order_len, const uint32_t *nodes, size_t nodes_len,
-    const uint32_t *entries, size_t entries_len, krz_session *session, uint8_t byte);
+    const uint32_t *entries, size_t entries_len, const uint32_t *bits, size_t bits_len,
+    krz_session *session, uint8_t byte);
 
 /* Takes the last letter back. Gives the refusal: 7, 10, and then the session is as it was. */
 uint32_t krz_rub_out(
@@ -204,7 +210,8 @@ uint32_t krz_rub_out(
     const int32_t *east, size_t east_len, const int32_t *north, size_t north_len,
     const uint32_t *score, size_t score_len, krz_grid grid,
     const uint32_t *order, size_t order_len, const uint32_t *nodes, size_t nodes_len,
-    const uint32_t *entries, size_t entries_len, krz_session *session);
+    const uint32_t *entries, size_t entries_len, const uint32_t *bits, size_t bits_len,
+    krz_session *session);
 
 /* krz_range with the session's letters for its text. */
 krz_found krz_range_typed(
@@ -212,7 +219,7 @@ krz_found krz_range_typed(
     const int32_t *east, size_t east_len, const int32_t *north, size_t north_len,
     const uint32_t *score, size_t score_len, krz_grid grid,
     const uint32_t *order, size_t order_len, const uint32_t *nodes, size_t nodes_len,
-    const uint32_t *entries, size_t entries_len,
+    const uint32_t *entries, size_t entries_len, const uint32_t *bits, size_t bits_len,
     krz_session session, krz_rect rect, uint32_t *found, size_t found_len);
 
 /* krz_any with the session's letters for its text. */
@@ -221,7 +228,7 @@ krz_any_found krz_any_typed(
     const int32_t *east, size_t east_len, const int32_t *north, size_t north_len,
     const uint32_t *score, size_t score_len, krz_grid grid,
     const uint32_t *order, size_t order_len, const uint32_t *nodes, size_t nodes_len,
-    const uint32_t *entries, size_t entries_len,
+    const uint32_t *entries, size_t entries_len, const uint32_t *bits, size_t bits_len,
     krz_session session, krz_rect rect);
 
 /* krz_ranked with the session's letters for its text. */
@@ -230,7 +237,7 @@ krz_found krz_ranked_typed(
     const int32_t *east, size_t east_len, const int32_t *north, size_t north_len,
     const uint32_t *score, size_t score_len, krz_grid grid,
     const uint32_t *order, size_t order_len, const uint32_t *nodes, size_t nodes_len,
-    const uint32_t *entries, size_t entries_len,
+    const uint32_t *entries, size_t entries_len, const uint32_t *bits, size_t bits_len,
     krz_session session, krz_place place, uint32_t weight, uint32_t k,
     uint32_t *found, size_t found_len, uint64_t *values, size_t values_len);
 

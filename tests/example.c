@@ -18,17 +18,25 @@ static const krz_grid grid = {0, 0, 10};
 #define ORDER_WORDS KRZ_ORDER_WORDS(STANDS)
 #define NODES_WORDS KRZ_NODES_WORDS_FOR_TEXT(TEXT_BYTES)
 #define ENTRIES_WORDS KRZ_ENTRIES_WORDS_FOR_TEXT(TEXT_BYTES, STANDS)
+#define BITS_WORDS KRZ_BITS_WORDS(STANDS)
 
 static uint32_t order[ORDER_WORDS];
 static uint32_t nodes[NODES_WORDS];
 static uint32_t entries[ENTRIES_WORDS];
+static uint32_t bits[BITS_WORDS];
 
 #define TABLE text, TEXT_BYTES, starts, STANDS + 1, east, STANDS, north, STANDS, score, STANDS, grid
-#define INDEX order, ORDER_WORDS, nodes, NODES_WORDS, entries, ENTRIES_WORDS
+#define INDEX order, ORDER_WORDS, nodes, NODES_WORDS, entries, ENTRIES_WORDS, bits, BITS_WORDS
 #define SET TABLE, INDEX
 
 /* The record is laid out for C and for the library alike. */
 typedef char a_session_has_128_bytes[sizeof(krz_session) == 128 ? 1 : -1];
+
+/* How many of each the index has. Of twelve nodes four have bits of their own: the root, "kibor", "kit" and "m". */
+static void show_counts(uint32_t node_count, uint32_t entry_count, uint32_t record_count)
+{
+    printf(" nodes %" PRIu32 " entries %" PRIu32 " bit records %" PRIu32 "\n", node_count, entry_count, record_count);
+}
 
 /* A hit as the handheld shows it: what was typed, then the rest of the name. */
 static void show(uint32_t stand, const char *typed)
@@ -101,9 +109,11 @@ int main(void)
     krz_located located;
 
     built = krz_build(TABLE, INDEX);
-    printf("build: refusal %" PRIu32 " nodes %" PRIu32 " entries %" PRIu32 "\n", built.refusal, built.nodes, built.entries);
+    printf("build: refusal %" PRIu32, built.refusal);
+    show_counts(built.nodes, built.entries, built.bits);
     checked = krz_check(SET);
-    printf("check: lawful %" PRIu32 " nodes %" PRIu32 " entries %" PRIu32 "\n", checked.lawful, checked.nodes, checked.entries);
+    printf("check: lawful %" PRIu32, checked.lawful);
+    show_counts(checked.nodes, checked.entries, checked.bits);
     located = krz_region(grid, here);
     printf("region of (5, 5): refusal %" PRIu32 " region %" PRIu32 "\n", located.refusal, located.region);
     located = krz_region(grid, beyond);

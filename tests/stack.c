@@ -25,6 +25,7 @@ static const krz_grid grid = {-400, -400, 100};
 static uint32_t order[KRZ_ORDER_WORDS(STANDS)];
 static uint32_t nodes[KRZ_NODES_WORDS_FOR_TEXT(TEXT_BYTES)];
 static uint32_t entries[KRZ_ENTRIES_WORDS_FOR_TEXT(TEXT_BYTES, STANDS)];
+static uint32_t bits[KRZ_BITS_WORDS(STANDS)];
 static uint32_t found[STANDS];
 static uint64_t values[KRZ_K_MOST];
 static krz_session session;
@@ -32,7 +33,7 @@ static uint32_t refused;
 
 #define TABLE text, TEXT_BYTES, starts, STANDS + 1, east, STANDS, north, STANDS, score, STANDS, grid
 #define INDEX order, KRZ_ORDER_WORDS(STANDS), nodes, KRZ_NODES_WORDS_FOR_TEXT(TEXT_BYTES), \
-              entries, KRZ_ENTRIES_WORDS_FOR_TEXT(TEXT_BYTES, STANDS)
+              entries, KRZ_ENTRIES_WORDS_FOR_TEXT(TEXT_BYTES, STANDS), bits, KRZ_BITS_WORDS(STANDS)
 #define SET TABLE, INDEX
 
 static const krz_place here = {7, -9};

@@ -31,6 +31,7 @@ LIMITS = {
     "KRZ_K_MOST": "Ranking::K_MOST",
     "KRZ_NODE_WORDS": "NODE_WORDS",
     "KRZ_ENTRY_WORDS": "ENTRY_WORDS",
+    "KRZ_RECORD_WORDS": "RECORD_WORDS",
 }
 
 # The desk program's own: no call of the library gives it.

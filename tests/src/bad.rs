@@ -115,13 +115,14 @@ pub fn set(word: &str) -> Option<Owned> {
 }
 
 /// A set that no building writes: one node after the other is the root's child, as many as a lawful set can have, and the last one,
-/// z, has 64 entries of all stands each.
+/// z, has 64 entries of all stands each. One bit record, of all regions, serves every node.
 pub fn unlawful() -> Owned {
     let mut set = set("one-cell").expect("a table");
     let last = 24 * MOST;
-    set.nodes = (0..=last as u32).flat_map(|node| [0, 32, 0, MOST as u32, node + 1, u32::MAX, u32::MAX, 0]).collect();
+    set.nodes = (0..=last as u32).flat_map(|node| [0, 32, 0, MOST as u32, node + 1, 0, 1, 0]).collect();
     set.nodes[4] = last as u32 + 1;
     set.nodes[8 * last + 1] = u32::from(b'z');
     set.entries = (0..REGIONS as u32).flat_map(|region| [region, 1_000, 0, MOST as u32]).collect();
+    set.bits = vec![u32::MAX; 2];
     set
 }

@@ -13,11 +13,12 @@ use crate::scan::Typist;
 use crate::strokes::{compare_stroke, letter, Key};
 use crate::Counts;
 
-/// A kind of word. A node's has its column, and so has an entry's.
+/// A kind of word. A node's has its column, and so has an entry's or a bit record's.
 #[derive(Clone, Copy, Debug)]
 enum Kind {
     Node(usize),
     Entry(usize),
+    Bits(usize),
     Order,
     Start,
     Score,
@@ -28,20 +29,24 @@ enum Kind {
 fn kinds() -> Vec<Kind> {
     let nodes = (0..8).map(Kind::Node);
     let entries = (0..4).map(Kind::Entry);
-    nodes.chain(entries).chain([Kind::Order, Kind::Start, Kind::Score, Kind::Path, Kind::Length]).collect()
+    let bits = (0..2).map(Kind::Bits);
+    nodes.chain(entries).chain(bits).chain([Kind::Order, Kind::Start, Kind::Score, Kind::Path, Kind::Length]).collect()
 }
 
-/// The word of a kind that questions by the session's letters read: of their node, or of an entry, a place or a stand under it.
+/// The word of a kind that questions by the session's letters read: of their node or its bit record, or of an entry, a place or a stand
+/// under it.
 fn word<'a>(dice: &mut Dice, kind: Kind, set: &'a mut Owned, session: &'a mut Session) -> Option<&'a mut u32> {
     let node = 8 * session.path[session.len as usize] as usize;
     let row: Vec<usize> = set.nodes.get(node..node + 8)?.iter().map(|&w| w as usize).collect();
-    let held = (row[5].count_ones() + row[6].count_ones()) as usize;
+    let record = 2 * row[5];
+    let held = set.bits.get(record..record + 2).map_or(0, |bits| bits.iter().map(|w| w.count_ones() as usize).sum());
     let entry = 4 * (row[7] + dice.below(held));
     let place = set.entries.get(entry + 2).map_or(0, |&w| w as usize);
     let stand = row[2] + dice.below(row[3] - row[2]);
     match kind {
         Kind::Node(column) => set.nodes.get_mut(node + column),
         Kind::Entry(column) => set.entries.get_mut(entry + column),
+        Kind::Bits(column) => set.bits.get_mut(record + column),
         Kind::Order => set.order.get_mut(place),
         Kind::Start => set.starts.get_mut(stand + dice.below(2)),
         Kind::Score => set.score.get_mut(stand),
@@ -62,7 +67,7 @@ fn resized<T>(dice: &mut Dice, part: &mut Vec<T>, word: T) {
 
 fn one_part_resized(dice: &mut Dice, set: &mut Owned) {
     let word = dice.word();
-    match dice.below(8) {
+    match dice.below(9) {
         0 => resized(dice, &mut set.text, word as u8),
         1 => resized(dice, &mut set.starts, word as u32),
         2 => resized(dice, &mut set.east, word as i32),
@@ -70,7 +75,8 @@ fn one_part_resized(dice: &mut Dice, set: &mut Owned) {
         4 => resized(dice, &mut set.score, word as u32),
         5 => resized(dice, &mut set.order, word as u32),
         6 => resized(dice, &mut set.nodes, word as u32),
-        _ => resized(dice, &mut set.entries, word as u32),
+        7 => resized(dice, &mut set.entries, word as u32),
+        _ => resized(dice, &mut set.bits, word as u32),
     }
 }
 
@@ -103,6 +109,7 @@ fn exact(mut set: Owned) -> Owned {
     set.order.truncate(set.score.len());
     set.nodes.truncate(8 * told.nodes as usize);
     set.entries.truncate(4 * told.entries as usize);
+    set.bits.truncate(2 * told.bits as usize);
     set
 }
 

@@ -18,7 +18,7 @@ mod strokes;
 mod tables;
 
 use dice::Dice;
-use owned::Owned;
+use owned::{most_words, Owned};
 use records::Session;
 use rooms::room32;
 use scan::Typist;
@@ -29,6 +29,9 @@ const SIZES: [usize; 12] = [0, 1, 2, 3, 5, 8, 17, 40, 64, 64, 200, 1_024];
 #[derive(Debug, Default)]
 pub struct Counts {
     tables: u64,
+    /// Nodes of these tables with a bit record of their own, and with their parent's.
+    own_records: u64,
+    shared_records: u64,
     builds: u64,
     checks: u64,
     regions: u64,
@@ -56,16 +59,17 @@ pub struct Counts {
 // ---- building and checking, on any input
 
 /// Builds into rooms of these lengths, compares, and gives the words where there are any.
-fn compare_build(dice: &mut Dice, counts: &mut Counts, set: &Owned, rooms: [usize; 3]) -> Option<[Vec<u32>; 3]> {
-    let (told, index) = scan::build(&set.lent(), rooms[0], rooms[1], rooms[2]);
-    let [mut order, mut nodes, mut entries] = rooms.map(|length| room32(dice, length));
-    let built = finder::build(&set.lent(), order.lend(), nodes.lend(), entries.lend());
+fn compare_build(dice: &mut Dice, counts: &mut Counts, set: &Owned, rooms: [usize; 4]) -> Option<[Vec<u32>; 4]> {
+    let (told, index) = scan::build(&set.lent(), rooms);
+    let mut rooms = rooms.map(|length| room32(dice, length));
+    let [order, nodes, entries, bits] = &mut rooms;
+    let built = finder::build(&set.lent(), order.lend(), nodes.lend(), entries.lend(), bits.lend());
     assert_eq!(built, told, "build");
-    order.holds(&index.order);
-    nodes.holds(&index.nodes);
-    entries.holds(&index.entries);
+    for (room, part) in rooms.iter().zip(index.parts()) {
+        room.holds(part);
+    }
     counts.builds += 1;
-    (built.refusal == 0).then(|| [order, nodes, entries].map(|room| room.into_words()))
+    (built.refusal == 0).then(|| rooms.map(|room| room.into_words()))
 }
 
 /// Whether a set is lawful.
@@ -78,19 +82,32 @@ pub fn compare_check(counts: &mut Counts, set: &Owned) -> bool {
 
 // ---- one table
 
+/// Building into rooms of just the index's words, and into those with a word less in one of them: each of the four in turn, or in a large
+/// table, which takes long to scan, one by chance.
+fn compare_rooms(dice: &mut Dice, counts: &mut Counts, set: &Owned, needed: [usize; 4]) {
+    assert!(compare_build(dice, counts, set, needed).is_some(), "not built into rooms that are large enough");
+    let chosen = dice.below(4);
+    for which in (0..4).filter(|&which| set.score.len() < 300 || which == chosen) {
+        let mut rooms = needed;
+        if 0 < rooms[which] {
+            rooms[which] -= 1;
+            assert!(compare_build(dice, counts, set, rooms).is_none(), "built into a room that is too small");
+        }
+    }
+}
+
 /// The index built, with words behind it that no answer may depend on.
 fn indexed(dice: &mut Dice, counts: &mut Counts, mut set: Owned) -> Owned {
     let index = scan::index(&set.lent());
-    let needed = [index.order.len(), index.nodes.len(), index.entries.len()];
-    let which = dice.below(3);
-    if needed[which] != 0 {
-        let mut rooms = needed;
-        rooms[which] -= 1;
-        assert!(compare_build(dice, counts, &set, rooms).is_none(), "built into a room that is too small");
-    }
+    let needed = index.parts().map(<[u32]>::len);
+    let most = most_words(set.score.len());
+    assert!(needed.iter().zip(most).all(|(&needed, most)| needed <= most), "an index with more words than any has");
+    counts.own_records += index.bits.len() as u64 / 2;
+    counts.shared_records += (index.nodes.len() / 8 - index.bits.len() / 2) as u64;
+    compare_rooms(dice, counts, &set, needed);
     let rooms = needed.map(|n| n + dice.below(10));
     let words = compare_build(dice, counts, &set, rooms);
-    [set.order, set.nodes, set.entries] = words.expect("a lawful table is built");
+    [set.order, set.nodes, set.entries, set.bits] = words.expect("a lawful table is built");
     set
 }
 
@@ -103,7 +120,7 @@ fn compare_damaged(dice: &mut Dice, counts: &mut Counts, whole: &Owned, session:
     }
     let kept = set.clone();
     let lawful = compare_check(counts, &set);
-    compare_build(dice, counts, &set, [set.order.len(), set.nodes.len(), set.entries.len()]);
+    compare_build(dice, counts, &set, [set.order.len(), set.nodes.len(), set.entries.len(), set.bits.len()]);
     questions::compare_questions(dice, counts, &set, lawful, 4);
     let session = if dice.once_in(2) { strokes::bent(dice, &set, session) } else { session };
     let typist = lawful.then(|| Typist::new(&set.lent()));

@@ -6,10 +6,11 @@ use crate::records::Set;
 
 /// The numbers at which a test of a word can turn: how many there are of each thing, the limits, and one to either side of each.
 pub fn boundaries(set: &Set) -> Vec<u32> {
-    let counts = [set.nodes.len() / 8, set.entries.len() / 4, set.order.len(), set.score.len(), set.text.len()];
+    let rows = [set.nodes.len() / 8, set.entries.len() / 4, set.bits.len() / 2];
+    let counts = rows.into_iter().chain([set.order.len(), set.score.len(), set.text.len()]);
     let limits = [0, 24, 25, 64, 1_000, 1_024];
     let beside = |n: usize| [(n as u32).wrapping_sub(1), n as u32, n as u32 + 1];
-    let mut all: Vec<u32> = counts.into_iter().chain(limits).flat_map(beside).collect();
+    let mut all: Vec<u32> = counts.chain(limits).flat_map(beside).collect();
     all.sort_unstable();
     all.dedup();
     all
@@ -59,10 +60,34 @@ fn cut<T>(dice: &mut Dice, part: &mut Vec<T>) {
     part.shrink_to_fit();
 }
 
+/// What a node's regions are read by: the number of its bit record, set past the bits or to another record, or its mark, turned.
+fn mislead(dice: &mut Dice, set: &mut Owned) {
+    let records = set.bits.len() / 2;
+    let node = 8 * dice.below(set.nodes.len() / 8);
+    if let Some(row) = set.nodes.get_mut(node..node + 8) {
+        match dice.below(3) {
+            0 => row[5] = (records + dice.below(3)) as u32,
+            1 => {
+                let another = row[5] as usize + 1 + dice.below(records.saturating_sub(1));
+                row[5] = (another % records.max(1)) as u32;
+            }
+            _ => row[6] ^= 1,
+        }
+    }
+}
+
+/// A region taken from a bit record or put to it.
+fn flip_bit(dice: &mut Dice, bits: &mut [u32]) {
+    if !bits.is_empty() {
+        let at = dice.below(bits.len());
+        bits[at] ^= 1 << dice.below(32);
+    }
+}
+
 /// One word flipped or one part cut.
 pub fn damage(dice: &mut Dice, set: &mut Owned) {
     let boundaries = &boundaries(&set.lent());
-    match dice.below(20) {
+    match dice.below(25) {
         0..=4 => flip(dice, boundaries, &mut set.nodes),
         5..=7 => flip(dice, boundaries, &mut set.entries),
         8 | 9 => flip(dice, boundaries, &mut set.order),
@@ -79,6 +104,10 @@ pub fn damage(dice: &mut Dice, set: &mut Owned) {
             1 => flip_metre(dice, boundaries, &mut set.grid.south),
             _ => set.grid.cell = other(dice, boundaries, set.grid.cell),
         },
+        19 => flip(dice, boundaries, &mut set.bits),
+        20 => flip_bit(dice, &mut set.bits),
+        21 => cut(dice, &mut set.bits),
+        22 | 23 => mislead(dice, set),
         _ => match dice.below(5) {
             0 => cut(dice, &mut set.text),
             1 => cut(dice, &mut set.starts),

@@ -1,6 +1,6 @@
 //! The figures: how many instructions the finder takes for a question, a name typed, the rest of a hit's name, a build and a check, beside
-//! a scan of all stands (`plain`) and the same method in safe Rust (`port`); the most that any call takes over bad tables, and its stack;
-//! the code's size.
+//! a scan of all stands (`plain`) and the same method in safe Rust (`port`); how many words the index has; the most that any call takes
+//! over bad tables, and its stack; the code's size.
 //! Every answer is compared before it is counted.
 //!     figures LIBRARY              prints all of it
 //!     figures count WHAT WHO STANDS, figures worst TABLE CALL      run one of them, for valgrind to count
@@ -118,6 +118,17 @@ fn print_table() {
     println!("and a port that changes the session in place {:.0} for the name typed.", instructions("typing", "in-place", 1_024));
 }
 
+/// How many words each part of the index has, and all of them without and with the bits.
+fn print_words() {
+    println!("| stands | order | nodes | entries | bits | without bits | all |");
+    println!("|---|---|---|---|---|---|---|");
+    for stands in SIZES {
+        let [order, nodes, entries, bits] = indexed(stands, Who::Port).index().map(|words| words.len());
+        let others = order + nodes + entries;
+        println!("| {stands} | {order} | {nodes} | {entries} | {bits} | {others} | {} |", others + bits);
+    }
+}
+
 fn print_size(library: &str) {
     let out = Command::new("size").args(["-t", library]).output().expect("size runs");
     let text = String::from_utf8_lossy(&out.stdout).into_owned();
@@ -131,9 +142,9 @@ fn compare() {
         let asked = villages::questions(&t);
         for (what, title) in WHATS {
             let ours = round(what, Who::Finder, &mut t, &asked);
-            let words = (t.order.clone(), t.nodes.clone(), t.entries.clone());
+            let words = t.index();
             assert_eq!(ours, round(what, Who::Port, &mut t, &asked), "{title}: finder and port");
-            assert_eq!(words, (t.order.clone(), t.nodes.clone(), t.entries.clone()), "{title}: words of finder and port");
+            assert_eq!(words, t.index(), "{title}: words of finder and port");
             if scanned(what) {
                 assert_eq!(ours, round(what, Who::Plain, &mut t, &asked), "{title}: finder and scan");
                 assert_eq!(ours, round(what, Who::InPlace, &mut t, &asked), "{title}: finder and port in place");
@@ -151,6 +162,8 @@ fn compare() {
 fn print_all(library: &str) {
     compare();
     print_table();
+    println!();
+    print_words();
     println!();
     worst::print_instructions();
     println!();

@@ -17,7 +17,8 @@ macro_rules! over_a_set {
                 grid: Grid,
                 order: *const u32, order_len: usize,
                 nodes: *const u32, nodes_len: usize,
-                entries: *const u32, entries_len: usize
+                entries: *const u32, entries_len: usize,
+                bits: *const u32, bits_len: usize
                 $(, $arg: $kind)*
             ) -> $out;)*
         }
@@ -48,6 +49,7 @@ extern "C" {
         order: *mut u32, order_len: usize,
         nodes: *mut u32, nodes_len: usize,
         entries: *mut u32, entries_len: usize,
+        bits: *mut u32, bits_len: usize,
     ) -> Built;
     fn krz_fresh() -> Session;
     fn krz_rest(text: *const u8, text_len: usize, starts: *const u32, starts_len: usize, stand: u32, typed: *const u8, typed_len: usize) -> Part;
@@ -66,7 +68,8 @@ macro_rules! call {
                 set.grid,
                 set.order.as_ptr(), set.order.len(),
                 set.nodes.as_ptr(), set.nodes.len(),
-                set.entries.as_ptr(), set.entries.len()
+                set.entries.as_ptr(), set.entries.len(),
+                set.bits.as_ptr(), set.bits.len()
                 $(, $arg)*
             )
         }
@@ -78,7 +81,7 @@ pub fn region(grid: Grid, place: Place) -> Located {
 }
 
 /// The set's own index is not looked at.
-pub fn build(table: &Set, order: &mut [u32], nodes: &mut [u32], entries: &mut [u32]) -> Built {
+pub fn build(table: &Set, order: &mut [u32], nodes: &mut [u32], entries: &mut [u32], bits: &mut [u32]) -> Built {
     unsafe {
         krz_build(
             table.text.as_ptr(), table.text.len(),
@@ -90,6 +93,7 @@ pub fn build(table: &Set, order: &mut [u32], nodes: &mut [u32], entries: &mut [u
             order.as_mut_ptr(), order.len(),
             nodes.as_mut_ptr(), nodes.len(),
             entries.as_mut_ptr(), entries.len(),
+            bits.as_mut_ptr(), bits.len(),
         )
     }
 }

@@ -169,8 +169,8 @@ pub fn asked<'a>(set: &'a Owned, text: &'a [u8], room: usize) -> Vec<Hard<'a>> {
 
 /// The calls that make or judge an index, and those that need none.
 fn others(set: &Owned) -> Vec<Hard<'_>> {
-    let (mut order, mut nodes, mut entries) = (set.order.clone(), set.nodes.clone(), set.entries.clone());
-    let build = move || told(finder::build(&set.lent(), &mut order, &mut nodes, &mut entries));
+    let [mut order, mut nodes, mut entries, mut bits] = set.index();
+    let build = move || told(finder::build(&set.lent(), &mut order, &mut nodes, &mut entries, &mut bits));
     let mut all = vec![
         hard("krz_build", String::from("the table"), build),
         hard("krz_check", String::from("the set"), || told(finder::check(&set.lent()))),

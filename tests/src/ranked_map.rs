@@ -28,7 +28,8 @@ fn entries<'a>(set: &Set<'a>) -> Vec<Entry<'a>> {
         assert_eq!(finder::type_byte(set, &mut session, byte), 0, "a letter that is taken");
     }
     let node = &set.nodes[8 * session.path[TEXT.len()] as usize..][..8];
-    let count = node[5].count_ones() + node[6].count_ones();
+    let record = &set.bits[2 * node[5] as usize..][..2];
+    let count = record[0].count_ones() + record[1].count_ones();
     let words = &set.entries[4 * node[7] as usize..][..4 * count as usize];
     words.chunks(4).map(|e| Entry { region: e[0], score: e[1], stands: &set.order[e[2] as usize..e[3] as usize] }).collect()
 }

@@ -47,6 +47,7 @@ pub struct Built {
     pub refusal: u32,
     pub nodes: u32,
     pub entries: u32,
+    pub bits: u32,
 }
 
 #[repr(C)]
@@ -55,6 +56,7 @@ pub struct Checked {
     pub lawful: u32,
     pub nodes: u32,
     pub entries: u32,
+    pub bits: u32,
 }
 
 #[repr(C)]
@@ -91,6 +93,7 @@ pub struct Set<'a> {
     pub order: &'a [u32],
     pub nodes: &'a [u32],
     pub entries: &'a [u32],
+    pub bits: &'a [u32],
 }
 
 /// What a ranked question asks.

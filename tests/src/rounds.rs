@@ -32,14 +32,13 @@ impl Who {
 }
 
 fn build(who: Who, t: &mut Owned) -> Vec<u64> {
-    let (mut order, mut nodes, mut entries) =
-        (std::mem::take(&mut t.order), std::mem::take(&mut t.nodes), std::mem::take(&mut t.entries));
+    let [mut order, mut nodes, mut entries, mut bits] = [&mut t.order, &mut t.nodes, &mut t.entries, &mut t.bits].map(std::mem::take);
     let built = match who {
-        Who::Finder => finder::build(&t.lent(), &mut order, &mut nodes, &mut entries),
-        _ => port::build(&t.lent(), &mut order, &mut nodes, &mut entries),
+        Who::Finder => finder::build(&t.lent(), &mut order, &mut nodes, &mut entries, &mut bits),
+        _ => port::build(&t.lent(), &mut order, &mut nodes, &mut entries, &mut bits),
     };
-    (t.order, t.nodes, t.entries) = (order, nodes, entries);
-    [built.refusal, built.nodes, built.entries].map(u64::from).to_vec()
+    [t.order, t.nodes, t.entries, t.bits] = [order, nodes, entries, bits];
+    [built.refusal, built.nodes, built.entries, built.bits].map(u64::from).to_vec()
 }
 
 fn check(who: Who, t: &Owned) -> Vec<u64> {
@@ -47,7 +46,7 @@ fn check(who: Who, t: &Owned) -> Vec<u64> {
         Who::Finder => finder::check(&t.lent()),
         _ => port::check(&t.lent()),
     };
-    [checked.lawful, checked.nodes, checked.entries].map(u64::from).to_vec()
+    [checked.lawful, checked.nodes, checked.entries, checked.bits].map(u64::from).to_vec()
 }
 
 /// A call in a frame of its own. Callgrind on Arm can miss where a call ends, and counts on until its caller returns: with this caller that

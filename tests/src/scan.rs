@@ -113,6 +113,14 @@ pub struct Index {
     pub order: Vec<u32>,
     pub nodes: Vec<u32>,
     pub entries: Vec<u32>,
+    pub bits: Vec<u32>,
+}
+
+impl Index {
+    /// Its parts in the order in which they are lent.
+    pub fn parts(&self) -> [&[u32]; 4] {
+        [&self.order, &self.nodes, &self.entries, &self.bits]
+    }
 }
 
 /// The stands whose name begins with the text, by number.
@@ -148,30 +156,58 @@ fn entries(set: &Set, order: &[u32], here: &[usize]) -> Vec<[u32; 4]> {
     found
 }
 
+/// Of each beginning the number of its parent, which is the beginning one byte shorter; 0 for the empty one, which has none.
+fn parents(texts: &[Vec<u8>]) -> Vec<usize> {
+    let parent = |text: &Vec<u8>| match text.split_last() {
+        None => 0,
+        Some((_, above)) => texts.partition_point(|t| t.as_slice() < above),
+    };
+    texts.iter().map(parent).collect()
+}
+
+/// For each region whether it holds one of these stands.
+fn regions(set: &Set, here: &[usize]) -> [bool; 64] {
+    let mut held = [false; 64];
+    for &stand in here {
+        held[region_of(set.grid, place(set, stand)) as usize] = true;
+    }
+    held
+}
+
+/// A bit record: regions 0 to 31, then 32 to 63.
+fn record(regions: &[bool; 64]) -> [u32; 2] {
+    [0, 32].map(|from| (0..32).filter(|bit| regions[from + bit]).map(|bit| 1 << bit).sum())
+}
+
+/// The bit record that serves a node: its own, which has the node's place among those that keep one, or else its parent's.
+fn serving(keepers: &[usize], parents: &[usize], node: usize) -> usize {
+    keepers.binary_search(&node).unwrap_or_else(|_| serving(keepers, parents, parents[node]))
+}
+
 /// The index of a table that refusals 1 to 5 let pass.
 pub fn index(set: &Set) -> Index {
     let mut stands: Vec<u32> = (0..set.score.len() as u32).collect();
     stands.sort_by_key(|&i| (region_of(set.grid, place(set, i as usize)), i));
-    let mut index = Index { order: stands, ..Index::default() };
     let texts = beginnings(set);
+    let parents = parents(&texts);
+    let under: Vec<Vec<usize>> = texts.iter().map(|text| under(set, text)).collect();
+    let held: Vec<[bool; 64]> = under.iter().map(|here| regions(set, here)).collect();
+    let keepers: Vec<usize> = (0..texts.len()).filter(|&node| node == 0 || held[node] != held[parents[node]]).collect();
+    let bits = keepers.iter().flat_map(|&node| record(&held[node])).collect();
+    let mut index = Index { order: stands, bits, ..Index::default() };
     for (number, text) in texts.iter().enumerate() {
-        let here = under(set, text);
-        let own = entries(set, &index.order, &here);
-        let parent = match text.split_last() {
-            None => 0,
-            Some((_, above)) => texts.partition_point(|t| t.as_slice() < above),
-        };
+        let here = &under[number];
+        let own = entries(set, &index.order, here);
         let past = number + texts[number..].iter().take_while(|t| t.starts_with(text)).count();
         let first = here.first().copied().unwrap_or(0);
-        let bits: u64 = own.iter().map(|e| 1u64 << e[0]).sum();
         index.nodes.extend([
-            parent as u32,
+            parents[number] as u32,
             text.last().map_or(0, |&b| u32::from(b)),
             first as u32,
             (first + here.len()) as u32,
             past as u32,
-            (bits % (1 << 32)) as u32,
-            (bits / (1 << 32)) as u32,
+            serving(&keepers, &parents, number) as u32,
+            u32::from(keepers.binary_search(&number).is_err()),
             index.entries.len() as u32 / 4,
         ]);
         index.entries.extend(own.concat());
@@ -180,26 +216,28 @@ pub fn index(set: &Set) -> Index {
 }
 
 /// What building into buffers of these lengths answers, and what it writes at their start.
-pub fn build(set: &Set, order: usize, nodes: usize, entries: usize) -> (Built, Index) {
-    let refused = |refusal| (Built { refusal, nodes: 0, entries: 0 }, Index::default());
+pub fn build(set: &Set, rooms: [usize; 4]) -> (Built, Index) {
+    let refused = |refusal| (Built { refusal, nodes: 0, entries: 0, bits: 0 }, Index::default());
     let refusal = table_refusal(set);
     if refusal != 0 {
         return refused(refusal);
     }
     let index = index(set);
-    if order < index.order.len() || nodes < index.nodes.len() || entries < index.entries.len() {
+    if index.parts().iter().zip(rooms).any(|(part, room)| room < part.len()) {
         return refused(6);
     }
-    (Built { refusal: 0, nodes: index.nodes.len() as u32 / 8, entries: index.entries.len() as u32 / 4 }, index)
+    let rows = |words: &[u32], width: usize| (words.len() / width) as u32;
+    (Built { refusal: 0, nodes: rows(&index.nodes, 8), entries: rows(&index.entries, 4), bits: rows(&index.bits, 2) }, index)
 }
 
 pub fn check(set: &Set) -> Checked {
-    let (built, index) = build(set, usize::MAX, usize::MAX, usize::MAX);
-    let same = set.order.starts_with(&index.order) && set.nodes.starts_with(&index.nodes) && set.entries.starts_with(&index.entries);
+    let (built, index) = build(set, [usize::MAX; 4]);
+    let lent = [set.order, set.nodes, set.entries, set.bits];
+    let same = lent.iter().zip(index.parts()).all(|(lent, part)| lent.starts_with(part));
     if built.refusal == 0 && same {
-        Checked { lawful: 1, nodes: built.nodes, entries: built.entries }
+        Checked { lawful: 1, nodes: built.nodes, entries: built.entries, bits: built.bits }
     } else {
-        Checked { lawful: 0, nodes: 0, entries: 0 }
+        Checked { lawful: 0, nodes: 0, entries: 0, bits: 0 }
     }
 }
 

@@ -38,12 +38,14 @@ fn print_index(stands: &[Stand], grid: Grid) {
         order: &[],
         nodes: &[],
         entries: &[],
+        bits: &[],
     };
     let index = scan::index(&set);
     println!("stands {}", stands.len());
     print_rows("order", &index.order, 1);
     print_rows("node", &index.nodes, 8);
     print_rows("entry", &index.entries, 4);
+    print_rows("record", &index.bits, 2);
 }
 
 fn small_scheme() -> Vec<Stand> {

@@ -89,7 +89,7 @@ module _ (t : Table) (g : Grid) (x : Index) (p : List ℕ) (r : Rect) where
   pub of-refused : (v : Verdict) (why : Refusal) → verdictNumber v ≡ textRefusal (foldedText p) → v ≡ verdict.Refused why → AnyPromise t g x p r (anyNumbers (Refused why))
   of-refused v why e q = text-refused _ anyOutcome (rangeList t g (foldedText p) r) refusingAny (foldedText p) (rectRefusal r) any-refused why (ap verdictNumber (sym q) ∙ e)
 
-  pub of-listed : (o : AnyTold) (v : Verdict) (at : Listing) → verdictNumber v ≡ textRefusal (foldedText p) → v ≡ verdict.Passed → at ≡ listingAt (x .nodes) (nodeIn (x .nodes) (foldedText p))
+  pub of-listed : (o : AnyTold) (v : Verdict) (at : Listing) → verdictNumber v ≡ textRefusal (foldedText p) → v ≡ verdict.Passed → at ≡ listingAt (x .nodes) (x .bits) (nodeIn (x .nodes) (foldedText p))
       → AnyFrom (t .east) (t .north) g (x .order) (x .entries) at r o → AnyPromise t g x p r o
   of-listed o v at e fine walked w =
       from-kept _ (λ t′ q. Listed (t .east) (t .north) (t′ .score) g (x .order) (x .entries) at t′ q) anyOutcome (λ t p. rangeList t g p r) (refusingAny 7) o t (foldedText p)

@@ -60,14 +60,15 @@ pub fn any(
     order: &[u32],
     nodes: &[u32],
     entries: &[u32],
+    bits: &[u32],
     typed: &[u8],
     rect: Rect,
 ) -> AnyAnswer
-    ensures { λ a. ⌜ AnyPromise (tableIn text starts east north score) grid (indexIn order nodes entries) (given typed) rect (anyNumbers a) ⌝ }
+    ensures { λ a. ⌜ AnyPromise (tableIn text starts east north score) grid (indexIn order nodes entries bits) (given typed) rect (anyNumbers a) ⌝ }
 {
     if let Verdict::Refused(why) = text_verdict(typed) {
         return AnyAnswer::Refused(why);
     }
-    let at = listing_of(nodes, typed);
+    let at = listing_of(nodes, bits, typed);
     any_from(east, north, grid, order, entries, at, rect)
 }

@@ -12,6 +12,7 @@ use lib.Seq.{drop-cons, take-nil}
 use borrow.Table.Steps.{cases}
 use borrow.Author.Tests.{eq-eqb, ne-eqb}
 use Rattle.base.specs.Lists.{keep, each, eachList, firstOf, isEmpty, positionIn, In}
+use Rattle.base.proofs.Tests.{Unlike, alike}
 
 pub in-left : {A : Type 0} (x : A) (s t : List A) → In x s → In x (s ++ t)
 in-left x [] t h = absurd h
@@ -137,6 +138,15 @@ pub keep-same : {A : Type 0} (f g : A → Bool) (l : List A) → ((x : A) → In
 keep-same f g [] h = refl
 keep-same f g (x ∷ l) h = rw (h x (inl refl), keep-same f g l (λ y k. h y (inr k)))
 
+-- tests that do not keep the same differ on a member
+pub keep-unlike : {A : Type 0} (f g : A → Bool) (l : List A) → (keep f l ≡ keep g l) ⊎ ((x : A) × In x l × Unlike (f x) (g x))
+keep-unlike f g [] = inl refl
+keep-unlike f g (x ∷ l) =
+    ⊎-elim
+    (λ (e : f x ≡ g x). ⊎-elim (λ (r : keep f l ≡ keep g l). inl (rw (e, r))) (λ t. inr (t .0, inr (t .1), t .2)) (keep-unlike f g l))
+    (λ d. inr (x, inl refl, d))
+    (alike (f x) (g x))
+
 pub keep-both : {A : Type 0} (f g : A → Bool) (l : List A) → keep (λ x. f x && g x) l ≡ keep g (keep f l)
 keep-both f g [] = refl
 keep-both f g (x ∷ l) = let r = keep-both f g l in cases (f x) (λ q. simp (q, r)) (λ q. simp (q, r))
@@ -202,6 +212,12 @@ each-each f g (x ∷ l) = rw (each-each f g l)
 pub in-eachList : {A B : Type 0} (f : A → List B) (l : List A) (y : B) → In y (eachList f l) → (x : A) × In x l × In y (f x)
 in-eachList f [] y h = absurd h
 in-eachList f (x ∷ l) y h = ⊎-elim (λ k. (x, inl refl, k)) (λ k. let r = in-eachList f l y k in (r .0, inr (r .1), r .2)) (in-either y (f x) (eachList f l) h)
+
+-- and back
+pub eachList-in : {A B : Type 0} (f : A → List B) (l : List A) (x : A) (y : B) → In x l → In y (f x) → In y (eachList f l)
+eachList-in f [] x y h k = absurd h
+eachList-in f (z ∷ l) x y (inl e) k = in-left y (f z) (eachList f l) (rw e at k)
+eachList-in f (z ∷ l) x y (inr h) k = in-right y (f z) (eachList f l) (eachList-in f l x y h k)
 
 pub eachList-same : {A B : Type 0} (f g : A → List B) (l : List A) → ((x : A) → In x l → f x ≡ g x) → eachList f l ≡ eachList g l
 eachList-same f g [] h = refl

@@ -14,7 +14,7 @@ use Rattle.base.specs.Lists.{fromOn, keep, each, eachList, firstOf, sort
 use Rattle.base.proofs.Tests.{le-or-lt}
 use Rattle.base.proofs.Members.{in-right, in-either, getD-in, keep-in, in-take, in-each, in-eachList}
 use Rattle.base.proofs.Runs.{in-from}
-use Rattle.base.proofs.Shuffles.{Shuffle, shuffle-sym, shuffle-in, sort-shuffle, part}
+use Rattle.base.proofs.Shuffles.{Shuffle, shuffle-sym, shuffle-length, shuffle-in, in-shuffle, sort-shuffle, part}
 use Rattle.base.proofs.Shuffles as shuffles
 
 module _ {A : Type 0} (R : A → A → Type 0) where
@@ -81,6 +81,14 @@ distinct-once key d l h i k u v e =
     (λ (a : k ≤ i). ⊎-elim (λ (b : i ≤ k). omega arith) (λ b. absurd (pairs-at _ d l h k i b u (sym e))) (le-or-lt i k))
     (λ a. absurd (pairs-at _ d l h i k a v e))
     (le-or-lt k i)
+
+-- distinct members of a list are no more than it has
+pub distinct-few : {A : Type 0} (l m : List A) → Distinct (λ x. x) l → ((x : A) → In x l → In x m) → length l ≤ length m
+distinct-few [] m d h = omega arith
+distinct-few (x ∷ l) m d h =
+    let s = in-shuffle x m (h x (inl refl)) in
+    let r = distinct-few l (s .0) (d .1) (λ y k. ⊎-elim (λ e. absurd (d .0 y k (sym e))) (λ u. u) (shuffle-in (s .1) y (h y (inr k)))) in
+    omega (arith, shuffle-length (s .1))
 
 pub distinct-sort : {A B : Type 0} (key : A → B) (before : A → A → Bool) (l : List A) → Distinct key l → Distinct key (sortBy before l)
 distinct-sort key before l h = pairs-shuffle (λ x y. key x ≡ key y → ⊥) (λ x y n e. n (sym e)) (shuffle-sym (sort-shuffle before l)) h

@@ -11,7 +11,7 @@ use lib.ListN.{length, getD, set, replicate, length-append, List·getD-append}
 use lib.Seq.{getD-append-seam}
 use borrow.Table.Steps.{cases}
 use Rattle.base.specs.Lists.{fromOn, upTo, keep, each, eachList, firstOf, In}
-use Rattle.base.proofs.Tests.{never, refuted, le-or-lt}
+use Rattle.base.proofs.Tests.{never, refuted, Unlike, alike, le-or-lt}
 use Rattle.base.proofs.Members.{keep-none, keep-append, keep-each, getD-each, each-each, each-same, eachList-append}
 
 pub length-from : (a n : ℕ) → length (fromOn a n) ≡ n
@@ -107,6 +107,19 @@ module _ (f : ℕ → Bool) (e : ℕ) where
       cases (f a)
       (λ r. rw r (ap (λ (l : List ℕ). a ∷ l) (keep-down (suc a) n (omega arith) (λ i k u v w s. convex a i k (omega arith) v w r s))))
       (λ r. rw r (keep-run (suc a) n (omega arith) convex))
+
+-- a test that tells two numbers apart tells two neighbours between them apart
+pub turn : (f : ℕ → Bool) (a b : ℕ) → a ≤ b → (f a ≡ f b → ⊥) → (x : ℕ) × (a ≤ x) × (x < b) × Unlike (f x) (f (suc x))
+turn f a zero h n = absurd (n (ap f (omega arith)))
+turn f a (suc b) h n =
+    ⊎-elim
+    (λ (e : a ≡ suc b). absurd (n (ap f e)))
+    (λ (l : a < suc b).
+    ⊎-elim
+    (λ (s : f b ≡ f (suc b)). let r = turn f a b (omega arith) (λ e. n (e ∙ s)) in (r .0, r .1, omega arith, r .3))
+    (λ d. (b, omega arith, omega arith, d))
+    (alike (f b) (f (suc b))))
+    (eq-or-lt-of-le h)
 
 -- what stands at place k of the numbers below n that pass: it passes, as k smaller ones do
 abbrev pub KeptAt : (ℕ → Bool) → ℕ → ℕ → Type 0

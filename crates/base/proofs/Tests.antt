@@ -23,6 +23,17 @@ pub refuted : (b : Bool) → (b ≡ true → ⊥) → b ≡ false
 refuted true h = absurd (h refl)
 refuted false h = refl
 
+-- one of the two holds and the other does not
+abbrev pub Unlike : Bool → Bool → Type 0
+Unlike a b = ((a ≡ true) × (b ≡ false)) ⊎ ((a ≡ false) × (b ≡ true))
+
+-- two tests say the same, or they do not
+pub alike : (a b : Bool) → (a ≡ b) ⊎ Unlike a b
+alike true true = inl refl
+alike true false = inr (inl (refl, refl))
+alike false true = inr (inr (refl, refl))
+alike false false = inl refl
+
 pub le-or-lt : (a b : ℕ) → (a ≤ b) ⊎ (b < a)
 le-or-lt a b = cases (leb a b) (λ e. inl (leb-true a b e)) (λ e. inr (leb-false a b e))
 

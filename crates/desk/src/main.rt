@@ -1,5 +1,6 @@
 // The desk program: a scheme and a question on standard input, the best stands or a refusal on standard output.
 // What is printed is settled in desk_answer; here stand its rooms, all zero at the start, one read and one write.
+use desk_answer::BITS_ROOM;
 use desk_answer::ENTRIES_ROOM;
 use desk_answer::ORDER_ROOM;
 use desk_answer::OUTPUT_MOST;
@@ -21,6 +22,7 @@ fn main() {
     let mut order = [0u32; ORDER_ROOM];
     let mut nodes = [0u32; 12_296];
     let mut entries = [0u32; ENTRIES_ROOM];
+    let mut bits = [0u32; BITS_ROOM];
     let mut out = [0u8; OUTPUT_MOST];
     let count = io::read_full(STDIN_FILENO, &mut input);
     let length = answer(
@@ -33,6 +35,7 @@ fn main() {
         &mut order,
         &mut nodes,
         &mut entries,
+        &mut bits,
         &mut out,
     );
     io::write_all(STDOUT_FILENO, &out[..length]);

@@ -2,13 +2,15 @@
 -- Assumes nothing.
 use mathlib.Core.Path.{_≡_, sym, ap, _∙_}
 use mathlib.Core.Bool.{true, cond}
+use mathlib.Core.Logic.{⊎-elim}
 use mathlib.Core.List.{List}
-use Prim.Native.Nat.{ℕ, _*_, _≤_}
+use Prim.Native.Nat.{ℕ, _*_, _≤_, _<_}
 use native.Mathlib.Omega.{arith}
 use lib.ListN.{length}
 use lib.Dec.{eqb}
 use borrow.Table.Steps.{cases}
 use borrow.Author.Tests.{le-ltb, ne-eqb, eq-eqb, eqb-true, eqb-false}
+use Rattle.base.proofs.Tests.{le-or-lt}
 use Rattle.rules.specs.declared.Grid.{Grid}
 use Rattle.rules.specs.declared.Ranking.{Ranking}
 use Rattle.rules.specs.declared.Refusal.{Refusal}
@@ -18,7 +20,7 @@ use Rattle.rules.specs.declared.Verdict.the-variants as verdict
 use Rattle.rules.specs.Numbers.{BuildTold, CheckTold, refusalNumber, checkedNumbers}
 use Rattle.rules.specs.Tables.{Table, stands, tableRefusal}
 use Rattle.rules.specs.Questions.{rankedRefusal}
-use Rattle.rules.specs.Indexes.{Index, nodeCount, entryCount, tooSmall, buildRefusal, buildTold, setLawful, checkTold}
+use Rattle.rules.specs.Indexes.{Index, nodeCount, entryCount, recordCount, tooSmall, buildRefusal, buildTold, setLawful, checkTold}
 use Rattle.rules.proofs.Lawful.{lawful, taken, set-parts}
 use Rattle.rules.proofs.Numbers.{refusal-some}
 use Rattle.meaning.proofs.Sizes.{sizes-bounded}
@@ -33,6 +35,7 @@ pub record Rooms (x : Index) : Type 0 where
   pub order : 64 ≤ length (x .order)
   pub nodes : 12296 ≤ length (x .nodes)
   pub entries : 6400 ≤ length (x .entries)
+  pub bits : 254 ≤ length (x .bits)
 
 module _ (t : Table) (g : Grid) where
   -- a table's refusal is the reply
@@ -49,19 +52,24 @@ module _ (t : Table) (g : Grid) where
 
   module _ (x : Index) where
     -- what was built is lawful, since checking accepts it
-    pub built-lawful : (n e : ℕ) (y : Index) → BuildPromise t g x (built.Index n e) y → setLawful t g y ≡ true
+    pub built-lawful : (n e b : ℕ) (y : Index) → BuildPromise t g x (built.Index n e b) y → setLawful t g y ≡ true
     unfolding checkTold
-    built-lawful n e y p =
+    built-lawful n e b y p =
         cases (setLawful t g y) (λ q. q) (λ q.
-        let same : checked.Unlawful ≡ checked.Lawful n e = build-then-check t g x n e y checked.Unlawful p (rw q) in
+        let same : checked.Unlawful ≡ checked.Lawful n e b = build-then-check t g x n e b y checked.Unlawful p (rw q) in
         cc)
 
-    pub index-passed : (n e : ℕ) (y : Index) → BuildPromise t g x (built.Index n e) y → MakesIndex t g verdict.Passed y
-    index-passed n e y p =
-        let law = built-lawful n e y p in
+    pub index-passed : (n e b : ℕ) (y : Index) → BuildPromise t g x (built.Index n e b) y → MakesIndex t g verdict.Passed y
+    index-passed n e b y p =
+        let law = built-lawful n e b y p in
         record { refusal = sym (taken t g (set-parts t g y law .table)); lawful = λ _. law }
 
     module _ (few : stands t ≤ 64) (rooms : Rooms x) where
+      few-records : tableRefusal t g ≡ 0 → recordCount t g ≤ 127
+      few-records e =
+          let s = sizes-bounded t g (lawful t g e) in
+          ⊎-elim (λ (h : stands t ≤ 0). omega (arith, s .lone (omega arith) .2)) (λ (h : 0 < stands t). omega (arith, s .records h)) (le-or-lt (stands t) 0)
+
       enough : tableRefusal t g ≡ 0 → buildRefusal t g x ≡ 0
       unfolding buildRefusal tooSmall
       enough e =
@@ -71,6 +79,7 @@ module _ (t : Table) (g : Grid) where
             le-ltb (length (x .order)) (stands t) (omega (arith, rooms .order)),
             le-ltb (length (x .nodes)) (8 * nodeCount t) (omega (arith, rooms .nodes, s .nodes)),
             le-ltb (length (x .entries)) (4 * entryCount t g) (omega (arith, rooms .entries, s .entries)),
+            le-ltb (length (x .bits)) (2 * recordCount t g) (omega (arith, rooms .bits, few-records e)),
           )
 
       pub index-refused : (why : Refusal) (y : Index) → BuildPromise t g x (built.Refused why) y → MakesIndex t g (verdict.Refused why) y

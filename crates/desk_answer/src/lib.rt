@@ -11,16 +11,19 @@ use printing::put_refusal;
 use reply::reply;
 use rules::layout::ENTRY_WORDS;
 use rules::layout::NODE_WORDS;
+use rules::layout::RECORD_WORDS;
 ghost use Rattle.base.specs.Lent.{given, after};
 ghost use Rattle.desk_answer.specs.Promises.{AnswersInput};
 
-// Room for the index of as many stands as an input has at most: a root and a node for each byte of a name, and for each stand an
-// entry in each node that it is under.
+// Room for the index of as many stands as an input has at most: a root and a node for each byte of a name, for each stand an entry in
+// each node that it is under, and fewer bit records than two for each stand.
 pub const ORDER_ROOM: usize = Reading::STANDS_ROOM;
 
 pub const NODES_ROOM: usize = (Reading::STANDS_ROOM * Stand::NAME_MOST + 1) * NODE_WORDS;
 
 pub const ENTRIES_ROOM: usize = Reading::STANDS_ROOM * (Stand::NAME_MOST + 1) * ENTRY_WORDS;
+
+pub const BITS_ROOM: usize = (2 * Reading::STANDS_ROOM - 1) * RECORD_WORDS;
 
 pub const HITS_MOST: usize = Ranking::K_MOST as usize;
 
@@ -39,6 +42,7 @@ pub fn answer(
     order: &mut [u32; ORDER_ROOM],
     nodes: &mut [u32; NODES_ROOM],
     entries: &mut [u32; ENTRIES_ROOM],
+    bits: &mut [u32; BITS_ROOM],
     out: &mut [u8; OUTPUT_MOST],
 ) -> usize
     ensures { λ r. ⌜ AnswersInput (given input) (given out) (after out) r ⌝ }
@@ -71,6 +75,7 @@ pub fn answer(
         order,
         nodes,
         entries,
+        bits,
         &input[from..past],
         ranking,
     )

@@ -1,4 +1,5 @@
 // The finder's calls in a row, on a table and a question: build, check, ask. What they answer goes into the bytes to be printed.
+use crate::BITS_ROOM;
 use crate::ENTRIES_ROOM;
 use crate::HITS_MOST;
 use crate::NODES_ROOM;
@@ -40,9 +41,10 @@ fn index_made(
     order: &mut [u32; ORDER_ROOM],
     nodes: &mut [u32; NODES_ROOM],
     entries: &mut [u32; ENTRIES_ROOM],
+    bits: &mut [u32; BITS_ROOM],
 ) -> Verdict
     requires { ⌜ length (now score) ≤ 64 ⌝ }
-    ensures { λ r. ⌜ MakesIndex (tableIn text starts east north score) grid r (indexOf (after order) (after nodes) (after entries)) ⌝ }
+    ensures { λ r. ⌜ MakesIndex (tableIn text starts east north score) grid r (indexOf (after order) (after nodes) (after entries) (after bits)) ⌝ }
 {
     let built = build(
         text,
@@ -54,6 +56,7 @@ fn index_made(
         order,
         nodes,
         entries,
+        bits,
     );
     if let Built::Refused(why) = built {
         return Verdict::Refused(why);
@@ -68,6 +71,7 @@ fn index_made(
         order,
         nodes,
         entries,
+        bits,
     );
     let Checked::Lawful { .. } = checked else {
         return Verdict::Refused(Refusal::NotLawful);
@@ -87,10 +91,11 @@ fn ask(
     order: &[u32],
     nodes: &[u32],
     entries: &[u32],
+    bits: &[u32],
     typed: &[u8],
     asked: Ranking,
 ) -> usize
-    requires { ⌜ setLawful (tableOf (now text) (now starts) (now east) (now north) (now score)) grid (indexOf (now order) (now nodes) (now entries)) ≡ true ⌝ }
+    requires { ⌜ setLawful (tableOf (now text) (now starts) (now east) (now north) (now score)) grid (indexOf (now order) (now nodes) (now entries) (now bits)) ≡ true ⌝ }
     ensures { λ r. ⌜ Puts (replyTo (tableIn text starts east north score) grid (foldedText (given typed)) asked) (given out) 0 (after out) r ⌝ }
 {
     let mut found = [0u32; HITS_MOST];
@@ -105,6 +110,7 @@ fn ask(
         order,
         nodes,
         entries,
+        bits,
         typed,
         asked,
         &mut found,
@@ -127,6 +133,7 @@ pub fn reply(
     order: &mut [u32; ORDER_ROOM],
     nodes: &mut [u32; NODES_ROOM],
     entries: &mut [u32; ENTRIES_ROOM],
+    bits: &mut [u32; BITS_ROOM],
     typed: &[u8],
     asked: Ranking,
 ) -> usize
@@ -143,6 +150,7 @@ pub fn reply(
         order,
         nodes,
         entries,
+        bits,
     );
     if let Verdict::Refused(why) = made {
         return put_refusal(out, why);
@@ -158,6 +166,7 @@ pub fn reply(
         order,
         nodes,
         entries,
+        bits,
         typed,
         asked,
     )

@@ -1,5 +1,6 @@
 // The desk program's answers on inputs that are not of its form, on inputs that the finder refuses, and at the limits.
 // Each answer stands behind the name of its case; what is printed is held to the file stdout.
+use desk_answer::BITS_ROOM;
 use desk_answer::ENTRIES_ROOM;
 use desk_answer::NODES_ROOM;
 use desk_answer::ORDER_ROOM;
@@ -29,6 +30,7 @@ fn print_answer(room: &[u8], count: usize) {
     let mut order = [0u32; ORDER_ROOM];
     let mut nodes = [0u32; NODES_ROOM];
     let mut entries = [0u32; ENTRIES_ROOM];
+    let mut bits = [0u32; BITS_ROOM];
     let mut out = [0u8; OUTPUT_MOST];
     let length = answer(
         &room[..count],
@@ -40,6 +42,7 @@ fn print_answer(room: &[u8], count: usize) {
         &mut order,
         &mut nodes,
         &mut entries,
+        &mut bits,
         &mut out,
     );
     print(&out[..length]);

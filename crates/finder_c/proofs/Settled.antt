@@ -35,10 +35,10 @@ located-apart : (r s : Located) → locatedTold r ≡ locatedTold s → r ≡ s
 located-apart r s e = ap (λ (n : Told). record { refusal = n .refusal; region = n .number }) e
 
 built-apart : (r s : Built) → builtTold r ≡ builtTold s → r ≡ s
-built-apart r s e = ap (λ (n : BuildTold). record { refusal = n .refusal; nodes = n .nodes; entries = n .entries }) e
+built-apart r s e = ap (λ (n : BuildTold). record { refusal = n .refusal; nodes = n .nodes; entries = n .entries; bits = n .bits }) e
 
 checked-apart : (r s : Checked) → checkedTold r ≡ checkedTold s → r ≡ s
-checked-apart r s e = ap (λ (n : CheckTold). record { lawful = n .lawful; nodes = n .nodes; entries = n .entries }) e
+checked-apart r s e = ap (λ (n : CheckTold). record { lawful = n .lawful; nodes = n .nodes; entries = n .entries; bits = n .bits }) e
 
 found-apart : (r s : Found) → foundTold r ≡ foundTold s → r ≡ s
 found-apart r s e = ap (λ (n : Told). record { refusal = n .refusal; count = n .number }) e

@@ -22,10 +22,10 @@ abbrev pub locatedTold : Located → Told
 locatedTold r = record { refusal = r .refusal; number = r .region }
 
 abbrev pub builtTold : Built → BuildTold
-builtTold r = record { refusal = r .refusal; nodes = r .nodes; entries = r .entries }
+builtTold r = record { refusal = r .refusal; nodes = r .nodes; entries = r .entries; bits = r .bits }
 
 abbrev pub checkedTold : Checked → CheckTold
-checkedTold r = record { lawful = r .lawful; nodes = r .nodes; entries = r .entries }
+checkedTold r = record { lawful = r .lawful; nodes = r .nodes; entries = r .entries; bits = r .bits }
 
 abbrev pub foundTold : Found → Told
 foundTold r = record { refusal = r .refusal; number = r .count }

@@ -39,6 +39,7 @@ pub struct Built {
     pub refusal: u32,
     pub nodes: u32,
     pub entries: u32,
+    pub bits: u32,
 }
 
 // Lawful is 1 or 0.
@@ -47,6 +48,7 @@ pub struct Checked {
     pub lawful: u32,
     pub nodes: u32,
     pub entries: u32,
+    pub bits: u32,
 }
 
 #[repr(C)]
@@ -89,15 +91,21 @@ impl Built {
         ensures { λ r. ⌜ builtTold r ≡ builtNumbers answer ⌝ }
     {
         match answer {
-            finder::Built::Index { nodes, entries } => Built {
+            finder::Built::Index {
+                nodes,
+                entries,
+                bits,
+            } => Built {
                 refusal: 0,
                 nodes,
                 entries,
+                bits,
             },
             finder::Built::Refused(why) => Built {
                 refusal: why.number(),
                 nodes: 0,
                 entries: 0,
+                bits: 0,
             },
         }
     }
@@ -108,15 +116,21 @@ impl Checked {
         ensures { λ r. ⌜ checkedTold r ≡ checkedNumbers answer ⌝ }
     {
         match answer {
-            finder::Checked::Lawful { nodes, entries } => Checked {
+            finder::Checked::Lawful {
+                nodes,
+                entries,
+                bits,
+            } => Checked {
                 lawful: 1,
                 nodes,
                 entries,
+                bits,
             },
             finder::Checked::Unlawful => Checked {
                 lawful: 0,
                 nodes: 0,
                 entries: 0,
+                bits: 0,
             },
         }
     }
@@ -190,8 +204,9 @@ pub extern "C" fn krz_build(
     order: &mut [u32],
     nodes: &mut [u32],
     entries: &mut [u32],
+    bits: &mut [u32],
 ) -> Built
-    ensures { λ r. ⌜ Tells builtNumbers (λ a. BuildPromise (tableIn text starts east north score) grid (indexIn order nodes entries) a (indexLeft order nodes entries)) (builtTold r) ⌝ }
+    ensures { λ r. ⌜ Tells builtNumbers (λ a. BuildPromise (tableIn text starts east north score) grid (indexIn order nodes entries bits) a (indexLeft order nodes entries bits)) (builtTold r) ⌝ }
 {
     Built::of(finder::build(
         text,
@@ -203,6 +218,7 @@ pub extern "C" fn krz_build(
         order,
         nodes,
         entries,
+        bits,
     ))
 }
 
@@ -217,8 +233,9 @@ pub extern "C" fn krz_check(
     order: &[u32],
     nodes: &[u32],
     entries: &[u32],
+    bits: &[u32],
 ) -> Checked
-    ensures { λ r. ⌜ checkedTold r ≡ checkTold (tableIn text starts east north score) grid (indexIn order nodes entries) ⌝ }
+    ensures { λ r. ⌜ checkedTold r ≡ checkTold (tableIn text starts east north score) grid (indexIn order nodes entries bits) ⌝ }
 {
     Checked::of(finder::check(
         text,
@@ -230,6 +247,7 @@ pub extern "C" fn krz_check(
         order,
         nodes,
         entries,
+        bits,
     ))
 }
 
@@ -244,11 +262,12 @@ pub extern "C" fn krz_range(
     order: &[u32],
     nodes: &[u32],
     entries: &[u32],
+    bits: &[u32],
     typed: &[u8],
     rect: Rect,
     found: &mut [u32],
 ) -> Found
-    ensures { λ r. ⌜ RangePromise (tableIn text starts east north score) grid (indexIn order nodes entries) (given typed) rect (roomIn found) (foundIn r found) ⌝ }
+    ensures { λ r. ⌜ RangePromise (tableIn text starts east north score) grid (indexIn order nodes entries bits) (given typed) rect (roomIn found) (foundIn r found) ⌝ }
 {
     Found::of_range(finder::range(
         text,
@@ -260,6 +279,7 @@ pub extern "C" fn krz_range(
         order,
         nodes,
         entries,
+        bits,
         typed,
         rect,
         found,
@@ -277,10 +297,11 @@ pub extern "C" fn krz_any(
     order: &[u32],
     nodes: &[u32],
     entries: &[u32],
+    bits: &[u32],
     typed: &[u8],
     rect: Rect,
 ) -> AnyFound
-    ensures { λ r. ⌜ AnyPromise (tableIn text starts east north score) grid (indexIn order nodes entries) (given typed) rect (anyTold r) ⌝ }
+    ensures { λ r. ⌜ AnyPromise (tableIn text starts east north score) grid (indexIn order nodes entries bits) (given typed) rect (anyTold r) ⌝ }
 {
     AnyFound::of(finder::any(
         text,
@@ -292,6 +313,7 @@ pub extern "C" fn krz_any(
         order,
         nodes,
         entries,
+        bits,
         typed,
         rect,
     ))
@@ -308,6 +330,7 @@ pub extern "C" fn krz_ranked(
     order: &[u32],
     nodes: &[u32],
     entries: &[u32],
+    bits: &[u32],
     typed: &[u8],
     place: Place,
     weight: u32,
@@ -315,7 +338,7 @@ pub extern "C" fn krz_ranked(
     found: &mut [u32],
     values: &mut [u64],
 ) -> Found
-    ensures { λ r. ⌜ RankedPromise (tableIn text starts east north score) grid (indexIn order nodes entries) (given typed) (rankingOf place weight k) (roomsIn found values) (foundsIn r found values) ⌝ }
+    ensures { λ r. ⌜ RankedPromise (tableIn text starts east north score) grid (indexIn order nodes entries bits) (given typed) (rankingOf place weight k) (roomsIn found values) (foundsIn r found values) ⌝ }
 {
     Found::of_ranked(finder::ranked(
         text,
@@ -327,6 +350,7 @@ pub extern "C" fn krz_ranked(
         order,
         nodes,
         entries,
+        bits,
         typed,
         Ranking { place, weight, k },
         found,
@@ -345,11 +369,12 @@ pub extern "C" fn krz_range_typed(
     order: &[u32],
     nodes: &[u32],
     entries: &[u32],
+    bits: &[u32],
     session: Session,
     rect: Rect,
     found: &mut [u32],
 ) -> Found
-    ensures { λ r. ⌜ TypedRangePromise (tableIn text starts east north score) grid (indexIn order nodes entries) session rect (roomIn found) (foundIn r found) ⌝ }
+    ensures { λ r. ⌜ TypedRangePromise (tableIn text starts east north score) grid (indexIn order nodes entries bits) session rect (roomIn found) (foundIn r found) ⌝ }
 {
     Found::of_range(finder::range_typed(
         text,
@@ -361,6 +386,7 @@ pub extern "C" fn krz_range_typed(
         order,
         nodes,
         entries,
+        bits,
         session,
         rect,
         found,
@@ -378,10 +404,11 @@ pub extern "C" fn krz_any_typed(
     order: &[u32],
     nodes: &[u32],
     entries: &[u32],
+    bits: &[u32],
     session: Session,
     rect: Rect,
 ) -> AnyFound
-    ensures { λ r. ⌜ TypedAnyPromise (tableIn text starts east north score) grid (indexIn order nodes entries) session rect (anyTold r) ⌝ }
+    ensures { λ r. ⌜ TypedAnyPromise (tableIn text starts east north score) grid (indexIn order nodes entries bits) session rect (anyTold r) ⌝ }
 {
     AnyFound::of(finder::any_typed(
         text,
@@ -393,6 +420,7 @@ pub extern "C" fn krz_any_typed(
         order,
         nodes,
         entries,
+        bits,
         session,
         rect,
     ))
@@ -409,6 +437,7 @@ pub extern "C" fn krz_ranked_typed(
     order: &[u32],
     nodes: &[u32],
     entries: &[u32],
+    bits: &[u32],
     session: Session,
     place: Place,
     weight: u32,
@@ -416,7 +445,7 @@ pub extern "C" fn krz_ranked_typed(
     found: &mut [u32],
     values: &mut [u64],
 ) -> Found
-    ensures { λ r. ⌜ TypedRankedPromise (tableIn text starts east north score) grid (indexIn order nodes entries) session (rankingOf place weight k) (roomsIn found values) (foundsIn r found values) ⌝ }
+    ensures { λ r. ⌜ TypedRankedPromise (tableIn text starts east north score) grid (indexIn order nodes entries bits) session (rankingOf place weight k) (roomsIn found values) (foundsIn r found values) ⌝ }
 {
     Found::of_ranked(finder::ranked_typed(
         text,
@@ -428,6 +457,7 @@ pub extern "C" fn krz_ranked_typed(
         order,
         nodes,
         entries,
+        bits,
         session,
         Ranking { place, weight, k },
         found,
@@ -454,6 +484,7 @@ pub extern "C" fn krz_type(
     order: &[u32],
     nodes: &[u32],
     entries: &[u32],
+    bits: &[u32],
     session: &mut Session,
     byte: u8,
 ) -> u32
@@ -476,6 +507,7 @@ pub extern "C" fn krz_rub_out(
     order: &[u32],
     nodes: &[u32],
     entries: &[u32],
+    bits: &[u32],
     session: &mut Session,
 ) -> u32
     ensures { λ r. ⌜ Tells verdictNumber (λ v. RubPromise (given session) (after session) v) r ⌝ }

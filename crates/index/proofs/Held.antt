@@ -19,7 +19,7 @@ use Rattle.rules.specs.Tables.{Table, stands}
 use Rattle.rules.specs.Questions.{under, regionOfStand, inRegion}
 use Rattle.rules.specs.Indexes.{orderWords, occupied, regionsUnder, entryOf, ahead, entriesOf}
 use Rattle.meaning.proofs.Regions.{before, region-place}
-use Rattle.node.specs.Columns.{at, span, standsIn, heldAmong, regionsAmong, entryAmong, entriesAmong}
+use Rattle.node.specs.Columns.{at, span, standsIn, heldAmong, regionsAmong, bitsAmong, entryAmong, entriesAmong}
 use Rattle.node.specs.Visits.{placeAt, placesAt}
 use Rattle.words.specs.Over.{regionOrder, orderOf}
 use Rattle.words.proofs.Orders.{firsts, firsts-below}
@@ -58,8 +58,8 @@ module _ (g : Grid) (t : Table) where
     unfolding heldAmong
     held-here r = ap (λ (l : List ℕ). not (isEmpty l)) (stands-here r)
 
-    pub bits-here : (base : ℕ) → wordOf (heldAmong region (span i e)) base 32 ≡ wordOf (occupied t g p) base 32
-    bits-here base = word-same (heldAmong region (span i e)) (occupied t g p) base base 32 (λ k h. held-here (base + k))
+    pub bits-here : bitsAmong region (span i e) ≡ wordOf (occupied t g p) 0 64
+    bits-here = word-same (heldAmong region (span i e)) (occupied t g p) 0 0 64 (λ k h. held-here (0 + k))
 
     pub regions-here : regionsAmong region (span i e) ≡ regionsUnder t g p
     regions-here = keep-same (heldAmong region (span i e)) (occupied t g p) (upTo regions) (λ r u. held-here r)

@@ -2,6 +2,7 @@
 pub mod ByStand
 pub mod Blocks
 pub mod Numbers
+pub mod Trails
 pub mod Held
 pub mod Whole
 pub mod Answers

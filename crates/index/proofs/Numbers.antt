@@ -1,4 +1,4 @@
--- A node's number, its stands, its parent, its last byte and the end of its subtree: by the columns they are the definitions'.
+-- A node's stands, its last byte and the end of its subtree: by the columns they are the definitions'.
 -- Assumes nothing.
 use mathlib.Core.Path.{_≡_, refl, sym, ap, _∙_}
 use mathlib.Core.Logic.{⊎-elim}
@@ -10,6 +10,7 @@ use native.Mathlib.Numerals.{add-one}
 use native.Mathlib.Nat.{add-zero}
 use lib.Dec.{eqb}
 use lib.ListN.{length, take}
+use lib.Seq.{length-take-le}
 use borrow.Author.Tests.{lt-ltb, le-ltb, ne-eqb}
 use Rattle.base.specs.Lists.{upTo, firstOf}
 use Rattle.base.proofs.Tests.{le-or-lt}
@@ -18,20 +19,20 @@ use Rattle.base.proofs.Begins.{shared-le, shared-le-other, sharedLength-take}
 use Rattle.rules.specs.declared.Grid.{Grid}
 use Rattle.rules.specs.Tables.{Table, stands, nameOf, LawfulTable}
 use Rattle.rules.specs.Questions.{under}
-use Rattle.rules.specs.Indexes.{beginnings, numberIn, lastByte, butLast, pastOf}
+use Rattle.rules.specs.Indexes.{beginnings, numberIn, lastByte, pastOf}
 use Rattle.meaning.specs.Adding as added
 use Rattle.meaning.specs.Adding.{sharedAt}
 use Rattle.meaning.proofs.Tables.{under-all, under-run, past-root}
-use Rattle.meaning.proofs.Adding.{nodes-step, nodes-all, node-number, first-stand, past-stand, past-node, last-take, but-last-take}
+use Rattle.meaning.proofs.Adding.{nodes-step, nodes-all, node-number, first-stand, past-stand, past-node, last-take}
 use Rattle.node.specs.Columns.{at, endOf, span, grownOf}
-use Rattle.node.specs.Visits.{grownBefore, numberAt}
-use Rattle.node.specs.Rows.{lastOf, parentOf, pastNumber}
+use Rattle.node.specs.Visits.{grownBefore}
+use Rattle.node.specs.Rows.{lastOf, pastNumber}
 use Rattle.node.proofs.Ends.{span-none, grown-last}
 use Rattle.index.specs.Columns.{lengthsOf, sharedOf}
 use Rattle.index.proofs.ByStand.{shared-length, lengths-at, shared-at, name-byte, columns-lawful}
 use Rattle.index.proofs.Blocks.{Block, block, end-all}
 
-number-root : (t : Table) → numberIn [] (beginnings t) ≡ 0
+pub number-root : (t : Table) → numberIn [] (beginnings t) ≡ 0
 unfolding beginnings
 number-root t = refl
 
@@ -53,21 +54,6 @@ module _ (t : Table) (g : Grid) (l : LawfulTable t g) where
 
   nodes-same : (e : ℕ) → e ≤ stands t → added.nodesBefore t e ≡ grownBefore (lengthsOf t) (sharedOf t) e
   nodes-same e h = omega (arith, nodes-add 0 e (omega arith) h)
-
-  -- ---- numbers
-
-  number-same : (i k : ℕ) → i < stands t → k ≤ length (nameOf t i) → numberAt (lengthsOf t) (sharedOf t) i k ≡ numberIn (take k (nameOf t i)) (beginnings t)
-  number-same zero zero h u = sym (number-root t)
-  number-same zero (suc k) h u = sym (node-number t (l .ordered) 0 (suc k) h (omega arith) u ∙ omega arith)
-  number-same (suc i) k h u =
-      let c = shared-at t (suc i) h in
-      ⊎-elim
-      (λ (q : k ≤ at (sharedOf t) (suc i)).
-      rw (le-ltb (at (sharedOf t) (suc i)) k q, ← sharedLength-take (nameOf t i) (nameOf t (suc i)) k (omega arith))
-      (number-same i k (omega arith) (omega (arith, shared-le (nameOf t i) (nameOf t (suc i))))))
-      (λ (q : at (sharedOf t) (suc i) < k).
-      rw (lt-ltb (at (sharedOf t) (suc i)) k q) (omega (arith, node-number t (l .ordered) (suc i) k h (omega arith) u, nodes-same (suc i) (omega arith))))
-      (le-or-lt k (at (sharedOf t) (suc i)))
 
   -- ---- the stands under the node of stand i's first k bytes
 
@@ -104,7 +90,7 @@ module _ (t : Table) (g : Grid) (l : LawfulTable t g) where
 -- ---- one node: what is reckoned at stand i's first k bytes is what the definitions say of its text p
 
 pub record Meant (t : Table) (i k : ℕ) (p : List ℕ) : Type 0 where
-  pub parent : parentOf (lengthsOf t) (sharedOf t) i k ≡ numberIn (butLast p) (beginnings t)
+  pub size : k ≡ length p
   pub last : lastOf (t .text) (t .starts) i k ≡ lastByte p
   pub first : i ≡ firstOf (under t p)
   pub past : endOf (sharedOf t) i k ≡ firstOf (under t p) + length (under t p)
@@ -121,7 +107,7 @@ module _ (t : Table) (g : Grid) (l : LawfulTable t g) where
       let n : length (under t []) ≡ stands t = ap length (under-all t) ∙ length-from 0 (stands t) in
       let f : firstOf (under t []) ≡ 0 = ap firstOf (under-all t) ∙ first-of (stands t) in
       record {
-        parent = sym (number-root t);
+        size = refl;
         last = refl;
         first = sym f;
         past = omega (arith, e, n, f);
@@ -157,7 +143,7 @@ module _ (t : Table) (g : Grid) (l : LawfulTable t g) where
       let x : suc k - 1 ≡ k = omega arith in
       let some : eqb (suc k) 0 ≡ false = ne-eqb (suc k) 0 (λ r. omega arith) in
       record {
-        parent = rw (some, x, but-last-take (nameOf t i) k u) (number-same t g l i k h (omega arith));
+        size = sym (length-take-le (suc k) (nameOf t i) u);
         last = rw (some, x) (sym (last-take (nameOf t i) k u ∙ name-byte t g l i k h u));
         first = sym f;
         past = sym (e .0);

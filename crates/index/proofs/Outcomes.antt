@@ -1,5 +1,5 @@
 -- For the reader: no two outcomes satisfy what building or checking promises; checking accepts what building wrote, and building leaves
--- alone what checking accepts, with the same counts; an empty table has one node and no entry. Assumes nothing.
+-- alone what checking accepts, with the same counts; an empty table has one node, no entry and one bit record. Assumes nothing.
 use mathlib.Core.Path.{_≡_, sym, ap, _∙_}
 use mathlib.Core.Logic.{_⊎_, inl, inr}
 use mathlib.Core.Bool.{true, false, cond}
@@ -19,11 +19,12 @@ use Rattle.rules.specs.declared.Checked.{Checked}
 use Rattle.rules.specs.declared.Checked.the-variants as checked
 use Rattle.rules.specs.Numbers.{BuildTold, CheckTold, checkedNumbers}
 use Rattle.rules.specs.Tables.{Table, stands, tableRefusal}
-use Rattle.rules.specs.Indexes.{Index, orderWords, nodeWords, entryWords, nodeCount, entryCount, tooSmall, buildRefusal, buildTold, indexAfter, setLawful, checkTold}
+use Rattle.rules.specs.Indexes.{Index, indexOf, orderWords, nodeWords, entryWords, bitWords, nodeCount, entryCount, recordCount, tooSmall, buildRefusal, buildTold, indexAfter, setLawful, checkTold}
 use Rattle.rules.proofs.Lawful.{lawful}
 use Rattle.rules.proofs.Refusals.{first-none}
 use Rattle.rules.proofs.Numbers.{one-built, one-checked}
 use Rattle.meaning.proofs.Listing.{order-means}
+use Rattle.meaning.proofs.Records.{bit-words-length}
 use Rattle.meaning.proofs.Words.{nodes-length, entry-words-length}
 use Rattle.meaning.proofs.Sizes.{sizes-bounded}
 use Rattle.index.specs.Promises.{BuildPromise}
@@ -46,40 +47,42 @@ written-again words room h =
 
 module _ (t : Table) (g : Grid) (x : Index) where
   abbrev writtenAll : Index
-  writtenAll = record { order = written (orderWords t g) (x .order); nodes = written (nodeWords t g) (x .nodes); entries = written (entryWords t g) (x .entries) }
+  writtenAll = indexOf (written (orderWords t g) (x .order)) (written (nodeWords t g) (x .nodes)) (written (entryWords t g) (x .entries)) (written (bitWords t g) (x .bits))
 
   -- what an answer with counts says
-  record Succeeded (n e : ℕ) (y : Index) : Type 0 where
+  record Succeeded (n e b : ℕ) (y : Index) : Type 0 where
     pub table : tableRefusal t g ≡ 0
     pub nodes : n ≡ nodeCount t
     pub entries : e ≡ entryCount t g
+    pub records : b ≡ recordCount t g
     pub buffers : y ≡ writtenAll
 
-  succeeded : (n e : ℕ) (y : Index) → BuildPromise t g x (built.Index n e) y → Succeeded n e y
+  succeeded : (n e b : ℕ) (y : Index) → BuildPromise t g x (built.Index n e b) y → Succeeded n e b y
   unfolding buildTold indexAfter buildRefusal
-  succeeded n e y p = step (which (eqb (buildRefusal t g x) 0))
+  succeeded n e b y p = step (which (eqb (buildRefusal t g x) 0))
     where
-      step : (eqb (buildRefusal t g x) 0 ≡ true) ⊎ (eqb (buildRefusal t g x) 0 ≡ false) → Succeeded n e y
+      step : (eqb (buildRefusal t g x) 0 ≡ true) ⊎ (eqb (buildRefusal t g x) 0 ≡ false) → Succeeded n e b y
       step (inl q) =
           record {
             table = first-none (tableRefusal t g) (cond (tooSmall t g x) 6 0) (eqb-true (buildRefusal t g x) 0 q) .0;
             nodes = ap (λ (b : BuildTold). b .nodes) (rw q at (p .told));
             entries = ap (λ (b : BuildTold). b .entries) (rw q at (p .told));
+            records = ap (λ (b : BuildTold). b .bits) (rw q at (p .told));
             buffers = rw q at (p .buffers);
           }
       step (inr q) = let z : 0 ≡ buildRefusal t g x = ap (λ (b : BuildTold). b .refusal) (rw q at (p .told)) in never _ (eq-eqb (buildRefusal t g x) 0 (sym z)) q
 
   -- checking accepts what building wrote, with the same counts
-  pub build-then-check : (n e : ℕ) (y : Index) (r : Checked) → BuildPromise t g x (built.Index n e) y → checkedNumbers r ≡ checkTold t g y → r ≡ checked.Lawful n e
+  pub build-then-check : (n e b : ℕ) (y : Index) (r : Checked) → BuildPromise t g x (built.Index n e b) y → checkedNumbers r ≡ checkTold t g y → r ≡ checked.Lawful n e b
   unfolding checkTold setLawful
-  build-then-check n e y r p c =
-      let s = succeeded n e y p in
+  build-then-check n e b y r p c =
+      let s = succeeded n e b y p in
       let has : setLawful t g writtenAll ≡ true =
       every-of _ (
         eq-eqb (tableRefusal t g) 0 (s .table),
-        (begins-append (orderWords t g) _, (begins-append (nodeWords t g) _, (begins-append (entryWords t g) _, tt))),
+        (begins-append (orderWords t g) _, (begins-append (nodeWords t g) _, (begins-append (entryWords t g) _, (begins-append (bitWords t g) _, tt)))),
       ) in
-      one-checked r (checked.Lawful n e) (c ∙ rw (s .buffers, has, s .nodes, s .entries))
+      one-checked r (checked.Lawful n e b) (c ∙ rw (s .buffers, has, s .nodes, s .entries, s .records))
 
   -- ---- an index that was checked
 
@@ -91,6 +94,7 @@ module _ (t : Table) (g : Grid) (x : Index) where
       let order : begins (orderWords t g) (x .order) ≡ true = every-at _ 1 h in
       let nodes : begins (nodeWords t g) (x .nodes) ≡ true = every-at _ 2 h in
       let entries : begins (entryWords t g) (x .entries) ≡ true = every-at _ 3 h in
+      let bits : begins (bitWords t g) (x .bits) ≡ true = every-at _ 4 h in
       let l = lawful t g table in
       let none : buildRefusal t g x ≡ 0 =
       rw (
@@ -98,27 +102,29 @@ module _ (t : Table) (g : Grid) (x : Index) where
         le-ltb (length (x .order)) (stands t) (omega (arith, begins-length (orderWords t g) (x .order) order, order-means t g l .whole)),
         le-ltb (length (x .nodes)) (8 * nodeCount t) (omega (arith, begins-length (nodeWords t g) (x .nodes) nodes, nodes-length t g)),
         le-ltb (length (x .entries)) (4 * entryCount t g) (omega (arith, begins-length (entryWords t g) (x .entries) entries, entry-words-length t g)),
+        le-ltb (length (x .bits)) (2 * recordCount t g) (omega (arith, begins-length (bitWords t g) (x .bits) bits, bit-words-length t g)),
       ) in
-      (none, rw (eq-eqb (buildRefusal t g x) 0 none) (rw (written-again (orderWords t g) (x .order) order, written-again (nodeWords t g) (x .nodes) nodes, written-again (entryWords t g) (x .entries) entries)))
+      (none, rw (eq-eqb (buildRefusal t g x) 0 none) (rw (written-again (orderWords t g) (x .order) order, written-again (nodeWords t g) (x .nodes) nodes, written-again (entryWords t g) (x .entries) entries, written-again (bitWords t g) (x .bits) bits)))
 
   -- so building answers the same counts and leaves the buffers as they are
-  pub check-then-build : (n e : ℕ) (r : Built) (y : Index) → checkedNumbers (checked.Lawful n e) ≡ checkTold t g x → BuildPromise t g x r y
-      → (r ≡ built.Index n e) × (y ≡ x)
+  pub check-then-build : (n e b : ℕ) (r : Built) (y : Index) → checkedNumbers (checked.Lawful n e b) ≡ checkTold t g x → BuildPromise t g x r y
+      → (r ≡ built.Index n e b) × (y ≡ x)
   unfolding checkTold buildTold
-  check-then-build n e r y c p = step (which (setLawful t g x))
+  check-then-build n e b r y c p = step (which (setLawful t g x))
     where
-      step : (setLawful t g x ≡ true) ⊎ (setLawful t g x ≡ false) → (r ≡ built.Index n e) × (y ≡ x)
+      step : (setLawful t g x ≡ true) ⊎ (setLawful t g x ≡ false) → (r ≡ built.Index n e b) × (y ≡ x)
       step (inl q) =
           let s = lawful-stays q in
           let nodes : n ≡ nodeCount t = ap (λ (b : CheckTold). b .nodes) (rw q at c) in
           let entries : e ≡ entryCount t g = ap (λ (b : CheckTold). b .entries) (rw q at c) in
-          (one-built r (built.Index n e) (p .told ∙ rw (eq-eqb (buildRefusal t g x) 0 (s .0), nodes, entries)), p .buffers ∙ s .1)
+          let records : b ≡ recordCount t g = ap (λ (b : CheckTold). b .bits) (rw q at c) in
+          (one-built r (built.Index n e b) (p .told ∙ rw (eq-eqb (buildRefusal t g x) 0 (s .0), nodes, entries, records)), p .buffers ∙ s .1)
       step (inr q) = let z : _≡_ {A = ℕ} 1 0 = ap (λ (b : CheckTold). b .lawful) (rw q at c) in absurd (omega arith)
 
   -- ---- an empty table
 
-  pub build-empty : (n e : ℕ) (y : Index) → stands t ≡ 0 → BuildPromise t g x (built.Index n e) y → (n ≡ 1) × (e ≡ 0)
-  build-empty n e y z p =
-      let s = succeeded n e y p in
+  pub build-empty : (n e b : ℕ) (y : Index) → stands t ≡ 0 → BuildPromise t g x (built.Index n e b) y → (n ≡ 1) × (e ≡ 0) × (b ≡ 1)
+  build-empty n e b y z p =
+      let s = succeeded n e b y p in
       let m = sizes-bounded t g (lawful t g (s .table)) .lone z in
-      (s .nodes ∙ m .0, s .entries ∙ m .1)
+      (s .nodes ∙ m .0, s .entries ∙ m .1, s .records ∙ m .2)

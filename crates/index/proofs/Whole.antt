@@ -2,30 +2,37 @@
 -- Assumes nothing.
 use mathlib.Core.Path.{_≡_, refl, sym, ap, _∙_, subst, ap₂}
 use mathlib.Core.Logic.{_⊎_, inl, inr}
+use mathlib.Core.Bool.{cond, not}
 use mathlib.Core.List.{List, [], _∷_, _++_}
 use Prim.Native.Nat.{ℕ, suc, _+_, _-_, _<_}
 use native.Mathlib.Omega.{arith}
-use lib.ListN.{length, take, drop, getD}
-use Rattle.base.specs.Lists.{fromOn, upTo, each, eachList, total, In}
+use lib.ListN.{length, take, drop, getD, length-drop, drop-of-length-le}
+use lib.Seq.{drop-cons}
+use borrow.Table.Steps.{cases}
+use Rattle.base.specs.Lists.{fromOn, upTo, keep, each, eachList, total, In}
+use Rattle.base.specs.Bits.{wordOf}
 use Rattle.base.proofs.Members.{length-each, in-each, in-eachList, getD-each, getD-in, each-same, each-each, each-eachList, eachList-each, eachList-same, drop-head}
 use Rattle.base.proofs.Runs.{in-from}
-use Rattle.base.proofs.Sums.{total-suc}
 use Rattle.rules.specs.declared.Grid.{Grid}
 use Rattle.rules.specs.Tables.{Table, stands, nameOf, LawfulTable}
-use Rattle.rules.specs.Indexes.{newAt, beginnings, nodeCount, numberIn, regionsUnder, entriesOf, entryRow, nodeRow, nodeWords, entryWords, entryCount}
+use Rattle.rules.specs.Indexes.{newAt, beginnings, nodeCount, numberIn, occupied, regionsUnder, repeats, recordRow, keepers, bitWords, recordCount, entriesOf, entryRow, nodeRow, nodeWords, entryWords, entryCount}
 use Rattle.meaning.specs.Adding.{sharedAt}
+use Rattle.meaning.specs.Trees.{textOf}
 use Rattle.meaning.proofs.Tree.{number-at}
 use Rattle.meaning.proofs.Tables.{beginnings-tree}
 use Rattle.meaning.proofs.Adding.{new-takes}
+use Rattle.meaning.proofs.Records.{bit-words-length}
 use Rattle.meaning.proofs.Words.{entries-length}
 use Rattle.node.specs.Columns.{IndexColumns, at, endOf}
 use Rattle.node.specs.Visits.{Visit, newVisits}
-use Rattle.node.specs.Rows.{entriesAt, rowAt, rowOf}
-use Rattle.words.specs.Words.{rowsFrom, visitsOf, nodeCountOf, entryCountOf, nodeWordsOf, entryWordsOf}
-use Rattle.words.proofs.Walks.{visits-all, entries-held-at}
+use Rattle.node.specs.Rows.{bitsAt, entriesAt, rowAt}
+use Rattle.words.specs.Words.{Trail, rootTrail, servedAt, trailPast, rowOf, recordOf, rowsFrom, recordsFrom, visitsOf, nodeCountOf, entryCountOf, recordCountOf, nodeWordsOf, entryWordsOf, bitWordsOf}
+use Rattle.node.proofs.Gathering.{low-is, high-is}
+use Rattle.words.proofs.Walks.{visits-all, entries-held-at, records-length}
 use Rattle.index.specs.Columns.{lengthsOf, sharedOf, tableColumns}
 use Rattle.index.proofs.ByStand.{lengths-length, lengths-at, shared-at, columns-lawful}
 use Rattle.index.proofs.Numbers.{Meant, meant-root, meant-new}
+use Rattle.index.proofs.Trails.{Along, along-root, meantFor, number-above, served-meant, along-more}
 use Rattle.index.proofs.Held.{bits-here, entries-here}
 
 abbrev root : Visit
@@ -88,38 +95,74 @@ module _ (t : Table) (g : Grid) (l : LawfulTable t g) where
   pub entry-count : entryCountOf C ≡ entryCount t g
   entry-count = rw (← texts, each-each) (ap total (each-same _ _ (visitsOf C) (λ v u. sym (entries-held-at C v) ∙ ap length (entries-at v u))))
 
-  -- ---- the nodes
+  -- ---- the nodes and their records, with the trail of each
 
-  -- how many entries the nodes before node j have
-  counted : ℕ → ℕ
-  counted j = total (each (λ q. length (regionsUnder t g q)) (take j B))
+  -- the visit at place j is node j's
+  module _ (j : ℕ) (v : Visit) (vs : List Visit) (e : drop j (visitsOf C) ≡ v ∷ vs) where
+    abbrev p : List ℕ
+    p = textOf t j
 
-  row-at : (v : Visit) (j : ℕ) → In v (visitsOf C) → j < length B → getD B j [] ≡ textAt v → rowOf C j (counted j) v ≡ nodeRow t g j
-  unfolding rowAt counted
-  row-at v j u h e =
-      let m = meant v u in
-      let number : numberIn (textAt v) B ≡ j = ap (λ (q : List ℕ). numberIn q B) (sym e) ∙ number-at B (beginnings-tree t (l .ordered) .sorted) j h in
-      let bits = bits-here g t (textAt v) (v .stand) (endOf (sharedOf t) (v .stand) (v .length)) (m .after) (m .within) (m .run) in
-      let end = rw (number, e) at (m .end) in
-      rw e (cc (bits 0, bits 32))
+    met : (j < length (visitsOf C)) × (getD (visitsOf C) j root ≡ v) × (drop (suc j) (visitsOf C) ≡ vs)
+    met = drop-head root v (visitsOf C) vs j e
 
-  rows-from : (j : ℕ) (vs : List Visit) → drop j (visitsOf C) ≡ vs → rowsFrom C j (counted j) vs ≡ eachList (nodeRow t g) (fromOn j (length vs))
-  unfolding counted
-  rows-from j [] e = refl
-  rows-from j (v ∷ vs) e =
-      let d = drop-head root v (visitsOf C) vs j e in
-      let there : In v (visitsOf C) = subst (λ (x : Visit). In x (visitsOf C)) (d .1) (getD-in root (visitsOf C) j (d .0)) in
-      let text : getD B j [] ≡ textAt v = ap (λ (b : List (List ℕ)). getD b j []) (sym texts) ∙ getD-each textAt (visitsOf C) j root [] (d .0) ∙ ap textAt (d .1) in
-      let h : j < length B = omega (arith, node-count) in
-      let more : counted j + length (entriesAt C v) ≡ counted (suc j) =
-      omega (
-        arith,
-        ap length (entries-at v there) ∙ entries-length t g (textAt v),
-        total-suc (λ q. length (regionsUnder t g q)) [] B j h,
-        ap (λ (p : List ℕ). length (regionsUnder t g p)) text,
-      ) in
-      rw more (ap₂ _++_ (row-at v j there h text) (rows-from (suc j) vs (d .2)))
+    there : In v (visitsOf C)
+    there = subst (λ (x : Visit). In x (visitsOf C)) (met .1) (getD-in root (visitsOf C) j (met .0))
+
+    inside : j < nodeCount t
+    inside = omega (arith, met .0, node-count)
+
+    text : textAt v ≡ p
+    text = sym (ap (λ (b : List (List ℕ)). getD b j []) (sym texts) ∙ getD-each textAt (visitsOf C) j root [] (met .0) ∙ ap textAt (met .1))
+
+    here : Meant t (v .stand) (v .length) p
+    here = subst (Meant t (v .stand) (v .length)) text (meant v there)
+
+    bits : bitsAt C v ≡ wordOf (occupied t g p) 0 64
+    unfolding bitsAt
+    bits = bits-here g t p (v .stand) (endOf (sharedOf t) (v .stand) (v .length)) (here .after) (here .within) (here .run)
+
+    module _ (a : Trail) (s : Along t g l j a) where
+      further : suc j < nodeCount t → Along t g l (suc j) (trailPast C a v)
+      further =
+          along-more t g l j inside a s v (here .size) bits
+          (ap length (entries-at v there) ∙ entries-length t g (textAt v) ∙ ap (λ (q : List ℕ). length (regionsUnder t g q)) text)
+
+      served : servedAt C a v ≡ meantFor t g l p
+      served = served-meant t g l j inside a s v (here .size) bits
+
+      row-at : rowOf C a v ≡ nodeRow t g j
+      unfolding rowAt
+      row-at =
+          let m = here in
+          let number : numberIn p B ≡ j = number-at B (beginnings-tree t (l .ordered) .sorted) j inside in
+          let end = rw number at (m .end) in
+          let mark : 1 - cond (repeats t g p) 0 1 ≡ cond (repeats t g p) 1 0 = cases (repeats t g p) (λ q. rw q) (λ q. rw q) in
+          rw (number-above t g l j inside a s v (m .size) bits, served, s .number, s .entries, mark) (cc (m .last, m .first, m .past, end))
+
+      record-at : recordOf C a v ≡ cond (repeats t g p) [] (recordRow t g p)
+      record-at =
+          rw (served, bits)
+          (cases (repeats t g p) (λ q. rw q) (λ q. rw q (ap₂ (λ (x y : ℕ). x ∷ y ∷ []) (low-is _ (occupied t g p) refl) (high-is _ (occupied t g p) refl))))
+
+  rows-from : (j : ℕ) (a : Trail) (vs : List Visit) → (j < nodeCount t → Along t g l j a) → drop j (visitsOf C) ≡ vs → rowsFrom C a vs ≡ eachList (nodeRow t g) (fromOn j (length vs))
+  rows-from j a [] s e = refl
+  rows-from j a (v ∷ vs) s e =
+      let r = s (inside j v vs e) in
+      ap₂ _++_ (row-at j v vs e a r) (rows-from (suc j) (trailPast C a v) vs (further j v vs e a r) (met j v vs e .2))
 
   pub node-words : nodeWordsOf C ≡ nodeWords t g
-  unfolding counted
-  node-words = rows-from 0 (visitsOf C) refl ∙ ap (λ (n : ℕ). eachList (nodeRow t g) (upTo n)) node-count
+  node-words = rows-from 0 rootTrail (visitsOf C) (λ h. along-root t g l) refl ∙ ap (λ (n : ℕ). eachList (nodeRow t g) (upTo n)) node-count
+
+  records-from : (j : ℕ) (a : Trail) (vs : List Visit) → (j < nodeCount t → Along t g l j a) → drop j (visitsOf C) ≡ vs
+      → recordsFrom C a vs ≡ eachList (recordRow t g) (keep (λ q. not (repeats t g q)) (drop j B))
+  records-from j a [] s e = rw (drop-of-length-le B {i = j} (omega (arith, ap length e, length-drop j (visitsOf C), node-count)))
+  records-from j a (v ∷ vs) s e =
+      let r = s (inside j v vs e) in
+      let rest = records-from (suc j) (trailPast C a v) vs (further j v vs e a r) (met j v vs e .2) in
+      rw (record-at j v vs e a r, rest, drop-cons B j [] (inside j v vs e)) (cases (repeats t g (textOf t j)) (λ q. rw q) (λ q. rw q))
+
+  pub bit-words : bitWordsOf C ≡ bitWords t g
+  bit-words = records-from 0 rootTrail (visitsOf C) (λ h. along-root t g l) refl
+
+  pub record-count : recordCountOf C ≡ recordCount t g
+  record-count = omega (arith, ap length bit-words, records-length C rootTrail (visitsOf C), bit-words-length t g)

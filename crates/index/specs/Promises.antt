@@ -1,4 +1,4 @@
--- What building promises, of its answer and of the three buffers, on every input. What checking promises is one equation of the rules:
+-- What building promises, of its answer and of the four buffers, on every input. What checking promises is one equation of the rules:
 -- `checkedNumbers r ≡ checkTold t g x`.
 use mathlib.Core.Path.{_≡_}
 use mathlib.Core.List.{List}
@@ -11,8 +11,8 @@ use Rattle.rules.specs.Tables.{Table}
 use Rattle.rules.specs.Indexes.{Index, indexOf, buildTold, indexAfter}
 
 -- the buffers that a call leaves
-abbrev pub indexLeft : Lent (List ℕ) → Lent (List ℕ) → Lent (List ℕ) → Index
-indexLeft order nodes entries = indexOf (after order) (after nodes) (after entries)
+abbrev pub indexLeft : Lent (List ℕ) → Lent (List ℕ) → Lent (List ℕ) → Lent (List ℕ) → Index
+indexLeft order nodes entries bits = indexOf (after order) (after nodes) (after entries) (after bits)
 
 -- given the table t, the grid g and the buffers x, it answers r and leaves the buffers y
 pub record BuildPromise (t : Table) (g : Grid) (x : Index) (r : Built) (y : Index) : Type 0 where

@@ -1,4 +1,4 @@
-// The index of a table: building it into three lent buffers, and checking three buffers against it.
+// The index of a table: building it into four lent buffers, and checking four buffers against it.
 mod buffers;
 mod columns;
 
@@ -18,8 +18,8 @@ ghost use Rattle.rules.specs.Tables.{tableIn};
 ghost use Rattle.rules.specs.Indexes.{indexIn, checkTold};
 ghost use Rattle.index.specs.Promises.{BuildPromise, indexLeft};
 
-// Writes the index of a table to three buffers and answers how many nodes and entries it has; or the first of refusals 1 to 6, and the
-// buffers stay as they are.
+// Writes the index of a table to four buffers and answers how many nodes, entries and bit records it has; or the first of refusals 1 to 6,
+// and the buffers stay as they are.
 pub fn build(
     text: &[u8],
     starts: &[u32],
@@ -30,8 +30,9 @@ pub fn build(
     order: &mut [u32],
     nodes: &mut [u32],
     entries: &mut [u32],
+    bits: &mut [u32],
 ) -> Built
-    ensures { λ r. ⌜ BuildPromise (tableIn text starts east north score) grid (indexIn order nodes entries) r (indexLeft order nodes entries) ⌝ }
+    ensures { λ r. ⌜ BuildPromise (tableIn text starts east north score) grid (indexIn order nodes entries bits) r (indexLeft order nodes entries bits) ⌝ }
 {
     let verdict = table_refusal(text, starts, east, north, score, grid);
     if let Verdict::Refused(why) = verdict {
@@ -51,10 +52,11 @@ pub fn build(
         order,
         nodes,
         entries,
+        bits,
     )
 }
 
-// Whether table and grid pass refusals 1 to 5 and the three buffers begin with what building writes.
+// Whether table and grid pass refusals 1 to 5 and the four buffers begin with what building writes.
 pub fn check(
     text: &[u8],
     starts: &[u32],
@@ -65,8 +67,9 @@ pub fn check(
     order: &[u32],
     nodes: &[u32],
     entries: &[u32],
+    bits: &[u32],
 ) -> Checked
-    ensures { λ r. ⌜ checkedNumbers r ≡ checkTold (tableIn text starts east north score) grid (indexIn order nodes entries) ⌝ }
+    ensures { λ r. ⌜ checkedNumbers r ≡ checkTold (tableIn text starts east north score) grid (indexIn order nodes entries bits) ⌝ }
 {
     let verdict = table_refusal(text, starts, east, north, score, grid);
     let Verdict::Passed = verdict else {
@@ -86,5 +89,6 @@ pub fn check(
         order,
         nodes,
         entries,
+        bits,
     )
 }

@@ -77,16 +77,16 @@ module _ (t : Table) (g : Grid) (x : Index) (s : Session) where
       step (inr f) = text-refused (LawfulBoth t g x s) comesTo meant refused (foldedText (lettersOf s)) n whatever why f
 
   -- where its path leads is the listing of its letters, which a lawful session has folded
-  served : (at : Listing) (c : Child) → at ≡ listingAt (x .nodes) c → c ≡ reached s → LawfulBoth t g x s
+  served : (at : Listing) (c : Child) → at ≡ listingAt (x .nodes) (x .bits) c → c ≡ reached s → LawfulBoth t g x s
       → Listed (t .east) (t .north) (t .score) g (x .order) (x .entries) at t (foldedText (lettersOf s))
-  served at c e came l = rw (text-same (lettersOf s) (l .session .allowed)) (node-listed t g x (lettersOf s) at (e ∙ ap (listingAt (x .nodes)) (came ∙ lawful-reached t s (l .session))) (l .set))
+  served at c e came l = rw (text-same (lettersOf s) (l .session .allowed)) (node-listed t g x (lettersOf s) at (e ∙ ap (listingAt (x .nodes) (x .bits)) (came ∙ lawful-reached t s (l .session))) (l .set))
 
   module _ (r : Rect) (rooms : List (List ℕ)) where
     pub range-refused : (why : Refusal) → refusalNumber why ≡ lettersRefusal s → TypedRangePromise t g x s r rooms (refused (refusalNumber why) rooms)
     range-refused =
         refused-by (λ n list. rangeOutcome n list rooms) (rangeList t g (foldedText (lettersOf s)) r) (λ n. refused n rooms) (rectRefusal r) (λ n list some. settled-refused n _ _ _ _ _ some)
 
-    pub range-reached : (at : Listing) (c : Child) (o : Outcome) → lettersRefusal s ≡ 0 → at ≡ listingAt (x .nodes) c → c ≡ reached s
+    pub range-reached : (at : Listing) (c : Child) (o : Outcome) → lettersRefusal s ≡ 0 → at ≡ listingAt (x .nodes) (x .bits) c → c ≡ reached s
         → RangeFrom (t .east) (t .north) g (x .order) (x .entries) at r rooms o → TypedRangePromise t g x s r rooms o
     range-reached at c o fine e came w =
         from-kept _ (λ t′ q. Listed (t .east) (t .north) (t′ .score) g (x .order) (x .entries) at t′ q) (λ n list. rangeOutcome n list rooms) (λ t p. rangeList t g p r) (refused 7 rooms) o t (foldedText (lettersOf s))
@@ -96,7 +96,7 @@ module _ (t : Table) (g : Grid) (x : Index) (s : Session) where
     pub any-refused : (why : Refusal) → refusalNumber why ≡ lettersRefusal s → TypedAnyPromise t g x s r (refusingAny (refusalNumber why))
     any-refused = refused-by anyOutcome (rangeList t g (foldedText (lettersOf s)) r) refusingAny (rectRefusal r) outcomes.any-refused
 
-    pub any-reached : (at : Listing) (c : Child) (o : AnyTold) → lettersRefusal s ≡ 0 → at ≡ listingAt (x .nodes) c → c ≡ reached s
+    pub any-reached : (at : Listing) (c : Child) (o : AnyTold) → lettersRefusal s ≡ 0 → at ≡ listingAt (x .nodes) (x .bits) c → c ≡ reached s
         → AnyFrom (t .east) (t .north) g (x .order) (x .entries) at r o → TypedAnyPromise t g x s r o
     any-reached at c o fine e came w =
         from-kept _ (λ t′ q. Listed (t .east) (t .north) (t′ .score) g (x .order) (x .entries) at t′ q) anyOutcome (λ t p. rangeList t g p r) (refusingAny 7) o t (foldedText (lettersOf s))
@@ -107,7 +107,7 @@ module _ (t : Table) (g : Grid) (x : Index) (s : Session) where
     ranked-refused =
         refused-by (λ n hits. rankedOutcome n (q .k) hits rooms) (ranking t g (foldedText (lettersOf s)) q) (λ n. refused n rooms) (rankingRefusal g q) (λ n hits some. settled-refused n _ _ _ _ _ some)
 
-    pub ranked-reached : (at : Listing) (c : Child) (o : Outcome) → lettersRefusal s ≡ 0 → at ≡ listingAt (x .nodes) c → c ≡ reached s
+    pub ranked-reached : (at : Listing) (c : Child) (o : Outcome) → lettersRefusal s ≡ 0 → at ≡ listingAt (x .nodes) (x .bits) c → c ≡ reached s
         → RankedFrom (standColumns (t .east) (t .north) (t .score)) g (x .order) (x .entries) at q rooms o → TypedRankedPromise t g x s q rooms o
     ranked-reached at c o fine e came w =
         from-kept _ (Listed (t .east) (t .north) (t .score) g (x .order) (x .entries) at) (λ n hits. rankedOutcome n (q .k) hits rooms) (λ t p. ranking t g p q) (refused 7 rooms) o t (foldedText (lettersOf s))

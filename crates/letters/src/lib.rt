@@ -47,16 +47,17 @@ pub fn range_typed(
     order: &[u32],
     nodes: &[u32],
     entries: &[u32],
+    bits: &[u32],
     session: Session,
     rect: Rect,
     found: &mut [u32],
 ) -> RangeAnswer
-    ensures { λ a. ⌜ TypedRangePromise (tableIn text starts east north score) grid (indexIn order nodes entries) session rect (roomIn found) (rangeCameIn a found) ⌝ }
+    ensures { λ a. ⌜ TypedRangePromise (tableIn text starts east north score) grid (indexIn order nodes entries bits) session rect (roomIn found) (rangeCameIn a found) ⌝ }
 {
     if let Verdict::Refused(why) = letters_verdict(session) {
         return RangeAnswer::Refused { why, matches: 0 };
     }
-    let at = listing_at(nodes, reached(session));
+    let at = listing_at(nodes, bits, reached(session));
     range_from(east, north, grid, order, entries, at, rect, found)
 }
 
@@ -71,15 +72,16 @@ pub fn any_typed(
     order: &[u32],
     nodes: &[u32],
     entries: &[u32],
+    bits: &[u32],
     session: Session,
     rect: Rect,
 ) -> AnyAnswer
-    ensures { λ a. ⌜ TypedAnyPromise (tableIn text starts east north score) grid (indexIn order nodes entries) session rect (anyNumbers a) ⌝ }
+    ensures { λ a. ⌜ TypedAnyPromise (tableIn text starts east north score) grid (indexIn order nodes entries bits) session rect (anyNumbers a) ⌝ }
 {
     if let Verdict::Refused(why) = letters_verdict(session) {
         return AnyAnswer::Refused(why);
     }
-    let at = listing_at(nodes, reached(session));
+    let at = listing_at(nodes, bits, reached(session));
     any_from(east, north, grid, order, entries, at, rect)
 }
 
@@ -94,17 +96,18 @@ pub fn ranked_typed(
     order: &[u32],
     nodes: &[u32],
     entries: &[u32],
+    bits: &[u32],
     session: Session,
     asked: Ranking,
     found: &mut [u32],
     values: &mut [u64],
 ) -> RankedAnswer
-    ensures { λ r. ⌜ TypedRankedPromise (tableIn text starts east north score) grid (indexIn order nodes entries) session asked (roomsIn found values) (rankedCameIn r found values) ⌝ }
+    ensures { λ r. ⌜ TypedRankedPromise (tableIn text starts east north score) grid (indexIn order nodes entries bits) session asked (roomsIn found values) (rankedCameIn r found values) ⌝ }
 {
     if let Verdict::Refused(why) = letters_verdict(session) {
         return RankedAnswer::Refused(why);
     }
-    let at = listing_at(nodes, reached(session));
+    let at = listing_at(nodes, bits, reached(session));
     ranked_from(
         east,
         north,

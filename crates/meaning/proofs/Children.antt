@@ -168,12 +168,16 @@ module _ (B : List (List ℕ)) (t : Tree B) where
       let e = ap (λ k. take k (getD B c [])) l ∙ sym (begins-is-take (getD B j []) (getD B c []) (x .under)) in
       ap (λ p. numberIn p B) e ∙ number-at B (t .sorted) j lt
 
+  -- a text without its last byte is there too
+  pub parent-in : (q : List ℕ) → In q B → In (butLast q) B
+  parent-in q h = t .closed (butLast q) q h (take-begins (length q - 1) q)
+
   -- each node but the first is a child of its parent, which has a smaller number
   pub parent-child : (j : ℕ) → 0 < j → j < length B → Child B (numberIn (butLast (getD B j [])) B) j × (numberIn (butLast (getD B j [])) B < j)
   parent-child j h lt =
       let q = getD B j [] in
       let b = take-begins (length q - 1) q in
-      let at = number-in (butLast q) B (t .closed (butLast q) q (getD-in [] B j lt) b) in
+      let at = number-in (butLast q) B (parent-in q (getD-in [] B j lt)) in
       let long = some q (sorted-at B (t .sorted) 0 j h lt) in
       let size = length-take-le (length q - 1) q (omega arith) in
       let x : Child B (numberIn (butLast q) B) j = record { inside = lt; longer = rw (at .1) (omega (arith, size)); under = rw (at .1) b } in

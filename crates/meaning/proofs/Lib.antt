@@ -7,7 +7,10 @@ pub mod Tables
 pub mod Adding
 pub mod Walking
 pub mod Regions
+pub mod Records
 pub mod Words
+pub mod Keepers
+pub mod Few
 pub mod Sizes
 pub mod Listing
 pub mod Entries

@@ -3,27 +3,27 @@
 use mathlib.Core.Path.{_≡_, ap}
 use mathlib.Core.Logic.{inl, inr, ⊎-elim}
 use mathlib.Core.List.{List, []}
-use Prim.Native.Nat.{ℕ, _-_, _<_}
+use Prim.Native.Nat.{ℕ, _<_}
 use native.Mathlib.Omega.{arith}
 use lib.ListN.{length}
 use Rattle.base.specs.Lists.{In}
 use Rattle.base.proofs.Members.{getD-in}
-use Rattle.base.proofs.Begins.{take-begins}
 use Rattle.rules.specs.declared.Grid.{Grid}
 use Rattle.rules.specs.Tables.{Table, Ordered, tableRefusal}
-use Rattle.rules.specs.Indexes.{beginnings, nodeCount, butLast}
+use Rattle.rules.specs.Indexes.{beginnings, nodeCount}
 use Rattle.rules.specs.Sessions.{nodeOr0}
 use Rattle.rules.proofs.Lawful.{lawful}
 use Rattle.meaning.specs.Trees.{Tree, textOf}
 use Rattle.meaning.specs.Meaning.{StandUnder, BeginningsMean, NodeMeans, TableMeans}
 use Rattle.meaning.proofs.Tree.{sorted-once, number-in, number-at}
-use Rattle.meaning.proofs.Children.{subtree-in, subtree-only, way-child, child-way, child-bytes, child-parent, parent-child}
+use Rattle.meaning.proofs.Children.{subtree-in, subtree-only, way-child, child-way, child-bytes, child-parent, parent-in, parent-child}
 use Rattle.meaning.proofs.Tables.{beginnings-tree, beginnings-of, beginnings-from, root-first}
 use Rattle.meaning.proofs.Walking.{node-in, node-out}
 use Rattle.meaning.proofs.Sizes.{sizes-bounded, sizes-by-text}
 use Rattle.meaning.proofs.Listing.{under-means, order-means, range-means}
 use Rattle.meaning.proofs.Entries.{entries-mean}
 use Rattle.meaning.proofs.NodeWords.{row-means}
+use Rattle.meaning.proofs.Keepers.{records-mean}
 use Rattle.meaning.proofs.Ranking.{ranked-means}
 
 module _ (t : Table) (o : Ordered t) where
@@ -33,10 +33,6 @@ module _ (t : Table) (o : Ordered t) where
   tree : Tree B
   tree = beginnings-tree t o
 
-  -- the text without its last byte is there, since the tree has every beginning of its texts
-  shorter : (j : ℕ) → j < nodeCount t → In (butLast (textOf t j)) B
-  shorter j h = tree .closed (butLast (textOf t j)) (textOf t j) (getD-in [] B j h) (take-begins (length (textOf t j) - 1) (textOf t j))
-
   pub beginnings-mean : BeginningsMean t
   beginnings-mean =
       record {
@@ -45,7 +41,7 @@ module _ (t : Table) (o : Ordered t) where
         only = λ p h. ⊎-elim inl (λ s. inr (s .0, record { stand = s .1; named = s .2 })) (beginnings-from t p h);
         once = sorted-once B (tree .sorted);
         numbered = number-at B (tree .sorted);
-        parent = λ j h k. (shorter j k, parent-child B tree j h k .1);
+        parent = λ j h k. (parent-in B tree (textOf t j) (getD-in [] B j k), parent-child B tree j h k .1);
         subtree = λ j i h. subtree-in B (tree .sorted) j h i;
         unbroken = λ j i h. subtree-only B (tree .sorted) j h i;
         way = λ j c h. (way-child B tree j h c, child-way B tree j h c);
@@ -77,6 +73,7 @@ table-means t g e =
       order = order-means t g l;
       entries = entries-mean t g l;
       rows = row-means t g (l .ordered);
+      records = records-mean t g (l .ordered);
       range = range-means t g l;
       ranked = ranked-means t g;
       sizes = sizes-bounded t g l;

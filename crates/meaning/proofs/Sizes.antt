@@ -2,6 +2,7 @@
 -- so at most 24 nodes and 25 entries for each stand. Entries are counted against the pairs of a node and a stand under it, and those by
 -- stands. Assumes nothing.
 use mathlib.Core.Path.{_≡_, sym, ap, _∙_}
+use mathlib.Core.Logic.{⊎-elim}
 use mathlib.Core.Bool.{true, false}
 use mathlib.Core.List.{List}
 use Prim.Native.Nat.{ℕ, zero, suc, _+_, _-_, _*_, _≤_, _<_}
@@ -11,7 +12,7 @@ use native.Mathlib.Numerals.{add-one}
 use lib.ListN.{length, drop, length-drop}
 use lib.Seq.{length-take-le}
 use Rattle.base.specs.Lists.{upTo, keep, each, total, begins, In}
-use Rattle.base.proofs.Tests.{never}
+use Rattle.base.proofs.Tests.{never, le-or-lt}
 use Rattle.base.proofs.Members.{keep-in, length-each, in-each, each-append, some-length}
 use Rattle.base.proofs.Runs.{in-from, length-from, upTo-suc}
 use Rattle.base.proofs.Begins.{begins-length, begins-both}
@@ -31,7 +32,9 @@ use Rattle.meaning.specs.Trees.{Sorted}
 use Rattle.meaning.specs.Adding.{nodesBefore}
 use Rattle.meaning.specs.Meaning.{SizesBounded, SizesByText}
 use Rattle.meaning.proofs.Tables.{beginnings-tree, root-first, in-under}
+use Rattle.meaning.proofs.Few.{records-few, records-lone, records-bound}
 use Rattle.meaning.proofs.Words.{nodes-length, entries-counted, entry-words-length}
+use Rattle.meaning.proofs.Records.{bit-words-length}
 use Rattle.meaning.proofs.Adding.{nodes-step, nodes-all}
 use Rattle.meaning.proofs.Regions.{by-region-shuffle}
 
@@ -106,9 +109,13 @@ module _ (t : Table) (g : Grid) (l : LawfulTable t g) where
       record {
         node-words = nodes-length t g;
         entry-words = entry-words-length t g;
+        bit-words = bit-words-length t g;
         nodes = nodes;
         entries = entries;
+        records-few = records-few t g;
+        records = records-bound t g l;
         nodes-most = omega (arith, l .shaped .few);
         entries-most = omega (arith, l .shaped .few);
-        lone = λ e. (omega (arith, root-first t .0), omega arith);
+        records-most = ⊎-elim (λ (h : stands t ≤ 0). omega (arith, records-few t g)) (λ (h : 0 < stands t). omega (arith, records-bound t g l h, l .shaped .few)) (le-or-lt (stands t) 0);
+        lone = λ e. (omega (arith, root-first t .0), omega arith, records-lone t g e);
       }

@@ -12,10 +12,10 @@ use Rattle.rules.specs.declared.Grid.{Grid}
 use Rattle.rules.specs.declared.Rect.{Rect}
 use Rattle.rules.specs.declared.Ranking.{Ranking}
 use Rattle.rules.specs.declared.Hit.{Hit}
-use Rattle.rules.specs.Places.{inRect}
+use Rattle.rules.specs.Places.{regions, inRect}
 use Rattle.rules.specs.Tables.{Table, stands, nameOf, placeOf, scoreOf}
 use Rattle.rules.specs.Questions.{under, regionOfStand, inRegion, rangeList, hitOf, rankedList}
-use Rattle.rules.specs.Indexes.{orderWords, beginnings, nodeCount, numberIn, lastByte, butLast, pastOf, nodeWords, Entry, entriesOf, entryRow, entryWords, entryCount}
+use Rattle.rules.specs.Indexes.{orderWords, beginnings, nodeCount, numberIn, lastByte, butLast, pastOf, nodeWords, Entry, entriesOf, entryRow, entryWords, entryCount, bitWords, recordCount}
 use Rattle.rules.specs.Sessions.{nodeOr0}
 use Rattle.meaning.specs.Trees.{Child, OnWay, textOf}
 
@@ -123,6 +123,14 @@ pub record EntriesMean (t : Table) (g : Grid) (p : List ℕ) : Type 0 where
 abbrev pub RegionHeld : Table → Grid → List ℕ → ℕ → Type 0
 RegionHeld t g p r = (i : ℕ) × StandUnder t p i × (regionOfStand g t i ≡ r)
 
+-- the regions that hold a stand under p are those that hold one under q
+abbrev pub SameRegions : Table → Grid → List ℕ → List ℕ → Type 0
+SameRegions t g p q = (r : ℕ) → r < regions → (RegionHeld t g p r → RegionHeld t g q r) × (RegionHeld t g q r → RegionHeld t g p r)
+
+-- word k of bit record n
+abbrev pub recordWord : Table → Grid → ℕ → ℕ → ℕ
+recordWord t g n k = getD (bitWords t g) (n * 2 + k) 0
+
 -- of node j, where w 0 to w 7 are its words
 pub record RowMeans (t : Table) (g : Grid) (j : ℕ) (w : ℕ → ℕ) : Type 0 where
   -- parent and last byte: 0 for the root
@@ -135,14 +143,36 @@ pub record RowMeans (t : Table) (g : Grid) (j : ℕ) (w : ℕ → ℕ) : Type 0 
   -- the nodes whose text begins with the node's are those from it on, short of the number past the subtree
   pub nodes-in : (i : ℕ) → i < nodeCount t → begins (textOf t j) (textOf t i) ≡ true → (j ≤ i) × (i < w 4)
   pub nodes-only : (i : ℕ) → j ≤ i → i < w 4 → (i < nodeCount t) × (begins (textOf t j) (textOf t i) ≡ true)
-  -- bit r is 1 exactly if region r, or region 32 + r, holds a stand under the node
-  pub low-held : (r : ℕ) → r < 32 → bitAt (w 5) r ≡ true → RegionHeld t g (textOf t j) r
-  pub held-low : (r : ℕ) → r < 32 → RegionHeld t g (textOf t j) r → bitAt (w 5) r ≡ true
-  pub high-held : (r : ℕ) → r < 32 → bitAt (w 6) r ≡ true → RegionHeld t g (textOf t j) (32 + r)
-  pub held-high : (r : ℕ) → r < 32 → RegionHeld t g (textOf t j) (32 + r) → bitAt (w 6) r ≡ true
+  -- its bit record is one of those there are
+  pub recorded : w 5 < recordCount t g
+  -- and bit r of the record's two words is 1 exactly if region r, or region 32 + r, holds a stand under the node
+  pub low-held : (r : ℕ) → r < 32 → bitAt (recordWord t g (w 5) 0) r ≡ true → RegionHeld t g (textOf t j) r
+  pub held-low : (r : ℕ) → r < 32 → RegionHeld t g (textOf t j) r → bitAt (recordWord t g (w 5) 0) r ≡ true
+  pub high-held : (r : ℕ) → r < 32 → bitAt (recordWord t g (w 5) 1) r ≡ true → RegionHeld t g (textOf t j) (32 + r)
+  pub held-high : (r : ℕ) → r < 32 → RegionHeld t g (textOf t j) (32 + r) → bitAt (recordWord t g (w 5) 1) r ≡ true
+  -- the mark is 1 or 0, and 1 exactly if the node is not the root and its regions are its parent's
+  pub marked : (w 6 ≡ 0) ⊎ (w 6 ≡ 1)
+  pub repeated : w 6 ≡ 1 → (0 < j) × SameRegions t g (textOf t (w 0)) (textOf t j)
+  pub repeating : 0 < j → SameRegions t g (textOf t (w 0)) (textOf t j) → w 6 ≡ 1
   -- the node's entries stand in the entry words from the number of its first entry on, four words each
   pub entries : (e k : ℕ) → e < length (entriesOf t g (textOf t j)) → k < 4
       → getD (entryWords t g) ((w 7 + e) * 4 + k) 0 ≡ getD (entryRow (entryAt t g (textOf t j) e)) k 0
+
+-- ---- the bit records
+
+-- word k of node j
+abbrev pub wordAt : Table → Grid → ℕ → ℕ → ℕ
+wordAt t g j k = getD (nodeWords t g) (j * 8 + k) 0
+
+pub record RecordsMean (t : Table) (g : Grid) : Type 0 where
+  -- the root keeps the first
+  pub root : (wordAt t g 0 5 ≡ 0) × (wordAt t g 0 6 ≡ 0)
+  -- a node with its parent's regions is served by its parent's record
+  pub parents : (j : ℕ) → j < nodeCount t → wordAt t g j 6 ≡ 1 → wordAt t g j 5 ≡ wordAt t g (wordAt t g j 0) 5
+  -- of two other nodes the earlier has the earlier record, so that no two of them have one record
+  pub inTurn : (j k : ℕ) → j < k → k < nodeCount t → wordAt t g j 6 ≡ 0 → wordAt t g k 6 ≡ 0 → wordAt t g j 5 < wordAt t g k 5
+  -- and each record is one's of them
+  pub used : (n : ℕ) → n < recordCount t g → (j : ℕ) × (j < nodeCount t) × (wordAt t g j 6 ≡ 0) × (wordAt t g j 5 ≡ n)
 
 -- ---- a ranked answer
 
@@ -171,18 +201,24 @@ pub record RankedMeans (t : Table) (g : Grid) (p : List ℕ) (q : Ranking) : Typ
 -- ---- how large an index gets
 
 pub record SizesBounded (t : Table) (g : Grid) : Type 0 where
-  -- eight words for a node, four for an entry
+  -- eight words for a node, four for an entry, two for a bit record
   pub node-words : length (nodeWords t g) ≡ nodeCount t * 8
   pub entry-words : length (entryWords t g) ≡ entryCount t g * 4
+  pub bit-words : length (bitWords t g) ≡ recordCount t g * 2
   -- a root, and for each stand at most a node for each byte of its name
   pub nodes : nodeCount t ≤ 24 * stands t + 1
   -- each node has at most an entry for each stand under it, and a stand is under at most 25 nodes
   pub entries : entryCount t g ≤ 25 * stands t
+  -- no more bit records than nodes
+  pub records-few : recordCount t g ≤ nodeCount t
+  -- nor than two for each stand: a node with fewer stands than its parent ends or begins next to one that is only its parent's
+  pub records : 0 < stands t → recordCount t g < 2 * stands t
   -- for 1,024 stands
   pub nodes-most : nodeCount t ≤ 24577
   pub entries-most : entryCount t g ≤ 25600
-  -- and for none there is the root, without an entry
-  pub lone : stands t ≡ 0 → (nodeCount t ≡ 1) × (entryCount t g ≡ 0)
+  pub records-most : recordCount t g ≤ 2047
+  -- and for none there is the root, without an entry, and its record
+  pub lone : stands t ≡ 0 → (nodeCount t ≡ 1) × (entryCount t g ≡ 0) × (recordCount t g ≡ 1)
 
 -- the same by the bytes of the text, so that a caller with short names needs less room
 pub record SizesByText (t : Table) (g : Grid) : Type 0 where
@@ -200,7 +236,8 @@ pub record TableMeans (t : Table) (g : Grid) : Type 0 where
   pub order : OrderMeans t g
   pub entries : (p : List ℕ) → EntriesMean t g p
   -- a node's words stand at eight times its number
-  pub rows : (j : ℕ) → j < nodeCount t → RowMeans t g j (λ k. getD (nodeWords t g) (j * 8 + k) 0)
+  pub rows : (j : ℕ) → j < nodeCount t → RowMeans t g j (wordAt t g j)
+  pub records : RecordsMean t g
   pub range : (p : List ℕ) (r : Rect) → RangeMeans t g p r
   pub ranked : (p : List ℕ) (q : Ranking) → RankedMeans t g p q
   pub sizes : SizesBounded t g

@@ -7,11 +7,9 @@ use mathlib.Core.List.{List, [], _∷_}
 use Prim.Native.Nat.{ℕ, suc, _+_, _-_, _*_, _/_, _%_, _^_, _≤_, _<_}
 use native.Mathlib.Omega.{arith}
 use native.Mathlib.Nat.{zero-add, add-comm}
-use lib.Dec.{eqb}
 use lib.ListN.{length, List·getD-eq-default}
 use lib.Pow.{low, high}
-use borrow.Table.Steps.{cases}
-use borrow.Author.Tests.{eqb-false}
+use borrow.Author.Tests.{eq-eqb, ne-eqb}
 use Rattle.base.specs.Lists.{upTo, keep, each, sortBy, In}
 use Rattle.base.specs.Bits.{wordOf, bitAt}
 use Rattle.rules.specs.Places.{regions}
@@ -22,9 +20,10 @@ use Rattle.base.proofs.Runs.{in-from}
 use Rattle.base.proofs.Words.{bit-asks, word-split, word-less}
 use Rattle.base.proofs.Sorts.{each-sort, length-sort}
 use Rattle.node.specs.declared.cursor.Cursor.{Cursor}
+use Rattle.node.specs.declared.records.Served.{Served}
 use Rattle.node.specs.Columns.{at, Grows, Spelt, Ends, endOf, span, grownOf, heldAmong, regionsAmong, bitsAmong, entryAmong, entriesAmong, entryFrom, entriesFrom, byBest, Tallied, Ranks}
-use Rattle.node.specs.Visits.{On, Ways}
-use Rattle.node.specs.Rows.{lastOf, aboveIn, parentOf, pastNumber, rowWith, Gathers}
+use Rattle.node.specs.Visits.{On, keptIn}
+use Rattle.node.specs.Rows.{lastOf, pastNumber, rowWith, Gathers}
 use Rattle.node.proofs.Ends.{length-short, end-from, end-after}
 use Rattle.node.proofs.Placing.{regions-are}
 
@@ -94,6 +93,22 @@ module _ (bits : ℕ) (test : ℕ → Bool) (e : bits ≡ wordOf test 0 64) wher
   pub high-is : bits / 4294967296 ≡ wordOf test 32 32
   high-is = ap (λ (x : ℕ). x / 4294967296) halves ∙ high (wordOf test 32 32) 32 (word-less test 0 32)
 
+-- ---- its record
+
+module _ (regions : List ℕ) (l bits : ℕ) where
+  pub root-keeps : l ≡ 0 → 1 ≡ keptIn regions l bits
+  unfolding keptIn
+  root-keeps e = rw (eq-eqb l 0 e)
+
+  module _ (some : l ≡ 0 → ⊥) where
+    pub repeats-above : at regions (l - 1) ≡ bits → 0 ≡ keptIn regions l bits
+    unfolding keptIn
+    repeats-above e = rw (ne-eqb l 0 some, eq-eqb (at regions (l - 1)) bits e)
+
+    pub differs-above : (at regions (l - 1) ≡ bits → ⊥) → 1 ≡ keptIn regions l bits
+    unfolding keptIn
+    differs-above n = rw (ne-eqb l 0 some, ne-eqb (at regions (l - 1)) bits n)
+
 -- ---- its row
 
 module _ (lengths shared : List ℕ) (g : Grows lengths shared) where
@@ -119,14 +134,10 @@ module _ (lengths shared : List ℕ) (g : Grows lengths shared) where
         (λ (q : c .stand .0 < length lengths). (omega (arith, w .begun), omega (arith, w .inside (c .stand .0) q, o .long)))
         (le-or-lt (length lengths) (c .stand .0))
 
-    pub parent-is : (path : List ℕ) → Ways lengths shared path (c .stand .0) (c .length)
-        → aboveIn path (c .length) ≡ parentOf lengths shared (c .stand .0) (c .length)
-    parent-is path w = cases (eqb (c .length) 0) (λ q. rw q) (λ q. let n = eqb-false (c .length) 0 q in rw q (w (c .length - 1) (omega arith)))
-
   pub past-after : (i l e : ℕ) → e ≡ endOf shared i l → (i ≤ e) × (i < length lengths → i < e)
   past-after i l e q = (omega (arith, end-from shared i l), λ h. omega (arith, end-after shared i l (omega (arith, g .same))))
 
-pub row-is : (text starts lengths shared : List ℕ) (j n i l e low high above last past low′ high′ : ℕ)
-    → above ≡ parentOf lengths shared i l → last ≡ lastOf text starts i l → past ≡ pastNumber lengths shared i l e j → low′ ≡ low → high′ ≡ high
-    → above ∷ last ∷ i ∷ e ∷ past ∷ low′ ∷ high′ ∷ n ∷ [] ≡ rowWith text starts lengths shared j n i l e low high
-row-is text starts lengths shared j n i l e low high above last past low′ high′ a b c d f = rw (a, b, c, d, f)
+pub row-is : (text starts lengths shared : List ℕ) (j n i l e above last past above′ : ℕ) (s : Served)
+    → above′ ≡ above → last ≡ lastOf text starts i l → past ≡ pastNumber lengths shared i l e j
+    → above′ ∷ last ∷ i ∷ e ∷ past ∷ s .number ∷ (1 - s .kept) ∷ n ∷ [] ≡ rowWith text starts lengths shared above j n i l e s
+row-is text starts lengths shared j n i l e above last past above′ s a b c = rw (a, b, c)

@@ -13,16 +13,10 @@ use borrow.Author.Tests.{lt-ltb, le-ltb, eqb-true, eqb-false}
 use Rattle.base.proofs.Tests.{le-or-lt}
 use Rattle.node.specs.Columns.{at, Grows, grownOf}
 use Rattle.node.specs.declared.cursor.Cursor.{Cursor}
-use Rattle.node.specs.Visits.{visitsFrom, grownBefore, numberAt, placesAt, On, Ways, Stepped, Advanced}
+use Rattle.node.specs.Visits.{visitsFrom, grownBefore, On, Stepped}
 use Rattle.node.proofs.Ends.{length-short, grown-last}
 
 module _ (lengths shared : List ℕ) where
-  -- a node's number, by what a cursor at it has counted
-  pub number-at : (i l n : ℕ) → (0 < i → at shared i < l) → at shared 0 ≡ 0 → n + suc (at shared i) ≡ grownBefore lengths shared i + l → n ≡ numberAt lengths shared i l
-  unfolding grownOf
-  number-at zero l n new z e = omega (arith, e, z)
-  number-at (suc i) l n new z e = let lt = new (omega arith) in rw (lt-ltb (at shared (suc i)) l lt) (omega (arith, e))
-
   visits-next : (i l : ℕ) → i < length lengths → l ≡ suc (at lengths i) → visitsFrom lengths shared (suc i) (suc (at shared (suc i))) ≡ visitsFrom lengths shared i l
   unfolding visitsFrom
   visits-next i l h e =
@@ -50,19 +44,18 @@ module _ (lengths shared : List ℕ) where
   unfolding visitsFrom
   visits-first i l h = let t : suc (at lengths i) - l ≡ suc (suc (at lengths i) - suc l) = omega arith in rw t
 
--- on the way from stand i₀ and length l₀ to the next node: at stand i, of which lengths below l are passed
-pub record Here (lengths shared : List ℕ) (i₀ l₀ number i l : ℕ) : Type 0 where
+-- on the way to the next node: at stand i, of which lengths below l are passed
+pub record Here (lengths shared : List ℕ) (number i l : ℕ) : Type 0 where
   pub short : l ≤ suc (at lengths i)
   pub new : at shared i < l
   pub count : number + suc (at shared i) ≡ grownBefore lengths shared i + l
-  pub above : (k : ℕ) → k < l → (k < l₀) × (numberAt lengths shared i k ≡ numberAt lengths shared i₀ k)
 
 pub record Stepping (lengths shared : List ℕ) (i₀ l₀ number i l : ℕ) : Type 0 where
   pub after : i₀ ≤ i
   pub within : i ≤ length lengths
   pub some : 0 < l
   pub visits : visitsFrom lengths shared i l ≡ visitsFrom lengths shared i₀ l₀
-  pub here : i < length lengths → Here lengths shared i₀ l₀ number i l
+  pub here : i < length lengths → Here lengths shared number i l
 
 module _ (lengths shared : List ℕ) (g : Grows lengths shared) where
   pub stepping : (c : Cursor) → On lengths shared c → Stepping lengths shared (c .stand .0) (c .length + 1) (c .number .0 + 1) (c .stand .0) (c .length + 1)
@@ -72,7 +65,7 @@ module _ (lengths shared : List ℕ) (g : Grows lengths shared) where
         within = o .within;
         some = omega arith;
         visits = refl;
-        here = λ h. record { short = omega (arith, o .long); new = new (c .stand .0) (o .new); count = omega (arith, o .count); above = λ k lt. (lt, refl) };
+        here = λ h. record { short = omega (arith, o .long); new = new (c .stand .0) (o .new); count = omega (arith, o .count) };
       }
     where
       new : (i : ℕ) → (0 < i → at shared i < c .length) → at shared i < c .length + 1
@@ -97,42 +90,19 @@ module _ (lengths shared : List ℕ) (g : Grows lengths shared) where
             short = omega (arith, e, g .part (i + 1) k);
             new = omega (arith, e);
             count = omega (arith, p .count, grown-last lengths shared 0 i (omega arith), g .part i h, e);
-            above = λ x u.
-                let low : x ≤ at shared (suc i) = omega (arith, e′) in
-                let q = p .above x (omega (arith, g .before i (omega arith))) in
-                (q .0, rw (add-one i) (rw (le-ltb (at shared (suc i)) x low) (q .1)));
           };
         }
 
-  pub stepped : (c : Cursor) (held i l : ℕ) → Stepping lengths shared (c .stand .0) (c .length + 1) (c .number .0 + 1) i l → (i < length lengths → l ≤ at lengths i)
-      → Stepped lengths shared c held (record { stand = record { 0 = i }; length = l; number = record { 0 = c .number .0 + 1 }; entries = c .entries + held })
-  stepped c held i l s f =
+  pub stepped : (c : Cursor) (held kept i l : ℕ) → Stepping lengths shared (c .stand .0) (c .length + 1) (c .number .0 + 1) i l → (i < length lengths → l ≤ at lengths i)
+      → Stepped lengths shared c held kept (record { stand = record { 0 = i }; length = l; number = record { 0 = c .number .0 + 1 }; entries = c .entries + held; records = c .records + kept })
+  stepped c held kept i l s f =
       record {
         visits = s .visits ∙ ap (visitsFrom lengths shared (c .stand .0)) (add-one (c .length));
         number = add-one (c .number .0);
         entries = refl;
+        records = refl;
         after = s .after;
         within = s .within;
         some = s .some;
         on = λ h. let p = s .here h in record { within = s .within; long = f h; new = λ _. p .new; count = p .count };
-        ways = λ path old h k lt. let q = s .here h .above k lt in old k (omega (arith, q .0)) ∙ sym (q .1);
       }
-
-  -- the path with the cursor's own number
-  ways-more : (c : Cursor) (path : List ℕ) (above : ℕ) → On lengths shared c → Ways lengths shared path (c .stand .0) (c .length) → length path ≡ 25 → above ≡ c .length
-      → Ways lengths shared (set path above (c .number .0)) (c .stand .0) (suc (c .length))
-  ways-more c path above o old size e k lt =
-      cases (eqb k (c .length))
-      (λ q.
-      let w = eqb-true k (c .length) q in
-      ap (at (set path above (c .number .0))) (w ∙ sym e)
-      ∙ getD-set-same path above (c .number .0) 0 (omega (arith, o .long, length-short lengths shared g (c .stand .0)))
-      ∙ number-at lengths shared (c .stand .0) (c .length) (c .number .0) (o .new) (g .first) (o .count)
-      ∙ ap (numberAt lengths shared (c .stand .0)) (sym w))
-      (λ q. let w = eqb-false k (c .length) q in getD-set-other path above k (c .number .0) 0 (λ v. w (v ∙ e)) ∙ old k (omega arith))
-
-  pub advanced : (region next path : List ℕ) (c : Cursor) (held above : ℕ) (r : Cursor) → On lengths shared c → Ways lengths shared path (c .stand .0) (c .length)
-      → length path ≡ 25 → above ≡ c .length
-      → Stepped lengths shared c held r → next ≡ placesAt region (r .stand .0) → Advanced lengths shared region c held next (set path above (c .number .0)) r
-  advanced region next path c held above r o old size e t p =
-      record { stepped = t; places = p; ways = t .ways (set path above (c .number .0)) (ways-more c path above o old size e); size = length-set path above (c .number .0) ∙ size }

@@ -6,28 +6,30 @@ use lib.ListN.{length}
 use Rattle.node.specs.declared.cursor.Cursor.{Cursor}
 use Rattle.node.specs.declared.Gathered.{Gathered}
 use Rattle.node.specs.Columns.{at, Grows, Placed, Spelt, Sized, InColumn, endOf, Ranks}
-use Rattle.node.specs.Visits.{placesAt, On, Ways}
+use Rattle.node.specs.declared.records.Served.{Served}
+use Rattle.node.specs.Visits.{placesAt, On, Above, Long}
 
 -- ---- the cursor
 
-pub record StepAsks (lengths shared : List ℕ) (c : Cursor) (held : ℕ) : Type 0 where
+pub record StepAsks (lengths shared : List ℕ) (c : Cursor) (held kept : ℕ) : Type 0 where
   pub grows : Grows lengths shared
   pub on : On lengths shared c
   pub low : c .number .0 < 100000
   pub fits : c .entries + held < 4294967296
+  pub records-fit : c .records + kept < 4294967296
 
 pub record PassAsks (region next : List ℕ) (from to : ℕ) : Type 0 where
   pub placed : Placed region
   pub run : InColumn region from to
   pub places : next ≡ placesAt region from
 
-pub record AdvanceAsks (lengths shared region : List ℕ) (c : Cursor) (held : ℕ) (next path : List ℕ) : Type 0 where
-  pub step : StepAsks lengths shared c held
+pub record AdvanceAsks (lengths shared region : List ℕ) (c : Cursor) (g : Gathered) (s : Served) (next : List ℕ) (above : Above) : Type 0 where
+  pub step : StepAsks lengths shared c (g .held) (s .kept)
+  pub held : g .held ≤ 64
   pub placed : Placed region
   pub same : length region ≡ length lengths
   pub places : next ≡ placesAt region (c .stand .0)
-  pub ways : Ways lengths shared path (c .stand .0) (c .length)
-  pub size : length path ≡ 25
+  pub long : Long above
 
 -- ---- what lies under its node
 
@@ -71,11 +73,12 @@ pub record PastAsks (lengths shared : List ℕ) (i l e j : ℕ) : Type 0 where
   pub long : l ≤ at lengths i
   pub some : i < length lengths → i < e
 
-pub record RowAsks (text starts lengths shared path : List ℕ) (c : Cursor) (g : Gathered) : Type 0 where
+pub record RowAsks (text starts lengths shared path : List ℕ) (c : Cursor) (e : ℕ) (s : Served) : Type 0 where
   pub grows : Grows lengths shared
   pub spelt : Spelt text starts lengths
   pub on : On lengths shared c
   pub low : c .number .0 < 100000
-  pub ways : Ways lengths shared path (c .stand .0) (c .length)
-  pub past : g .past .0 ≡ endOf shared (c .stand .0) (c .length)
-  pub within : g .past .0 ≤ length lengths
+  pub size : length path ≡ 25
+  pub past : e ≡ endOf shared (c .stand .0) (c .length)
+  pub within : e ≤ length lengths
+  pub one : s .kept ≤ 1

@@ -1,11 +1,13 @@
 // One node of the index, reckoned from a table's columns: what lies under it, gathered and ranked, and its row of words.
-// `cursor` goes from node to node. The work for a node grows with its stands and its entries.
+// `cursor` goes from node to node, `records` says whose bits serve one. The work for a node grows with its stands and its entries.
 pub mod cursor;
 pub mod ranks;
+pub mod records;
 pub mod tally;
 
 use cursor::Cursor;
 use ranks::ranks;
+use records::Served;
 use rules::Grid;
 use rules::Node;
 use rules::Session;
@@ -20,14 +22,18 @@ use tally::word;
 ghost use mathlib.Core.Path.{_≡_};
 ghost use Prim.Native.Nat.{_≤_};
 ghost use Rattle.base.specs.Lent.{given, after};
-ghost use Rattle.node.specs.Rows.{lastOf, aboveIn, pastNumber, Gathers, LowHalf, HighHalf, Rowed};
+ghost use Rattle.node.specs.Rows.{lastOf, pastNumber, Gathers, Rowed};
+ghost use Rattle.node.specs.Visits.{aboveIn};
 ghost use Rattle.node.specs.Asks.{GatherAsks, LastAsks, PastAsks, RowAsks};
 
 // A number for each region.
 pub type Slots = [u32; Grid::REGIONS];
 
-// The number of a node for each length of text.
+// Of the node above at each length of text its number, or its bit record.
 pub type Path = [u32; Session::PATH];
+
+// And its regions, as bits.
+pub type RegionPath = [u64; Session::PATH];
 
 // The stand past a node's last, its regions as bits, and how many regions and so entries it has.
 pub struct Gathered {
@@ -69,15 +75,15 @@ fn last_byte(text: &[u8], starts: &[u32], stand: Stand, length: u8) -> u32
     word(text[at])
 }
 
-// The parent of a node, 0 for the root.
-fn parent(path: &Path, length: u8) -> Node
+// What the path has of a node's parent, 0 for the root.
+fn above(path: &Path, length: u8) -> u32
     requires { ⌜ length ≤ 24 ⌝ }
-    ensures { λ r. ⌜ r .0 ≡ aboveIn (given path) length ⌝ }
+    ensures { λ r. ⌜ r ≡ aboveIn (given path) length ⌝ }
 {
     if length == 0 {
-        return Node(0);
+        return 0;
     }
-    Node(path[wide(length - 1)])
+    path[wide(length - 1)]
 }
 
 // The number past a node's subtree.
@@ -98,20 +104,7 @@ fn past_number(
     Node(number.0 + old + 1 + grew - less)
 }
 
-// The bits of regions 0 to 31, and of 32 to 63.
-fn low_word(bits: u64) -> u32
-    ensures { λ r. ⌜ LowHalf bits r ⌝ }
-{
-    (bits % 4294967296) as u32
-}
-
-fn high_word(bits: u64) -> u32
-    ensures { λ r. ⌜ HighHalf bits r ⌝ }
-{
-    (bits / 4294967296) as u32
-}
-
-// The words of the cursor's node, of which this was gathered, in the order of rules::layout.
+// The words of the cursor's node, whose stands end here and which is served so, in the order of rules::layout.
 pub fn row(
     text: &[u8],
     starts: &[u32],
@@ -119,27 +112,25 @@ pub fn row(
     shared: &[u8],
     path: &Path,
     cursor: Cursor,
-    gathered: Gathered,
+    past: Stand,
+    served: Served,
 ) -> [u32; NODE_WORDS]
-    requires { ⌜ RowAsks (now text) (now starts) (now lengths) (now shared) (now path) cursor gathered ⌝ }
-    ensures { λ r. ⌜ Rowed (given text) (given starts) (given lengths) (given shared) cursor gathered r ⌝ }
+    requires { ⌜ RowAsks (now text) (now starts) (now lengths) (now shared) (now path) cursor (past .0) served ⌝ }
+    ensures { λ r. ⌜ Rowed (given text) (given starts) (given lengths) (given shared) (given path) cursor (past .0) served r ⌝ }
 {
     let stand = cursor.stand;
     let length = cursor.length;
-    let past = gathered.past;
-    let parent = parent(path, length);
+    let parent = above(path, length);
     let last_byte = last_byte(text, starts, stand, length);
     let past_node = past_number(lengths, shared, stand, length, past, cursor.number);
-    let low_regions = low_word(gathered.bits);
-    let high_regions = high_word(gathered.bits);
     [
-        parent.0,
+        parent,
         last_byte,
         stand.0,
         past.0,
         past_node.0,
-        low_regions,
-        high_regions,
+        served.number,
+        1 - served.kept,
         cursor.entries,
     ]
 }

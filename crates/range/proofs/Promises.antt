@@ -89,7 +89,7 @@ module _ (t : Table) (g : Grid) (x : Index) (p : List ℕ) (r : Rect) (room : Li
   of-refused v why e q =
       text-refused _ (λ n list. rangeOutcome n list (room ∷ [])) (rangeList t g (foldedText p) r) (λ n. refused n (room ∷ [])) (foldedText p) (rectRefusal r) (λ n list some. settled-refused n _ _ _ _ _ some) why (ap verdictNumber (sym q) ∙ e)
 
-  pub of-listed : (o : Outcome) (v : Verdict) (at : Listing) → verdictNumber v ≡ textRefusal (foldedText p) → v ≡ verdict.Passed → at ≡ listingAt (x .nodes) (nodeIn (x .nodes) (foldedText p))
+  pub of-listed : (o : Outcome) (v : Verdict) (at : Listing) → verdictNumber v ≡ textRefusal (foldedText p) → v ≡ verdict.Passed → at ≡ listingAt (x .nodes) (x .bits) (nodeIn (x .nodes) (foldedText p))
       → RangeFrom (t .east) (t .north) g (x .order) (x .entries) at r (room ∷ []) o → RangePromise t g x p r (room ∷ []) o
   of-listed o v at e fine walked w =
       from-kept _ (λ t′ q. Listed (t .east) (t .north) (t′ .score) g (x .order) (x .entries) at t′ q) (λ n list. rangeOutcome n list (room ∷ [])) (λ t p. rangeList t g p r) (refused 7 (room ∷ [])) o t (foldedText p)

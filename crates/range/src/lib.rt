@@ -144,15 +144,16 @@ pub fn range(
     order: &[u32],
     nodes: &[u32],
     entries: &[u32],
+    bits: &[u32],
     typed: &[u8],
     rect: Rect,
     found: &mut [u32],
 ) -> RangeAnswer
-    ensures { λ a. ⌜ RangePromise (tableIn text starts east north score) grid (indexIn order nodes entries) (given typed) rect (roomIn found) (rangeCameIn a found) ⌝ }
+    ensures { λ a. ⌜ RangePromise (tableIn text starts east north score) grid (indexIn order nodes entries bits) (given typed) rect (roomIn found) (rangeCameIn a found) ⌝ }
 {
     if let Verdict::Refused(why) = text_verdict(typed) {
         return RangeAnswer::Refused { why, matches: 0 };
     }
-    let at = listing_of(nodes, typed);
+    let at = listing_of(nodes, bits, typed);
     range_from(east, north, grid, order, entries, at, rect, found)
 }

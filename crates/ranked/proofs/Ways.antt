@@ -87,7 +87,7 @@ module _ (c : StandColumns) (g : Grid) (order entries : List ℕ) (at : Listing)
   refused-7 never-so = record { exact = λ t p s. absurd (never-so t p s); harmless = inl refl }
 
   pub from-unlawful : gridLawful g ≡ false → RankedFrom c g order entries at q rooms (rankedCame (Refused NotLawful) found values)
-  from-unlawful e = refused-7 (λ t p s. never _ (set-parts t g (indexOf order (s .nodes) entries) (s .lawful) .table .gridded) e)
+  from-unlawful e = refused-7 (λ t p s. never _ (set-parts t g (indexOf order (s .nodes) entries (s .bits)) (s .lawful) .table .gridded) e)
 
   pub from-broken : at ≡ Broken → RankedFrom c g order entries at q rooms (rankedCame (Refused NotLawful) found values)
   from-broken e = refused-7 (λ t p s. never-broken t g p (sym (s .listing) ∙ e))
@@ -122,7 +122,7 @@ module _ (c : StandColumns) (g : Grid) (order entries : List ℕ) (at : Listing)
         record {
           exact = λ t p l.
               let same : c ≡ tableColumns t = rw (l .easts, l .norths, l .scores) in
-              let x = indexOf order (l .nodes) entries in
+              let x = indexOf order (l .nodes) entries (l .bits) in
               rw (s .asks .ranking)
               (found-exact t g x (set-parts t g x (l .lawful)) p q rooms (some-asked g q (s .asks)) regions first (sym (l .listing) ∙ e) o
               (subst (λ (c : StandColumns). BestListed c g q order entries regions first rooms o) same w));
@@ -137,7 +137,7 @@ module _ (t : Table) (g : Grid) (x : Index) (p : List ℕ) (q : Ranking) (found 
       text-refused _ (λ n hits. rankedOutcome n (q .k) hits (found ∷ values ∷ [])) (ranking t g (foldedText p) q) (λ n. refused n (found ∷ values ∷ [])) (foldedText p) (rankingRefusal g q)
       (λ n hits some. settled-refused n _ _ _ _ _ some) why (ap verdictNumber (sym r) ∙ e)
 
-  pub of-listed : (o : Outcome) (v : Verdict) (at : Listing) → verdictNumber v ≡ textRefusal (foldedText p) → v ≡ verdict.Passed → at ≡ listingAt (x .nodes) (nodeIn (x .nodes) (foldedText p))
+  pub of-listed : (o : Outcome) (v : Verdict) (at : Listing) → verdictNumber v ≡ textRefusal (foldedText p) → v ≡ verdict.Passed → at ≡ listingAt (x .nodes) (x .bits) (nodeIn (x .nodes) (foldedText p))
       → RankedFrom (tableColumns t) g (x .order) (x .entries) at q (found ∷ values ∷ []) o → RankedPromise t g x p q (found ∷ values ∷ []) o
   of-listed o v at e fine walked w =
       from-kept _ (Listed (t .east) (t .north) (t .score) g (x .order) (x .entries) at) (λ n hits. rankedOutcome n (q .k) hits (found ∷ values ∷ [])) (λ t p. ranking t g p q) (refused 7 (found ∷ values ∷ [])) o t (foldedText p)

@@ -93,17 +93,18 @@ pub fn ranked(
     order: &[u32],
     nodes: &[u32],
     entries: &[u32],
+    bits: &[u32],
     typed: &[u8],
     asked: Ranking,
     found: &mut [u32],
     values: &mut [u64],
 ) -> RankedAnswer
-    ensures { λ r. ⌜ RankedPromise (tableIn text starts east north score) grid (indexIn order nodes entries) (given typed) asked (roomsIn found values) (rankedCameIn r found values) ⌝ }
+    ensures { λ r. ⌜ RankedPromise (tableIn text starts east north score) grid (indexIn order nodes entries bits) (given typed) asked (roomsIn found values) (rankedCameIn r found values) ⌝ }
 {
     if let Verdict::Refused(why) = text_verdict(typed) {
         return RankedAnswer::Refused(why);
     }
-    let at = listing_of(nodes, typed);
+    let at = listing_of(nodes, bits, typed);
     ranked_from(
         east,
         north,

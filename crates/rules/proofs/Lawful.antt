@@ -19,7 +19,7 @@ use Rattle.rules.specs.Numbers.{verdictNumber}
 use Rattle.rules.specs.Places.{gridLawful, inGrid}
 use Rattle.rules.specs.Names.{nameAllowed, inOrder, spanned, name}
 use Rattle.rules.specs.Tables.{Table, stands, startOf, nameOf, placeIn, placeOf, scoreOf, rising, shapeLawful, namesAllowed, namesInOrder, standLawful, standsLawful, tableRefusal, Shaped, LawfulTable}
-use Rattle.rules.specs.Indexes.{Index, orderWords, nodeWords, entryWords, setLawful}
+use Rattle.rules.specs.Indexes.{Index, orderWords, nodeWords, entryWords, bitWords, setLawful}
 use Rattle.rules.proofs.Bytes.{name-bytes}
 
 -- where a stand's name lies, by its starts
@@ -163,6 +163,7 @@ pub record SetParts (t : Table) (g : Grid) (x : Index) : Type 0 where
   pub order : begins (orderWords t g) (x .order) ≡ true
   pub nodes : begins (nodeWords t g) (x .nodes) ≡ true
   pub entries : begins (entryWords t g) (x .entries) ≡ true
+  pub bits : begins (bitWords t g) (x .bits) ≡ true
 
 pub set-parts : (t : Table) (g : Grid) (x : Index) → setLawful t g x ≡ true → SetParts t g x
 unfolding setLawful
@@ -172,4 +173,5 @@ set-parts t g x e =
       order = every-at _ 1 e;
       nodes = every-at _ 2 e;
       entries = every-at _ 3 e;
+      bits = every-at _ 4 e;
     }

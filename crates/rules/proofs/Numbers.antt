@@ -85,15 +85,15 @@ one-located (located.Refused r) (located.In a) e = absurd (refusal-some r (ap (�
 one-located (located.Refused r) (located.Refused s) e = ap located.Refused (one-refusal r s (ap (λ (n : Told). n .refusal) e))
 
 pub one-built : (a b : Built) → builtNumbers a ≡ builtNumbers b → a ≡ b
-one-built (built.Index n e) (built.Index m f) s = ap (λ (n : BuildTold). built.Index (n .nodes) (n .entries)) s
-one-built (built.Index n e) (built.Refused r) s = absurd (refusal-some r (sym (ap (λ (n : BuildTold). n .refusal) s)))
-one-built (built.Refused r) (built.Index n e) s = absurd (refusal-some r (ap (λ (n : BuildTold). n .refusal) s))
+one-built (built.Index n e b) (built.Index m f c) s = ap (λ (n : BuildTold). built.Index (n .nodes) (n .entries) (n .bits)) s
+one-built (built.Index n e b) (built.Refused r) s = absurd (refusal-some r (sym (ap (λ (n : BuildTold). n .refusal) s)))
+one-built (built.Refused r) (built.Index n e b) s = absurd (refusal-some r (ap (λ (n : BuildTold). n .refusal) s))
 one-built (built.Refused r) (built.Refused q) s = ap built.Refused (one-refusal r q (ap (λ (n : BuildTold). n .refusal) s))
 
 pub one-checked : (c d : Checked) → checkedNumbers c ≡ checkedNumbers d → c ≡ d
-one-checked (checked.Lawful n e) (checked.Lawful m f) s = ap (λ (n : CheckTold). checked.Lawful (n .nodes) (n .entries)) s
-one-checked (checked.Lawful n e) checked.Unlawful s = absurd (omega (arith, ap (λ (n : CheckTold). n .lawful) s))
-one-checked checked.Unlawful (checked.Lawful n e) s = absurd (omega (arith, ap (λ (n : CheckTold). n .lawful) s))
+one-checked (checked.Lawful n e b) (checked.Lawful m f k) s = ap (λ (n : CheckTold). checked.Lawful (n .nodes) (n .entries) (n .bits)) s
+one-checked (checked.Lawful n e b) checked.Unlawful s = absurd (omega (arith, ap (λ (n : CheckTold). n .lawful) s))
+one-checked checked.Unlawful (checked.Lawful n e b) s = absurd (omega (arith, ap (λ (n : CheckTold). n .lawful) s))
 one-checked checked.Unlawful checked.Unlawful s = refl
 
 pub one-range : (a b : RangeAnswer) → rangeNumbers a ≡ rangeNumbers b → a ≡ b

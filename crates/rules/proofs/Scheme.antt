@@ -7,12 +7,12 @@ use Rattle.rules.specs.Worth.{rootFrom, root, distance², distance, diag
 use Rattle.rules.specs.Names.{allowed, capital, folded, nameAllowed, spanned, name, restOf}
 use Rattle.rules.specs.Tables.{rising, shapeLawful, namesAllowed, namesInOrder, standLawful, standsLawful, tableRefusal}
 use Rattle.rules.specs.Questions.{under, regionOfStand}
-use Rattle.rules.specs.Indexes.{beginnings}
+use Rattle.rules.specs.Indexes.{beginnings, repeats, recordOf}
 use Rattle.rules.specs.Sessions.{sessionOf, typeRefusal}
 use Rattle.rules.specs.Scheme.{SmallScheme}
 
 pub small-scheme : SmallScheme
-unfolding every wordOf edgeLawful gridLawful within inGrid regionOf regions inRect rootFrom root distance² distance diagonal² diagonal valueAt valueOf allowed capital folded nameAllowed spanned name restOf rising shapeLawful namesAllowed namesInOrder standLawful standsLawful tableRefusal under regionOfStand beginnings sessionOf typeRefusal
+unfolding every wordOf edgeLawful gridLawful within inGrid regionOf regions inRect rootFrom root distance² distance diagonal² diagonal valueAt valueOf allowed capital folded nameAllowed spanned name restOf rising shapeLawful namesAllowed namesInOrder standLawful standsLawful tableRefusal under regionOfStand beginnings repeats recordOf sessionOf typeRefusal
 small-scheme =
     record {
       lawful = refl;
@@ -23,6 +23,8 @@ small-scheme =
       line2-entries = refl;
       line3-text = refl;
       line3 = refl;
+      records-of = refl;
+      records = refl;
       line4 = refl;
       line5 = refl;
       line5-narrower = refl;

@@ -1,6 +1,6 @@
 -- The index, word by word; what building answers and writes, and which sets are lawful.
--- Nodes are the distinct beginnings of names, in pre-order; a node's row is eight words, an entry's four.
-use mathlib.Core.Bool.{Bool, cond, not, _||_}
+-- Nodes are the distinct beginnings of names, in pre-order; a node's row is eight words, an entry's four, a bit record's two.
+use mathlib.Core.Bool.{Bool, false, cond, not, _||_}
 use mathlib.Core.List.{List, [], _∷_}
 use Prim.Native.Nat.{ℕ, zero, suc, _+_, _-_, _*_}
 use lib.Dec.{eqb, ltb}
@@ -81,7 +81,32 @@ entryWords t g = eachList (λ p. eachList entryRow (entriesOf t g p)) (beginning
 abbrev pub pastOf : List (List ℕ) → ℕ → ℕ
 pastOf B j = j + length (keep (begins (getD B j [])) B)
 
--- parent, last byte, first stand, past the last, past the subtree, region bits 0 to 31 and 32 to 63, first entry
+-- whether a node has its parent's regions, and so keeps no bits of its own; the root has no parent
+unfoldable pub repeats : Table → Grid → List ℕ → Bool
+repeats t g [] = false
+repeats t g (a ∷ p) = sameList (regionsUnder t g (butLast (a ∷ p))) (regionsUnder t g (a ∷ p))
+
+-- the nodes that keep bits, one record each
+abbrev pub keepers : Table → Grid → List (List ℕ)
+keepers t g = keep (λ p. not (repeats t g p)) (beginnings t)
+
+-- of a text's beginnings with at most l bytes the longest that keeps bits
+abbrev pub keeperUpTo : Table → Grid → List ℕ → ℕ → List ℕ
+keeperUpTo t g p zero = []
+keeperUpTo t g p (suc l) = cond (repeats t g (take (suc l) p)) (keeperUpTo t g p l) (take (suc l) p)
+
+-- the record that serves a node: its own, or its parent's
+unfoldable pub recordOf : Table → Grid → List ℕ → ℕ
+recordOf t g p = numberIn (keeperUpTo t g p (length p)) (keepers t g)
+
+-- region bits 0 to 31 and 32 to 63
+abbrev pub recordRow : Table → Grid → List ℕ → List ℕ
+recordRow t g p = wordOf (occupied t g p) 0 32 ∷ wordOf (occupied t g p) 32 32 ∷ []
+
+abbrev pub bitWords : Table → Grid → List ℕ
+bitWords t g = eachList (recordRow t g) (keepers t g)
+
+-- parent, last byte, first stand, past the last, past the subtree, bit record, 1 if that is the parent's, first entry
 abbrev pub nodeRow : Table → Grid → ℕ → List ℕ
 nodeRow t g j =
     let p : List ℕ = getD (beginnings t) j [] in
@@ -90,8 +115,8 @@ nodeRow t g j =
     ∷ firstOf (under t p)
     ∷ (firstOf (under t p) + length (under t p))
     ∷ pastOf (beginnings t) j
-    ∷ wordOf (occupied t g p) 0 32
-    ∷ wordOf (occupied t g p) 32 32
+    ∷ recordOf t g p
+    ∷ cond (repeats t g p) 1 0
     ∷ total (each (λ q. length (regionsUnder t g q)) (take j (beginnings t)))
     ∷ []
 
@@ -104,22 +129,30 @@ nodeCount t = length (beginnings t)
 abbrev pub entryCount : Table → Grid → ℕ
 entryCount t g = total (each (λ p. length (entriesOf t g p)) (beginnings t))
 
--- the three lent buffers
+abbrev pub recordCount : Table → Grid → ℕ
+recordCount t g = length (keepers t g)
+
+-- the four lent buffers
 pub record Index : Type 0 where
   pub order : List ℕ
   pub nodes : List ℕ
   pub entries : List ℕ
+  pub bits : List ℕ
 
-abbrev pub indexOf : List ℕ → List ℕ → List ℕ → Index
-indexOf order nodes entries = record { order = order; nodes = nodes; entries = entries }
+abbrev pub indexOf : List ℕ → List ℕ → List ℕ → List ℕ → Index
+indexOf order nodes entries bits = record { order = order; nodes = nodes; entries = entries; bits = bits }
 
 -- the index that a call is lent
-abbrev pub indexIn : Lent (List ℕ) → Lent (List ℕ) → Lent (List ℕ) → Index
-indexIn order nodes entries = indexOf (given order) (given nodes) (given entries)
+abbrev pub indexIn : Lent (List ℕ) → Lent (List ℕ) → Lent (List ℕ) → Lent (List ℕ) → Index
+indexIn order nodes entries bits = indexOf (given order) (given nodes) (given entries) (given bits)
 
 -- 6: a buffer is too small
 unfoldable pub tooSmall : Table → Grid → Index → Bool
-tooSmall t g x = ltb (length (x .order)) (stands t) || ltb (length (x .nodes)) (8 * nodeCount t) || ltb (length (x .entries)) (4 * entryCount t g)
+tooSmall t g x =
+    ltb (length (x .order)) (stands t)
+    || ltb (length (x .nodes)) (8 * nodeCount t)
+    || ltb (length (x .entries)) (4 * entryCount t g)
+    || ltb (length (x .bits)) (2 * recordCount t g)
 
 -- the first of refusals 1 to 6 that holds, or 0
 unfoldable pub buildRefusal : Table → Grid → Index → ℕ
@@ -128,14 +161,14 @@ buildRefusal t g x = firstGiven (tableRefusal t g) (cond (tooSmall t g x) 6 0)
 unfoldable pub buildTold : Table → Grid → Index → BuildTold
 buildTold t g x =
     cond (eqb (buildRefusal t g x) 0)
-    (record { refusal = 0; nodes = nodeCount t; entries = entryCount t g })
-    (record { refusal = buildRefusal t g x; nodes = 0; entries = 0 })
+    (record { refusal = 0; nodes = nodeCount t; entries = entryCount t g; bits = recordCount t g })
+    (record { refusal = buildRefusal t g x; nodes = 0; entries = 0; bits = 0 })
 
 -- the buffers after building: a refusal leaves them as they were
 unfoldable pub indexAfter : Table → Grid → Index → Index
 indexAfter t g x =
     cond (eqb (buildRefusal t g x) 0)
-    (record { order = written (orderWords t g) (x .order); nodes = written (nodeWords t g) (x .nodes); entries = written (entryWords t g) (x .entries) })
+    (indexOf (written (orderWords t g) (x .order)) (written (nodeWords t g) (x .nodes)) (written (entryWords t g) (x .entries)) (written (bitWords t g) (x .bits)))
     x
 
 -- a lawful set: table and grid pass 1 to 5, and each buffer begins with what building writes
@@ -146,10 +179,11 @@ setLawful t g x =
     ∷ begins (orderWords t g) (x .order)
     ∷ begins (nodeWords t g) (x .nodes)
     ∷ begins (entryWords t g) (x .entries)
+    ∷ begins (bitWords t g) (x .bits)
     ∷ [])
 
 unfoldable pub checkTold : Table → Grid → Index → CheckTold
 checkTold t g x =
     cond (setLawful t g x)
-    (record { lawful = 1; nodes = nodeCount t; entries = entryCount t g })
-    (record { lawful = 0; nodes = 0; entries = 0 })
+    (record { lawful = 1; nodes = nodeCount t; entries = entryCount t g; bits = recordCount t g })
+    (record { lawful = 0; nodes = 0; entries = 0; bits = 0 })

@@ -50,16 +50,19 @@ refusing n = record { refusal = n; number = 0 }
 abbrev pub telling : ℕ → Told
 telling n = record { refusal = 0; number = n }
 
+-- how many nodes, entries and bit records
 pub record BuildTold : Type 0 where
   pub refusal : ℕ
   pub nodes : ℕ
   pub entries : ℕ
+  pub bits : ℕ
 
 -- lawful: 1 is yes, 0 no
 pub record CheckTold : Type 0 where
   pub lawful : ℕ
   pub nodes : ℕ
   pub entries : ℕ
+  pub bits : ℕ
 
 -- yes: 1 is yes, 0 no, and without a yes the stand is 0
 pub record AnyTold : Type 0 where
@@ -85,12 +88,12 @@ locatedNumbers (located.In region) = telling region
 locatedNumbers (located.Refused r) = refusing (refusalNumber r)
 
 abbrev pub builtNumbers : Built → BuildTold
-builtNumbers (built.Index nodes entries) = record { refusal = 0; nodes = nodes; entries = entries }
-builtNumbers (built.Refused r) = record { refusal = refusalNumber r; nodes = 0; entries = 0 }
+builtNumbers (built.Index nodes entries bits) = record { refusal = 0; nodes = nodes; entries = entries; bits = bits }
+builtNumbers (built.Refused r) = record { refusal = refusalNumber r; nodes = 0; entries = 0; bits = 0 }
 
 abbrev pub checkedNumbers : Checked → CheckTold
-checkedNumbers (checked.Lawful nodes entries) = record { lawful = 1; nodes = nodes; entries = entries }
-checkedNumbers checked.Unlawful = record { lawful = 0; nodes = 0; entries = 0 }
+checkedNumbers (checked.Lawful nodes entries bits) = record { lawful = 1; nodes = nodes; entries = entries; bits = bits }
+checkedNumbers checked.Unlawful = record { lawful = 0; nodes = 0; entries = 0; bits = 0 }
 
 abbrev pub rangeNumbers : RangeAnswer → Told
 rangeNumbers (range.Found n) = telling n

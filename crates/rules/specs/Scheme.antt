@@ -17,7 +17,7 @@ use Rattle.rules.specs.Names.{foldedText, restOf}
 use Rattle.rules.specs.Tables.{Table, tableRefusal}
 use Rattle.rules.specs.Questions.{regionOfStand, rangeList, rankedList}
 use Rattle.rules.specs.Outcomes.{anyOutcome}
-use Rattle.rules.specs.Indexes.{orderWords, beginnings, nodeCount, entryCount, nodeRow, entryWords}
+use Rattle.rules.specs.Indexes.{orderWords, beginnings, nodeCount, entryCount, nodeRow, keepers, bitWords, entryWords}
 use Rattle.rules.specs.Sessions.{sessionOf, lettersTyped, lettersRubbed}
 
 abbrev pub grid : Grid
@@ -44,6 +44,15 @@ Ki = 75 ∷ 105 ∷ []
 abbrev pub kiz : List ℕ
 kiz = 107 ∷ 105 ∷ 122 ∷ []
 
+abbrev pub kibor : List ℕ
+kibor = 107 ∷ 105 ∷ 98 ∷ 111 ∷ 114 ∷ []
+
+abbrev pub kit : List ℕ
+kit = 107 ∷ 105 ∷ 116 ∷ []
+
+abbrev pub m : List ℕ
+m = 109 ∷ []
+
 abbrev pub box : ℕ → ℕ → ℕ → ℕ → Rect
 box west east south north = record { west = pos west; east = pos east; south = pos south; north = pos north }
 
@@ -68,7 +77,9 @@ pub record SmallScheme : Type 0 where
   pub line2-nodes : nodeCount table ≡ 12
   pub line2-entries : entryCount table grid ≡ 22
   pub line3-text : getD (beginnings table) 2 [] ≡ ki
-  pub line3 : nodeRow table grid 2 ≡ 1 ∷ 105 ∷ 0 ∷ 4 ∷ 9 ∷ 3 ∷ 2147483648 ∷ 6 ∷ []
+  pub line3 : nodeRow table grid 2 ≡ 1 ∷ 105 ∷ 0 ∷ 4 ∷ 9 ∷ 0 ∷ 1 ∷ 6 ∷ []
+  pub records-of : keepers table grid ≡ [] ∷ kibor ∷ kit ∷ m ∷ []
+  pub records : bitWords table grid ≡ 3 ∷ 2147483648 ∷ 2 ∷ 0 ∷ 1 ∷ 0 ∷ 2 ∷ 0 ∷ []
   pub line4 : take 12 (drop (6 * 4) (entryWords table grid)) ≡ 63 ∷ 900 ∷ 4 ∷ 5 ∷ 0 ∷ 400 ∷ 0 ∷ 2 ∷ 1 ∷ 400 ∷ 2 ∷ 3 ∷ []
   pub line5 : rangeList table grid ki (box 0 12 0 9) ≡ 0 ∷ 3 ∷ 2 ∷ []
   pub line5-narrower : rangeList table grid ki (box 0 11 0 9) ≡ 0 ∷ 3 ∷ []

@@ -1,4 +1,4 @@
-// How the index lies in its words: how many a node and an entry have, and which of them, counted from 0, is what.
+// How the index lies in its words: how many a node, an entry and a bit record have, and which of them, counted from 0, is what.
 
 pub const NODE_WORDS: usize = 8;
 
@@ -13,10 +13,11 @@ pub const PAST_STAND: usize = 3;
 // The number past the node's subtree.
 pub const PAST_NODE: usize = 4;
 
-// Region bits 0 to 31, and 32 to 63.
-pub const LOW_REGIONS: usize = 5;
+// The number of the bit record that has the node's regions.
+pub const RECORD: usize = 5;
 
-pub const HIGH_REGIONS: usize = 6;
+// 1 if that is the parent's record too, else 0.
+pub const REPEATS: usize = 6;
 
 pub const FIRST_ENTRY: usize = 7;
 
@@ -29,3 +30,10 @@ pub const BEST_SCORE: usize = 1;
 pub const FIRST_PLACE: usize = 2;
 
 pub const PAST_PLACE: usize = 3;
+
+pub const RECORD_WORDS: usize = 2;
+
+// Region bits 0 to 31, and 32 to 63.
+pub const LOW_REGIONS: usize = 0;
+
+pub const HIGH_REGIONS: usize = 1;

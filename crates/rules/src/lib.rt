@@ -168,15 +168,15 @@ pub enum Located {
     Refused(Refusal),
 }
 
-// What building wrote.
+// What building wrote: how many nodes, entries and bit records.
 pub enum Built {
-    Index { nodes: u32, entries: u32 },
+    Index { nodes: u32, entries: u32, bits: u32 },
     Refused(Refusal),
 }
 
 // Whether a set is lawful, and what its index has.
 pub enum Checked {
-    Lawful { nodes: u32, entries: u32 },
+    Lawful { nodes: u32, entries: u32, bits: u32 },
     Unlawful,
 }
 

@@ -79,7 +79,7 @@ module _ {Out : Type 0} (comesTo : ℕ → List ℕ → Out) (refused : ℕ → 
   module _ (edges : Edges r) (t : Table) (p : List ℕ) where
     entries-exact : (cells : Cells) (first : ℕ) → Listed east north (t .score) g order entries (Entries cells first) t p → answers (listedLook g entries cells first r) → o ≡ comesTo 0 (rangeList t g p r)
     entries-exact cells first l w =
-        let x = indexOf order (l .nodes) entries in
+        let x = indexOf order (l .nodes) entries (l .bits) in
         let s = set-parts t g x (l .lawful) in
         let lists = entries-listed t g x s p cells first (sym (l .listing)) in
         let stands = seen t g x s p cells first lists r in

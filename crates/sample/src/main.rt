@@ -5,6 +5,7 @@ use rules::Built;
 use rules::Grid;
 use rules::layout::ENTRY_WORDS;
 use rules::layout::NODE_WORDS;
+use rules::layout::RECORD_WORDS;
 ghost use Prim.Native.Nat.{_<_};
 
 // Three stands to a pair of letters, and room for their names.
@@ -16,10 +17,13 @@ const STANDS: usize = 3 * PAIRS;
 
 const TEXT: usize = 7 * PAIRS;
 
-// Room for any index of such a text: a root and a node for each byte, an entry for each byte and each stand.
+// Room for any index of such a text: a root and a node for each byte, an entry for each byte and each stand, and fewer bit records than
+// two for each stand.
 const NODES: usize = (TEXT + 1) * NODE_WORDS;
 
 const ENTRIES: usize = (TEXT + STANDS) * ENTRY_WORDS;
+
+const BITS: usize = (2 * STANDS - 1) * RECORD_WORDS;
 
 const LETTERS: [u8; LETTER_COUNT] = [32, 48, 57, 97, 122];
 
@@ -130,6 +134,7 @@ fn print_index(
     let mut order = [0u32; STANDS];
     let mut nodes = [0u32; NODES];
     let mut entries = [0u32; ENTRIES];
+    let mut bits = [0u32; BITS];
     let answer = finder::build(
         text,
         starts,
@@ -140,10 +145,12 @@ fn print_index(
         &mut order,
         &mut nodes,
         &mut entries,
+        &mut bits,
     );
     let Built::Index {
         nodes: node_count,
         entries: entry_count,
+        bits: record_count,
     } = answer
     else {
         print(b"refused\n");
@@ -155,6 +162,7 @@ fn print_index(
     print_rows(b"order", &order, score.len(), 1);
     print_rows(b"node", &nodes, index_of(node_count), NODE_WORDS);
     print_rows(b"entry", &entries, index_of(entry_count), ENTRY_WORDS);
+    print_rows(b"record", &bits, index_of(record_count), RECORD_WORDS);
 }
 
 // The first so many stands of a longer table.

@@ -20,6 +20,7 @@ use finder::Refusal;
 use finder::Session;
 use finder::Verdict;
 use libc::STDOUT_FILENO;
+use rules::layout::NODE_WORDS;
 
 // Room for the most stands that may be asked for.
 const MOST: usize = Ranking::K_MOST as usize;
@@ -46,10 +47,15 @@ pub(crate) fn print_verdict(verdict: Verdict) {
 
 pub(crate) fn print_built(answer: Built) {
     match answer {
-        Built::Index { nodes, entries } => {
+        Built::Index {
+            nodes,
+            entries,
+            bits,
+        } => {
             print(b"built");
             print_number(nodes as u64);
             print_number(entries as u64);
+            print_number(bits as u64);
         }
         Built::Refused(why) => print_refusal(why),
     }
@@ -65,6 +71,7 @@ pub(crate) fn print_checked(index: Index) {
     let order = index.order;
     let nodes = index.nodes;
     let entries = index.entries;
+    let bits = index.bits;
     match finder::check(
         &text,
         &starts,
@@ -75,11 +82,17 @@ pub(crate) fn print_checked(index: Index) {
         &order,
         &nodes,
         &entries,
+        &bits,
     ) {
-        Checked::Lawful { nodes, entries } => {
+        Checked::Lawful {
+            nodes,
+            entries,
+            bits,
+        } => {
             print(b"lawful");
             print_number(nodes as u64);
             print_number(entries as u64);
+            print_number(bits as u64);
         }
         Checked::Unlawful => print(b"unlawful"),
     }
@@ -117,6 +130,23 @@ fn print_words(kind: &[u8], words: &[u32], count: u32) {
     }
 }
 
+// The words of a node, if it is there.
+pub(crate) fn print_node(nodes: &[u32], node: usize) {
+    if nodes.len() / NODE_WORDS <= node {
+        return;
+    }
+    let at = node * NODE_WORDS;
+    print_words(b"node", &nodes[at..at + NODE_WORDS], NODE_WORDS as u32);
+    print(b"\n");
+}
+
+// The words of all bit records.
+pub(crate) fn print_records(index: Index) {
+    let bits = index.bits;
+    print_words(b"records", &bits, 8);
+    print(b"\n");
+}
+
 fn print_values(values: &[u64], count: u32) {
     print(b" values");
     let mut i = 0;
@@ -136,6 +166,7 @@ pub(crate) fn print_range(index: Index, typed: &[u8], rect: Rect, found: &mut [u
     let order = index.order;
     let nodes = index.nodes;
     let entries = index.entries;
+    let bits = index.bits;
     let answer = finder::range(
         &text,
         &starts,
@@ -146,6 +177,7 @@ pub(crate) fn print_range(index: Index, typed: &[u8], rect: Rect, found: &mut [u
         &order,
         &nodes,
         &entries,
+        &bits,
         typed,
         rect,
         found,
@@ -183,6 +215,7 @@ pub(crate) fn print_any(index: Index, typed: &[u8], rect: Rect) {
     let order = index.order;
     let nodes = index.nodes;
     let entries = index.entries;
+    let bits = index.bits;
     print_yes_or_no(finder::any(
         &text,
         &starts,
@@ -193,6 +226,7 @@ pub(crate) fn print_any(index: Index, typed: &[u8], rect: Rect) {
         &order,
         &nodes,
         &entries,
+        &bits,
         typed,
         rect,
     ));
@@ -208,6 +242,7 @@ pub(crate) fn print_any_typed(index: Index, session: Session, rect: Rect) {
     let order = index.order;
     let nodes = index.nodes;
     let entries = index.entries;
+    let bits = index.bits;
     print_yes_or_no(finder::any_typed(
         &text,
         &starts,
@@ -218,6 +253,7 @@ pub(crate) fn print_any_typed(index: Index, session: Session, rect: Rect) {
         &order,
         &nodes,
         &entries,
+        &bits,
         session,
         rect,
     ));
@@ -244,6 +280,7 @@ pub(crate) fn print_ranked(index: Index, typed: &[u8], asked: Ranking) {
     let order = index.order;
     let nodes = index.nodes;
     let entries = index.entries;
+    let bits = index.bits;
     let mut found = [0u32; MOST];
     let mut values = [0u64; MOST];
     let answer = finder::ranked(
@@ -256,6 +293,7 @@ pub(crate) fn print_ranked(index: Index, typed: &[u8], asked: Ranking) {
         &order,
         &nodes,
         &entries,
+        &bits,
         typed,
         asked,
         &mut found,
@@ -274,6 +312,7 @@ pub(crate) fn print_ranked_typed(index: Index, session: Session, asked: Ranking)
     let order = index.order;
     let nodes = index.nodes;
     let entries = index.entries;
+    let bits = index.bits;
     let mut found = [0u32; MOST];
     let mut values = [0u64; MOST];
     let answer = finder::ranked_typed(
@@ -286,6 +325,7 @@ pub(crate) fn print_ranked_typed(index: Index, session: Session, asked: Ranking)
         &order,
         &nodes,
         &entries,
+        &bits,
         session,
         asked,
         &mut found,

@@ -8,10 +8,12 @@ use answers::print_any;
 use answers::print_any_typed;
 use answers::print_built;
 use answers::print_checked;
+use answers::print_node;
 use answers::print_path;
 use answers::print_range;
 use answers::print_ranked;
 use answers::print_ranked_typed;
+use answers::print_records;
 use answers::print_region;
 use answers::print_rest;
 use answers::print_verdict;
@@ -158,6 +160,14 @@ fn checks(index: Index) {
     print_checked(bent);
 }
 
+// Line 3, the words of the node of "ki"; and the bit records, of the root, "kibor", "kit" and "m".
+fn words(index: Index) {
+    print(b"words\n");
+    let nodes = index.nodes;
+    print_node(&nodes, 2);
+    print_records(index);
+}
+
 // What building says of the scheme's table with these starts, scores and grid.
 fn print_table(starts: [u32; 6], score: [u32; 5], grid: Grid) {
     let text = TEXT;
@@ -166,6 +176,7 @@ fn print_table(starts: [u32; 6], score: [u32; 5], grid: Grid) {
     let mut order = [0u32; 5];
     let mut nodes = [0u32; 96];
     let mut entries = [0u32; 88];
+    let mut bits = [0u32; 8];
     print_built(finder::build(
         &text,
         &starts,
@@ -176,6 +187,7 @@ fn print_table(starts: [u32; 6], score: [u32; 5], grid: Grid) {
         &mut order,
         &mut nodes,
         &mut entries,
+        &mut bits,
     ));
 }
 
@@ -209,6 +221,7 @@ fn main() {
     let index = Index::built();
     regions();
     checks(index);
+    words(index);
     ranges(index);
     yes_or_no(index);
     rankings(index);

@@ -21,6 +21,7 @@ pub(crate) struct Index {
     pub order: [u32; 5],
     pub nodes: [u32; 96],
     pub entries: [u32; 88],
+    pub bits: [u32; 8],
 }
 
 impl Index {
@@ -33,6 +34,7 @@ impl Index {
         let mut order = [0u32; 5];
         let mut nodes = [0u32; 96];
         let mut entries = [0u32; 88];
+        let mut bits = [0u32; 8];
         finder::build(
             &text,
             &starts,
@@ -43,11 +45,13 @@ impl Index {
             &mut order,
             &mut nodes,
             &mut entries,
+            &mut bits,
         );
         Index {
             order,
             nodes,
             entries,
+            bits,
         }
     }
 }

@@ -39,10 +39,10 @@ text-refused Lawful comesTo meant refused p n whatever why e =
 -- a walk along a text serves it, and so does the text's node where that is known
 module _ (t : Table) (g : Grid) (x : Index) (p : List ℕ) (at : Listing) where
   listed : at ≡ listingOf t g p → setLawful t g x ≡ true → Listed (t .east) (t .north) (t .score) g (x .order) (x .entries) at t p
-  listed same law = record { easts = refl; norths = refl; scores = refl; nodes = x .nodes; lawful = law; listing = same }
+  listed same law = record { easts = refl; norths = refl; scores = refl; nodes = x .nodes; bits = x .bits; lawful = law; listing = same }
 
-  pub text-listed : at ≡ listingAt (x .nodes) (nodeIn (x .nodes) p) → setLawful t g x ≡ true → Listed (t .east) (t .north) (t .score) g (x .order) (x .entries) at t p
+  pub text-listed : at ≡ listingAt (x .nodes) (x .bits) (nodeIn (x .nodes) p) → setLawful t g x ≡ true → Listed (t .east) (t .north) (t .score) g (x .order) (x .entries) at t p
   text-listed walked law = listed (walked ∙ listing-found t g x (set-parts t g x law) p) law
 
-  pub node-listed : at ≡ listingAt (x .nodes) (nodeOf t p) → setLawful t g x ≡ true → Listed (t .east) (t .north) (t .score) g (x .order) (x .entries) at t p
+  pub node-listed : at ≡ listingAt (x .nodes) (x .bits) (nodeOf t p) → setLawful t g x ≡ true → Listed (t .east) (t .north) (t .score) g (x .order) (x .entries) at t p
   node-listed reached law = listed (reached ∙ listing-reached t g x (set-parts t g x law) p) law

@@ -1,9 +1,9 @@
 -- A text's listing: the ways that it is read; that on the words that building writes it is the one of the rules; and what that lists.
 -- Assumes nothing.
-use mathlib.Core.Path.{_≡_, refl, sym, ap, _∙_, subst}
+use mathlib.Core.Path.{_≡_, refl, sym, ap, ap₂, _∙_, subst}
 use mathlib.Core.Logic.{⊎-elim}
 use mathlib.Core.List.{List, []}
-use Prim.Native.Nat.{ℕ, _/_, _≤_, _<_}
+use Prim.Native.Nat.{ℕ, _+_, _*_, _/_, _≤_, _<_}
 use native.Mathlib.Omega.{arith}
 use lib.ListN.{length, getD}
 use borrow.Author.Tests.{lt-ltb, le-ltb, le-leb, lt-leb}
@@ -11,11 +11,11 @@ use Rattle.base.specs.Lists.{In, begins, each, upTo}
 use Rattle.base.proofs.Tests.{refuted}
 use Rattle.base.proofs.Members.{keep-none}
 use Rattle.base.proofs.Runs.{in-from}
-use Rattle.base.proofs.Begins.{in-or-out}
+use Rattle.base.proofs.Begins.{begins-length, begins-at, in-or-out}
 use Rattle.rules.specs.declared.Grid.{Grid}
 use Rattle.rules.specs.Tables.{Table, stands, nameOf}
 use Rattle.rules.specs.Questions.{under}
-use Rattle.rules.specs.Indexes.{Index, beginnings, numberIn, nodeRow, occupied, entriesOf}
+use Rattle.rules.specs.Indexes.{Index, beginnings, numberIn, nodeRow, occupied, entriesOf, recordOf, recordRow, bitWords}
 use Rattle.rules.proofs.Lawful.{SetParts}
 use Rattle.grid.specs.declared.cells.Cells.{Cells}
 use Rattle.grid.specs.Cells.{cellsBy, regionsIn}
@@ -23,24 +23,30 @@ use Rattle.grid.proofs.Listed.{listed-by}
 use Rattle.meaning.proofs.Tree.{number-in, number-out}
 use Rattle.meaning.proofs.Tables.{beginnings-of}
 use Rattle.meaning.proofs.Words.{entries-length}
+use Rattle.meaning.proofs.Records.{record-less, record-word, bit-words-length}
 use Rattle.walk.specs.declared.listing.Listing.the-variants.{Entries, Nowhere, Broken}
 use Rattle.walk.specs.Walks.{nodeIn}
 use Rattle.walk.specs.Nodes.{nodeOf}
-use Rattle.walk.specs.Listings.{cellsAt, firstEntry, listingIn, listingAt, listingOf}
+use Rattle.walk.specs.Listings.{recordAt, recordWord, cellsAt, firstEntry, listingIn, listingAt, listingOf}
 use Rattle.walk.specs.Entries.{asRead, SpelledFrom}
 use Rattle.walk.proofs.Lawful.{node-of-in, node-of-out, node-row, nodes-within, node-found}
 use Rattle.walk.proofs.Spelled.{entries-spelled}
 
 -- ---- on any words
 
-module _ (words : List ℕ) (j : ℕ) where
-  pub no-listing : length words / 8 ≤ j → Broken ≡ listingIn words j
+module _ (nodes bits : List ℕ) (j : ℕ) where
+  pub no-listing : length nodes / 8 ≤ j → Broken ≡ listingIn nodes bits j
   unfolding listingIn
   no-listing h = rw (le-leb _ _ h)
 
-  pub listing-is : j < length words / 8 → Entries (cellsAt words j) (firstEntry words j) ≡ listingIn words j
-  unfolding listingIn
-  listing-is h = rw (lt-leb _ _ h)
+  module _ (there : j < length nodes / 8) where
+    pub no-record : length bits / 2 ≤ recordAt nodes j → Broken ≡ listingIn nodes bits j
+    unfolding listingIn
+    no-record h = rw (lt-leb _ _ there, le-leb _ _ h)
+
+    pub listing-is : recordAt nodes j < length bits / 2 → Entries (cellsAt bits (recordAt nodes j)) (firstEntry nodes j) ≡ listingIn nodes bits j
+    unfolding listingIn
+    listing-is h = rw (lt-leb _ _ there, lt-leb _ _ h)
 
 -- ---- by the rules
 
@@ -100,27 +106,40 @@ module _ (t : Table) (g : Grid) (x : Index) (s : SetParts t g x) (p : List ℕ) 
 
   -- ---- the words that building writes
 
+  -- the record that serves the text's node is there, and has the text's regions
+  record-within : In p (beginnings t) → recordOf t g p < length (x .bits) / 2
+  record-within h = omega (arith, record-less t g (s .table .ordered) p h, bit-words-length t g, begins-length (bitWords t g) (x .bits) (s .bits))
+
+  record-cells : In p (beginnings t) → cellsAt (x .bits) (recordOf t g p) ≡ cellsBy (occupied t g p)
+  unfolding cellsBy
+  record-cells h =
+      let word : (k : ℕ) → k < 2 → recordWord (x .bits) (recordOf t g p) k ≡ getD (recordRow t g p) k 0 = λ k l.
+      begins-at (bitWords t g) (x .bits) (recordOf t g p * 2 + k) 0 (s .bits) (omega (arith, bit-words-length t g, record-less t g (s .table .ordered) p h))
+      ∙ record-word t g (s .table .ordered) p k h l in
+      ap₂ (λ (low high : ℕ). record { low = low; high = high }) (word 0 (omega arith)) (word 1 (omega arith))
+
   -- from the text's node, if it has one
-  pub listing-reached : listingAt (x .nodes) (nodeOf t p) ≡ listingOf t g p
-  unfolding listingIn cellsBy
+  pub listing-reached : listingAt (x .nodes) (x .bits) (nodeOf t p) ≡ listingOf t g p
+  unfolding listingIn
   listing-reached =
       ⊎-elim
       (λ (h : In p (beginnings t)).
       let j = numberIn p (beginnings t) in
       let n = number-in p (beginnings t) h in
       let written = s .nodes in
-      ap (listingAt (x .nodes)) (node-of-in t p h)
+      ap (listingAt (x .nodes) (x .bits)) (node-of-in t p h)
       ∙ rw (
         lt-leb (length (x .nodes) / 8) j (omega (arith, nodes-within t g (x .nodes) written, n .0)),
         node-row t g (x .nodes) written j 5 (n .0) (omega arith),
-        node-row t g (x .nodes) written j 6 (n .0) (omega arith),
         node-row t g (x .nodes) written j 7 (n .0) (omega arith),
         n .1,
+        lt-leb (length (x .bits) / 2) (recordOf t g p) (record-within h),
+        record-cells h,
       )
       (sym (listing-in t g p h)))
-      (λ h. ap (listingAt (x .nodes)) (node-of-out t p h) ∙ sym (listing-out t g p h))
+      (λ h. ap (listingAt (x .nodes) (x .bits)) (node-of-out t p h) ∙ sym (listing-out t g p h))
       (in-or-out p (beginnings t))
 
   -- by a walk along the text
-  pub listing-found : listingAt (x .nodes) (nodeIn (x .nodes) p) ≡ listingOf t g p
-  listing-found = ap (listingAt (x .nodes)) (node-found t g (x .nodes) (s .nodes) (s .table .ordered) p) ∙ listing-reached
+  pub listing-found : listingAt (x .nodes) (x .bits) (nodeIn (x .nodes) p) ≡ listingOf t g p
+  listing-found = ap (listingAt (x .nodes) (x .bits)) (node-found t g (x .nodes) (s .nodes) (s .table .ordered) p) ∙ listing-reached

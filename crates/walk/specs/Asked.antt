@@ -17,7 +17,8 @@ pub record Listed (east north : List ℤ) (score : List ℕ) (g : Grid) (order e
   pub norths : t .north ≡ north
   pub scores : t .score ≡ score
   pub nodes : List ℕ
-  pub lawful : setLawful t g (indexOf order nodes entries) ≡ true
+  pub bits : List ℕ
+  pub lawful : setLawful t g (indexOf order nodes entries bits) ≡ true
   pub listing : at ≡ listingOf t g p
 
 -- Serves t p says that the question was lent the parts of a lawful set of table t, and the listing of the text p

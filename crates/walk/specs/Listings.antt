@@ -1,7 +1,7 @@
 -- Where a text's stands are listed: as the code reads it on any words, and by the rules.
 use mathlib.Core.Bool.{cond}
 use mathlib.Core.List.{List}
-use Prim.Native.Nat.{ℕ, _/_}
+use Prim.Native.Nat.{ℕ, _+_, _*_, _/_}
 use lib.Dec.{leb, ltb}
 use lib.ListN.{length, getD}
 use Rattle.rules.specs.declared.Grid.{Grid}
@@ -15,21 +15,31 @@ use Rattle.walk.specs.declared.listing.Listing.{Listing}
 use Rattle.walk.specs.declared.listing.Listing.the-variants.{Entries, Nowhere, Broken}
 use Rattle.walk.specs.Walks.{nodeWord}
 
+-- the bit record that serves a node, word k of one, and its regions
+abbrev pub recordAt : List ℕ → ℕ → ℕ
+recordAt nodes j = nodeWord nodes j 5
+
+abbrev pub recordWord : List ℕ → ℕ → ℕ → ℕ
+recordWord bits n k = getD bits (n * 2 + k) 0
+
 abbrev pub cellsAt : List ℕ → ℕ → Cells
-cellsAt nodes j = record { low = nodeWord nodes j 5; high = nodeWord nodes j 6 }
+cellsAt bits n = record { low = recordWord bits n 0; high = recordWord bits n 1 }
 
 abbrev pub firstEntry : List ℕ → ℕ → ℕ
 firstEntry nodes j = nodeWord nodes j 7
 
 -- of a node
-unfoldable pub listingIn : List ℕ → ℕ → Listing
-listingIn nodes j = cond (leb (length nodes / 8) j) Broken (Entries (cellsAt nodes j) (firstEntry nodes j))
+unfoldable pub listingIn : (nodes bits : List ℕ) → ℕ → Listing
+listingIn nodes bits j =
+    cond (leb (length nodes / 8) j) Broken
+    (cond (leb (length bits / 2) (recordAt nodes j)) Broken
+    (Entries (cellsAt bits (recordAt nodes j)) (firstEntry nodes j)))
 
 -- of where a walk came to
-abbrev pub listingAt : List ℕ → Child → Listing
-listingAt nodes (child.At n) = listingIn nodes (n .0)
-listingAt nodes child.Nowhere = Nowhere
-listingAt nodes child.Broken = Broken
+abbrev pub listingAt : (nodes bits : List ℕ) → Child → Listing
+listingAt nodes bits (child.At n) = listingIn nodes bits (n .0)
+listingAt nodes bits child.Nowhere = Nowhere
+listingAt nodes bits child.Broken = Broken
 
 -- by the rules: the regions that hold a stand under the text, and the first entry of its node
 abbrev pub listingOf : Table → Grid → List ℕ → Listing

@@ -7,7 +7,7 @@ use Prim.Native.Nat.{ℕ, suc, _+_, _*_, _≤_, _<_}
 use native.Mathlib.Omega.{arith}
 use native.Mathlib.Numerals.{add-one}
 use native.Mathlib.Nat.{add-zero}
-use lib.ListN.{length, take, drop, set, length-append, drop-of-length-le}
+use lib.ListN.{length, take, drop, set, length-append, take-append-drop, drop-of-length-le}
 use lib.Seq.{sets, length-sets, sets-eq, drop-drop, length-take-le, drop-cons, getD-take}
 use borrow.Author.Tests.{eq-eqb, ne-eqb}
 use Rattle.base.specs.Lists.{each, begins}
@@ -16,8 +16,9 @@ use Rattle.base.proofs.Members.{length-each}
 use Rattle.base.proofs.Rows as rows
 use Rattle.base.proofs.Begins.{begins-parts}
 use Rattle.node.specs.Columns.{at, Sized, entryFrom, entriesFrom}
+use Rattle.node.specs.Visits.{halvesOf}
 use Rattle.words.specs.Over.{over}
-use Rattle.words.specs.Words.{entryRows}
+use Rattle.words.specs.Words.{entryRows, keptWords}
 
 -- ---- words in a room that has place for them are stored one after the other
 
@@ -27,6 +28,18 @@ over-sets d p w h = sym (sets-eq w d p h ∙ append-assoc (take p d) w (drop (p 
 
 pub over-set : (d : List ℕ) (p x : ℕ) → p < length d → set d p x ≡ over d p (x ∷ [])
 over-set d p x h = sym (over-sets d p (x ∷ []) (omega arith))
+
+pub over-none : (d : List ℕ) (p : ℕ) → over d p [] ≡ d
+unfolding over
+over-none d p = rw (add-zero p) (take-append-drop p d)
+
+-- the words of a record that is kept, and of one that is not
+module _ (kept bits : ℕ) where
+  pub kept-words : kept ≡ 1 → keptWords kept bits ≡ halvesOf bits
+  kept-words e = rw (eq-eqb kept 1 e)
+
+  pub no-words : (kept ≡ 1 → ⊥) → keptWords kept bits ≡ []
+  no-words n = rw (ne-eqb kept 1 n)
 
 sets-sets : (d : List ℕ) (p : ℕ) (w v : List ℕ) → sets (sets d p w) (p + length w) v ≡ sets d p (w ++ v)
 sets-sets d p [] v = rw add-zero

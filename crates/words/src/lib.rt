@@ -6,8 +6,10 @@ pub mod turn;
 
 use node::cursor::root;
 use node::cursor::step;
+use node::records::kept;
 use node::tally::grown;
 use node::tally::regions_under;
+use node::tally::wide;
 pub use order::has_order;
 use order::places_of;
 pub use order::put_order;
@@ -19,10 +21,10 @@ use turn::check_node;
 use turn::write_node;
 ghost use mathlib.Core.Path.{_≡_};
 ghost use lib.ListN.{length};
-ghost use Rattle.base.specs.Lent.{given, after};
+ghost use Rattle.base.specs.Lent.{given};
 ghost use Rattle.node.specs.Columns.{columnsNow, columnsIn, Grows};
 ghost use Rattle.node.specs.Visits.{visitsFrom};
-ghost use Rattle.words.specs.Words.{countFrom, CountAsks, WriteAsks, CheckAsks, WroteAll, hasWords};
+ghost use Rattle.words.specs.Words.{roomsNow, roomsGiven, roomsAfter, CountAsks, Counted, WriteAsks, WroteAll, CheckAsks, ComparesAll};
 
 // How many nodes.
 pub fn count_nodes(lengths: &[u8], shared: &[u8]) -> u32
@@ -32,20 +34,33 @@ pub fn count_nodes(lengths: &[u8], shared: &[u8]) -> u32
     grown(lengths, shared, Stand(0), Stand(lengths.len() as u32)) + 1
 }
 
-// How many entries, of all nodes.
-pub fn count_entries(lengths: &[u8], shared: &[u8], region: &[u8], all: u32) -> u32
-    requires { ⌜ CountAsks (now lengths) (now shared) (now region) all ⌝ }
-    ensures { λ r. ⌜ r ≡ countFrom (given shared) (given region) (visitsFrom (given lengths) (given shared) 0 0) ⌝ }
-{
-    let mut cursor = root();
-    while cursor.number.0 < all {
-        let bits = regions_under(shared, region, cursor.stand, cursor.length);
-        cursor = step(lengths, shared, cursor, u64::count_ones(bits));
-    }
-    cursor.entries
+// How many entries and bit records an index has.
+pub struct Counts {
+    pub entries: u32,
+    pub records: u32,
 }
 
-// All words of the nodes and the entries, in rooms that have place for them.
+// Those of all nodes.
+pub fn count(lengths: &[u8], shared: &[u8], region: &[u8], all: u32) -> Counts
+    requires { ⌜ CountAsks (now lengths) (now shared) (now region) all ⌝ }
+    ensures { λ r. ⌜ Counted (given lengths) (given shared) (given region) r ⌝ }
+{
+    let mut regions = [0u64; Session::PATH];
+    let mut cursor = root();
+    while cursor.number.0 < all {
+        let length = cursor.length;
+        let bits = regions_under(shared, region, cursor.stand, length);
+        let own = kept(&regions, length, bits);
+        regions[wide(length)] = bits;
+        cursor = step(lengths, shared, cursor, u64::count_ones(bits), own);
+    }
+    Counts {
+        entries: cursor.entries,
+        records: cursor.records,
+    }
+}
+
+// All words of the nodes, the entries and the bit records, in rooms that have place for them.
 pub fn write(
     text: &[u8],
     starts: &[u32],
@@ -56,12 +71,15 @@ pub fn write(
     all: u32,
     nodes: &mut [u32],
     entries: &mut [u32],
+    bits: &mut [u32],
 )
-    requires { ⌜ WriteAsks (columnsNow text starts lengths shared region score) all (now nodes) (now entries) ⌝ }
-    ensures { λ _. ⌜ WroteAll (columnsIn text starts lengths shared region score) (given nodes) (given entries) (after nodes) (after entries) ⌝ }
+    requires { ⌜ WriteAsks (columnsNow text starts lengths shared region score) all (roomsNow nodes entries bits) ⌝ }
+    ensures { λ _. ⌜ WroteAll (columnsIn text starts lengths shared region score) (roomsGiven nodes entries bits) (roomsAfter nodes entries bits) ⌝ }
 {
     let mut next = places_of(region);
     let mut path = [0u32; Session::PATH];
+    let mut records = [0u32; Session::PATH];
+    let mut regions = [0u64; Session::PATH];
     let mut places = [0u32; Grid::REGIONS];
     let mut best = [0u32; Grid::REGIONS];
     let mut ranked = [0u32; Grid::REGIONS];
@@ -77,16 +95,19 @@ pub fn write(
             cursor,
             &mut next,
             &mut path,
+            &mut records,
+            &mut regions,
             &mut places,
             &mut best,
             &mut ranked,
             nodes,
             entries,
+            bits,
         );
     }
 }
 
-// Whether rooms begin with all words of the nodes and the entries.
+// Whether rooms begin with all words of the nodes, the entries and the bit records; the cursor past the last node has then counted them.
 pub fn check(
     text: &[u8],
     starts: &[u32],
@@ -97,12 +118,15 @@ pub fn check(
     all: u32,
     nodes: &[u32],
     entries: &[u32],
-) -> bool
+    bits: &[u32],
+) -> Compared
     requires { ⌜ CheckAsks (columnsNow text starts lengths shared region score) all ⌝ }
-    ensures { λ r. ⌜ r ≡ hasWords (columnsIn text starts lengths shared region score) (given nodes) (given entries) ⌝ }
+    ensures { λ v. ⌜ ComparesAll (columnsIn text starts lengths shared region score) (roomsGiven nodes entries bits) v ⌝ }
 {
     let mut next = places_of(region);
     let mut path = [0u32; Session::PATH];
+    let mut records = [0u32; Session::PATH];
+    let mut regions = [0u64; Session::PATH];
     let mut places = [0u32; Grid::REGIONS];
     let mut best = [0u32; Grid::REGIONS];
     let mut ranked = [0u32; Grid::REGIONS];
@@ -118,15 +142,18 @@ pub fn check(
             here,
             &mut next,
             &mut path,
+            &mut records,
+            &mut regions,
             &mut places,
             &mut best,
             &mut ranked,
             nodes,
             entries,
+            bits,
         ) else {
-            return false;
+            return Compared::Different;
         };
         here = further;
     }
-    true
+    Compared::Same(here)
 }

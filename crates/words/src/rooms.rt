@@ -1,5 +1,6 @@
-// Words put into a lent room, and compared with one: any words, and a node's entries out of the slots of its regions.
+// Words put into a lent room, and compared with one: any words, a node's bit record, and its entries out of the slots of its regions.
 use node::Slots;
+use node::records::halves;
 use rules::layout::ENTRY_WORDS;
 ghost use mathlib.Core.Path.{_≡_};
 ghost use Prim.Native.Nat.{_+_, _*_, _≤_, _<_};
@@ -9,7 +10,7 @@ ghost use Rattle.base.specs.Lists.{begins};
 ghost use Rattle.rules.specs.Indexes.{entryRow};
 ghost use Rattle.node.specs.Columns.{entryFrom, entriesFrom};
 ghost use Rattle.words.specs.Over.{over};
-ghost use Rattle.words.specs.Words.{entryRows, HeldAsks};
+ghost use Rattle.words.specs.Words.{entryRows, keptWords, HeldAsks};
 
 // Words from a place of the room on; and whether it has them there.
 pub fn put_words(room: &mut [u32], at: usize, words: &[u32])
@@ -39,6 +40,29 @@ pub fn has_words(room: &[u32], at: usize, words: &[u32]) -> bool
         done += 1;
     }
     true
+}
+
+// The record of a node with these regions, from a place of the room on, if it keeps one; and whether the room has it there.
+pub fn put_record(room: &mut [u32], at: usize, kept: u32, bits: u64)
+    requires { ⌜ at + length (keptWords kept bits) ≤ length (now room) ⌝ }
+    ensures { λ _. ⌜ after room ≡ over (given room) at (keptWords kept bits) ⌝ }
+{
+    if kept != 1 {
+        return;
+    }
+    let words = halves(bits);
+    put_words(room, at, &words);
+}
+
+pub fn has_record(room: &[u32], at: usize, kept: u32, bits: u64) -> bool
+    requires { ⌜ at < 4294967296 ⌝ }
+    ensures { λ r. ⌜ r ≡ begins (keptWords kept bits) (drop at (given room)) ⌝ }
+{
+    if kept != 1 {
+        return true;
+    }
+    let words = halves(bits);
+    has_words(room, at, &words)
 }
 
 // A region's entry, in the order of rules::layout: the region, its largest score, its first place and the place past its last.

@@ -1,20 +1,24 @@
 // One turn of building and of checking: the node at the cursor is gathered, its words put into the rooms or compared with them, and
 // the cursor moved on.
 use crate::rooms::has_entries;
+use crate::rooms::has_record;
 use crate::rooms::has_words;
 use crate::rooms::put_entries;
+use crate::rooms::put_record;
 use crate::rooms::put_words;
 use node::Path;
+use node::RegionPath;
 use node::Slots;
 use node::cursor::Cursor;
 use node::cursor::advance;
 use node::gather;
+use node::records::serve;
 use node::row;
 use rules::layout::ENTRY_WORDS;
 use rules::layout::NODE_WORDS;
-ghost use Rattle.base.specs.Lent.{given, after};
+use rules::layout::RECORD_WORDS;
 ghost use Rattle.node.specs.Columns.{columnsNow, columnsIn};
-ghost use Rattle.words.specs.Words.{workNow, workAfter, TurnAsks, PutAsks, PutTurn, Compares};
+ghost use Rattle.words.specs.Words.{workNow, workGiven, workAfter, roomsNow, roomsGiven, roomsAfter, TurnAsks, PutAsks, PutTurn, Compares};
 
 // The node's words, in the rooms.
 pub fn write_node(
@@ -27,14 +31,17 @@ pub fn write_node(
     cursor: Cursor,
     next: &mut Slots,
     path: &mut Path,
+    records: &mut Path,
+    regions: &mut RegionPath,
     places: &mut Slots,
     best: &mut Slots,
     ranked: &mut Slots,
     nodes: &mut [u32],
     entries: &mut [u32],
+    bits: &mut [u32],
 ) -> Cursor
-    requires { ⌜ PutAsks (columnsNow text starts lengths shared region score) cursor (workNow next path places best ranked) (now nodes) (now entries) ⌝ }
-    ensures { λ r. ⌜ PutTurn (columnsIn text starts lengths shared region score) cursor r (workAfter next path places best ranked) (given nodes) (given entries) (after nodes) (after entries) ⌝ }
+    requires { ⌜ PutAsks (columnsNow text starts lengths shared region score) cursor (workNow next path records regions places best ranked) (roomsNow nodes entries bits) ⌝ }
+    ensures { λ r. ⌜ PutTurn (columnsIn text starts lengths shared region score) cursor (workGiven next path records regions places best ranked) r (workAfter next path records regions places best ranked) (roomsGiven nodes entries bits) (roomsAfter nodes entries bits) ⌝ }
 {
     let gathered = gather(
         shared,
@@ -47,7 +54,9 @@ pub fn write_node(
         best,
         ranked,
     );
-    let words = row(text, starts, lengths, shared, path, cursor, gathered);
+    let served = serve(records, regions, cursor, gathered.bits);
+    let past = gathered.past;
+    let words = row(text, starts, lengths, shared, path, cursor, past, served);
     put_words(nodes, cursor.number.0 as usize * NODE_WORDS, &words);
     put_entries(
         entries,
@@ -58,14 +67,23 @@ pub fn write_node(
         next,
         places,
     );
+    put_record(
+        bits,
+        cursor.records as usize * RECORD_WORDS,
+        served.kept,
+        gathered.bits,
+    );
     advance(
         lengths,
         shared,
         region,
         cursor,
-        gathered.held as u32,
+        gathered,
+        served,
         next,
         path,
+        records,
+        regions,
     )
 }
 
@@ -85,14 +103,17 @@ pub fn check_node(
     cursor: Cursor,
     next: &mut Slots,
     path: &mut Path,
+    records: &mut Path,
+    regions: &mut RegionPath,
     places: &mut Slots,
     best: &mut Slots,
     ranked: &mut Slots,
     nodes: &[u32],
     entries: &[u32],
+    bits: &[u32],
 ) -> Compared
-    requires { ⌜ TurnAsks (columnsNow text starts lengths shared region score) cursor (workNow next path places best ranked) ⌝ }
-    ensures { λ v. ⌜ Compares (columnsIn text starts lengths shared region score) cursor (workAfter next path places best ranked) (given nodes) (given entries) v ⌝ }
+    requires { ⌜ TurnAsks (columnsNow text starts lengths shared region score) cursor (workNow next path records regions places best ranked) ⌝ }
+    ensures { λ v. ⌜ Compares (columnsIn text starts lengths shared region score) cursor (workGiven next path records regions places best ranked) (workAfter next path records regions places best ranked) (roomsGiven nodes entries bits) v ⌝ }
 {
     let gathered = gather(
         shared,
@@ -105,7 +126,9 @@ pub fn check_node(
         best,
         ranked,
     );
-    let words = row(text, starts, lengths, shared, path, cursor, gathered);
+    let served = serve(records, regions, cursor, gathered.bits);
+    let past = gathered.past;
+    let words = row(text, starts, lengths, shared, path, cursor, past, served);
     if !has_words(nodes, cursor.number.0 as usize * NODE_WORDS, &words) {
         return Compared::Different;
     }
@@ -120,13 +143,24 @@ pub fn check_node(
     ) {
         return Compared::Different;
     }
+    if !has_record(
+        bits,
+        cursor.records as usize * RECORD_WORDS,
+        served.kept,
+        gathered.bits,
+    ) {
+        return Compared::Different;
+    }
     Compared::Same(advance(
         lengths,
         shared,
         region,
         cursor,
-        gathered.held as u32,
+        gathered,
+        served,
         next,
         path,
+        records,
+        regions,
     ))
 }

@@ -31,16 +31,16 @@ returns : tie.Need-returns
 returns c = refused-14 _ _ _ (c .put-refusal .ensures) _ (rw (c .before .before .enum-told .given .1) at (c .before .before .before .before .read-input .ensures)) refl
 
 part-reply-start : tie.Need-part-reply-start
-part-reply-start c = let p = handed (c .before .before .before .before .before .before .before .before .before .before .before .before .before .before .before .before .before .before .before) .1 in omega (arith, p .forward, p .inside)
+part-reply-start c = let p = handed (c .before .before .before .before .before .before .before .before .before .before .before .before .before .before .before .before .before .before .before .before) .1 in omega (arith, p .forward, p .inside)
 
 part-reply-end : tie.Need-part-reply-end
-part-reply-end c = let p = handed (c .before .before .before .before .before .before .before .before .before .before .before .before .before .before .before .before .before .before .before) .1 in omega (arith, p .forward, p .inside)
+part-reply-end c = let p = handed (c .before .before .before .before .before .before .before .before .before .before .before .before .before .before .before .before .before .before .before .before) .1 in omega (arith, p .forward, p .inside)
 
 reply-requires : tie.Need-reply-requires
-reply-requires c κs = let p = handed (c .before .before .before .before .before .before .before .before .before .before .before .before .before .before .before .before .before .before .before .before) .1 in omega (arith, p .few, counted (p .score))
+reply-requires c κs = let p = handed (c .before .before .before .before .before .before .before .before .before .before .before .before .before .before .before .before .before .before .before .before .before) .1 in omega (arith, p .few, counted (p .score))
 
 returns-2 : tie.Need-returns-2
-returns-2 c = replied _ _ _ (c .reply .ensures) _ _ _ _ _ _ (read (c .before .before .before .before .before .before .before .before .before .before .before .before .before .before .before .before .before .before .before .before .before)) refl
+returns-2 c = replied _ _ _ (c .reply .ensures) _ _ _ _ _ _ (read (c .before .before .before .before .before .before .before .before .before .before .before .before .before .before .before .before .before .before .before .before .before .before)) refl
 
 pub answer-spec : {M : Type 1} → statement M
 answer-spec =
@@ -57,7 +57,7 @@ answer-spec =
     (λ c. counted (handed (c .before .before .before .before .before .before .before .before .before .before .before .before .before .before) .1 .east))
     (λ c. counted (handed (c .before .before .before .before .before .before .before .before .before .before .before .before .before .before .before) .1 .north))
     (λ c. counted (handed (c .before .before .before .before .before .before .before .before .before .before .before .before .before .before .before .before) .1 .score))
-    (λ c. handed (c .before .before .before .before .before .before .before .before .before .before .before .before .before .before .before .before .before .before .before) .1 .forward)
+    (λ c. handed (c .before .before .before .before .before .before .before .before .before .before .before .before .before .before .before .before .before .before .before .before) .1 .forward)
     part-reply-start
     part-reply-end
     reply-requires

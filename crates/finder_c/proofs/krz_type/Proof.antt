@@ -70,18 +70,18 @@ use Rattle.finder_c.proofs.krz_type.Statement as stated
 use Rattle.finder_c.proofs.krz_type.Code as code
 
 abbrev stayed : Stays (f.ended .signature .params) (f.ended .kept)
-stayed = (stay-dropped (shrSliceOf (0 ∷ []) tt (plain (λ _. u8))) yes, (stay-dropped (shrSliceOf (1 ∷ []) tt (plain (λ _. u32))) yes, (stay-dropped (shrSliceOf (2 ∷ []) tt (plain (λ _. i32))) yes, (stay-dropped (shrSliceOf (3 ∷ []) tt (plain (λ _. i32))) yes, (stay-dropped (shrSliceOf (4 ∷ []) tt (plain (λ _. u32))) yes, (stay-dropped (plain (λ _. G.the-row)) yes, (stay-dropped (shrSliceOf (5 ∷ []) tt (plain (λ _. u32))) yes, (stay-dropped (shrSliceOf (6 ∷ []) tt (plain (λ _. u32))) yes, (stay-dropped (shrSliceOf (7 ∷ []) tt (plain (λ _. u32))) yes, (stay-ref (8 ∷ []) tt (plain (λ _. S.the-row)), (stay-dropped (plain (λ _. u8)) yes, tt)))))))))))
+stayed = (stay-dropped (shrSliceOf (0 ∷ []) tt (plain (λ _. u8))) yes, (stay-dropped (shrSliceOf (1 ∷ []) tt (plain (λ _. u32))) yes, (stay-dropped (shrSliceOf (2 ∷ []) tt (plain (λ _. i32))) yes, (stay-dropped (shrSliceOf (3 ∷ []) tt (plain (λ _. i32))) yes, (stay-dropped (shrSliceOf (4 ∷ []) tt (plain (λ _. u32))) yes, (stay-dropped (plain (λ _. G.the-row)) yes, (stay-dropped (shrSliceOf (5 ∷ []) tt (plain (λ _. u32))) yes, (stay-dropped (shrSliceOf (6 ∷ []) tt (plain (λ _. u32))) yes, (stay-dropped (shrSliceOf (7 ∷ []) tt (plain (λ _. u32))) yes, (stay-dropped (shrSliceOf (8 ∷ []) tt (plain (λ _. u32))) yes, (stay-ref (9 ∷ []) tt (plain (λ _. S.the-row)), (stay-dropped (plain (λ _. u8)) yes, tt))))))))))))
 
 -- the contract that the proof cites
 abbrev Callee : {M : Type 1} (𝓤 : URA M) (H : Heap 𝓤) (A : Atoms 𝓤) (mem : Memory → SProp 𝓤) (run : Routine → Fun 𝓤) → Contract 𝓤
 Callee 𝓤 H A mem run = tripleOf 𝓤 H A g.signature (g.spec 𝓤 H A mem run)
 
-module _ {M : Type 1} (𝓤 : URA M) (H : Heap 𝓤) (A : Atoms 𝓤) (W : Given 𝓤 H A) (at-mem : Memory → SProp 𝓤) (run : Routine → Fun 𝓤) (κs : Lfts 9) (qs : Shares 9) (x : Args f.signature κs) where
+module _ {M : Type 1} (𝓤 : URA M) (H : Heap 𝓤) (A : Atoms 𝓤) (W : Given 𝓤 H A) (at-mem : Memory → SProp 𝓤) (run : Routine → Fun 𝓤) (κs : Lfts 10) (qs : Shares 10) (x : Args f.signature κs) where
   abbrev κ : Lft
-  κ = κs .1 .1 .1 .1 .1 .1 .1 .1 .0
+  κ = κs .1 .1 .1 .1 .1 .1 .1 .1 .1 .0
 
   abbrev q : Share
-  q = qs .1 .1 .1 .1 .1 .1 .1 .1 .0
+  q = qs .1 .1 .1 .1 .1 .1 .1 .1 .1 .0
 
   abbrev κ₆ : Lft
   κ₆ = κs .1 .1 .1 .1 .1 .1 .0
@@ -93,10 +93,10 @@ module _ {M : Type 1} (𝓤 : URA M) (H : Heap 𝓤) (A : Atoms 𝓤) (W : Given
   ns = x .1 .1 .1 .1 .1 .1 .1 .0
 
   abbrev n : ℕ
-  n = x .1 .1 .1 .1 .1 .1 .1 .1 .1 .1 .0
+  n = x .1 .1 .1 .1 .1 .1 .1 .1 .1 .1 .1 .0
 
   abbrev ref : RefT Session
-  ref = x .1 .1 .1 .1 .1 .1 .1 .1 .1 .0
+  ref = x .1 .1 .1 .1 .1 .1 .1 .1 .1 .1 .0
 
   abbrev b : ℕ
   b = ref .ptr .0
@@ -114,7 +114,7 @@ module _ {M : Type 1} (𝓤 : URA M) (H : Heap 𝓤) (A : Atoms 𝓤) (W : Given
   out = typedOn (now ns) s (folded n)
 
   abbrev at : Vals f.signature κs
-  at = (sliceVal (x .0 .ptr) (length (x .0 .now)) ∷ [], (sliceVal (x .1 .0 .ptr) (length (x .1 .0 .now)) ∷ [], (sliceVal (x .1 .1 .0 .ptr) (length (x .1 .1 .0 .now)) ∷ [], (sliceVal (x .1 .1 .1 .0 .ptr) (length (x .1 .1 .1 .0 .now)) ∷ [], (sliceVal (x .1 .1 .1 .1 .0 .ptr) (length (x .1 .1 .1 .1 .0 .now)) ∷ [], (gridVal (x .1 .1 .1 .1 .1 .0) ∷ [], (sliceVal (x .1 .1 .1 .1 .1 .1 .0 .ptr) (length (x .1 .1 .1 .1 .1 .1 .0 .now)) ∷ [], (sliceVal (x .1 .1 .1 .1 .1 .1 .1 .0 .ptr) (length (x .1 .1 .1 .1 .1 .1 .1 .0 .now)) ∷ [], (sliceVal (x .1 .1 .1 .1 .1 .1 .1 .1 .0 .ptr) (length (x .1 .1 .1 .1 .1 .1 .1 .1 .0 .now)) ∷ [], (vptr b o ∷ [], (vint w8 n ∷ [], tt)))))))))))
+  at = (sliceVal (x .0 .ptr) (length (x .0 .now)) ∷ [], (sliceVal (x .1 .0 .ptr) (length (x .1 .0 .now)) ∷ [], (sliceVal (x .1 .1 .0 .ptr) (length (x .1 .1 .0 .now)) ∷ [], (sliceVal (x .1 .1 .1 .0 .ptr) (length (x .1 .1 .1 .0 .now)) ∷ [], (sliceVal (x .1 .1 .1 .1 .0 .ptr) (length (x .1 .1 .1 .1 .0 .now)) ∷ [], (gridVal (x .1 .1 .1 .1 .1 .0) ∷ [], (sliceVal (x .1 .1 .1 .1 .1 .1 .0 .ptr) (length (x .1 .1 .1 .1 .1 .1 .0 .now)) ∷ [], (sliceVal (x .1 .1 .1 .1 .1 .1 .1 .0 .ptr) (length (x .1 .1 .1 .1 .1 .1 .1 .0 .now)) ∷ [], (sliceVal (x .1 .1 .1 .1 .1 .1 .1 .1 .0 .ptr) (length (x .1 .1 .1 .1 .1 .1 .1 .1 .0 .now)) ∷ [], (sliceVal (x .1 .1 .1 .1 .1 .1 .1 .1 .1 .0 .ptr) (length (x .1 .1 .1 .1 .1 .1 .1 .1 .1 .0 .now)) ∷ [], (vptr b o ∷ [], (vint w8 n ∷ [], tt))))))))))))
 
   abbrev κs′ : Lfts 1
   κs′ = (κ₆, tt)
@@ -140,7 +140,7 @@ module _ {M : Type 1} (𝓤 : URA M) (H : Heap 𝓤) (A : Atoms 𝓤) (W : Given
 
   -- the tokens that are not used
   abbrev Others : List (Item 𝓤)
-  Others = ‵ (flft (κs .1 .1 .1 .1 .1 .1 .1 .0) (qs .1 .1 .1 .1 .1 .1 .1 .0)) ∷ ‵ (flft (κs .1 .1 .1 .1 .1 .0) (qs .1 .1 .1 .1 .1 .0)) ∷ ‵ (flft (κs .1 .1 .1 .1 .0) (qs .1 .1 .1 .1 .0)) ∷ ‵ (flft (κs .1 .1 .1 .0) (qs .1 .1 .1 .0)) ∷ ‵ (flft (κs .1 .1 .0) (qs .1 .1 .0)) ∷ ‵ (flft (κs .1 .0) (qs .1 .0)) ∷ ‵ (flft (κs .0) (qs .0)) ∷ []
+  Others = ‵ (flft (κs .1 .1 .1 .1 .1 .1 .1 .1 .0) (qs .1 .1 .1 .1 .1 .1 .1 .1 .0)) ∷ ‵ (flft (κs .1 .1 .1 .1 .1 .1 .1 .0) (qs .1 .1 .1 .1 .1 .1 .1 .0)) ∷ ‵ (flft (κs .1 .1 .1 .1 .1 .0) (qs .1 .1 .1 .1 .1 .0)) ∷ ‵ (flft (κs .1 .1 .1 .1 .0) (qs .1 .1 .1 .1 .0)) ∷ ‵ (flft (κs .1 .1 .1 .0) (qs .1 .1 .1 .0)) ∷ ‵ (flft (κs .1 .1 .0) (qs .1 .1 .0)) ∷ ‵ (flft (κs .1 .0) (qs .1 .0)) ∷ ‵ (flft (κs .0) (qs .0)) ∷ []
 
   -- of the callee's `ensured`, the clause alone
   said-of : (r : Stroke) → ent 𝓤 (ensured 𝓤 H A g.ended (g.clauses 𝓤 H A at-mem run) κs′ x′ tt r) (fact 𝓤 (r ≡ out))
@@ -149,10 +149,10 @@ module _ {M : Type 1} (𝓤 : URA M) (H : Heap 𝓤) (A : Atoms 𝓤) (W : Given
   -- what is owned at entry, in the order in which the walk uses it
   apart : ent 𝓤 (onEntry 𝓤 H A f.signature κs qs x at) (⋆ 𝓤 H A (‵ (fobs γ (S.the-row .coded .code s)) ∷ ‵ (fbor κ (Body (mem S.the-row) b o γ)) ∷ ‵ (flft κ q) ∷ Tok ∷ Nodes ∷ Others))
   apart =
-      qed W ((‵ (flft (κs .0) (qs .0)) ⊛ ‵ (flft (κs .1 .0) (qs .1 .0)) ⊛ ‵ (flft (κs .1 .1 .0) (qs .1 .1 .0)) ⊛ ‵ (flft (κs .1 .1 .1 .0) (qs .1 .1 .1 .0)) ⊛ ‵ (flft (κs .1 .1 .1 .1 .0) (qs .1 .1 .1 .1 .0)) ⊛ ‵ (flft (κs .1 .1 .1 .1 .1 .0) (qs .1 .1 .1 .1 .1 .0)) ⊛ ‵ (flft (κs .1 .1 .1 .1 .1 .1 .0) (qs .1 .1 .1 .1 .1 .1 .0)) ⊛ ‵ (flft (κs .1 .1 .1 .1 .1 .1 .1 .0) (qs .1 .1 .1 .1 .1 .1 .1 .0)) ⊛ ‵ (flft (κs .1 .1 .1 .1 .1 .1 .1 .1 .0) (qs .1 .1 .1 .1 .1 .1 .1 .1 .0)) ⊛ ‵ ftrue) ∷ ‵ (owns (ShrSlice (named 0) (κs .0) u8 ∷ ShrSlice (named 1) (κs .1 .0) u32 ∷ ShrSlice (named 2) (κs .1 .1 .0) i32 ∷ ShrSlice (named 3) (κs .1 .1 .1 .0) i32 ∷ ShrSlice (named 4) (κs .1 .1 .1 .1 .0) u32 ∷ G.the-row ∷ ShrSlice (named 5) (κs .1 .1 .1 .1 .1 .0) u32 ∷ ShrSlice (named 6) (κs .1 .1 .1 .1 .1 .1 .0) u32 ∷ ShrSlice (named 7) (κs .1 .1 .1 .1 .1 .1 .1 .0) u32 ∷ MutRef (named 8) κ S.the-row ∷ u8 ∷ []) x at) ∷ []) ∵
-      split ! $ move ! (1 ∷ []) $ split ! $ move ! (1 ∷ []) $ split ! $ move ! (1 ∷ []) $ split ! $ move ! (1 ∷ []) $ split ! $ move ! (1 ∷ []) $ split ! $ move ! (1 ∷ []) $ split ! $ move ! (1 ∷ []) $ split ! $ move ! (1 ∷ []) $ split ! $
+      qed W ((‵ (flft (κs .0) (qs .0)) ⊛ ‵ (flft (κs .1 .0) (qs .1 .0)) ⊛ ‵ (flft (κs .1 .1 .0) (qs .1 .1 .0)) ⊛ ‵ (flft (κs .1 .1 .1 .0) (qs .1 .1 .1 .0)) ⊛ ‵ (flft (κs .1 .1 .1 .1 .0) (qs .1 .1 .1 .1 .0)) ⊛ ‵ (flft (κs .1 .1 .1 .1 .1 .0) (qs .1 .1 .1 .1 .1 .0)) ⊛ ‵ (flft (κs .1 .1 .1 .1 .1 .1 .0) (qs .1 .1 .1 .1 .1 .1 .0)) ⊛ ‵ (flft (κs .1 .1 .1 .1 .1 .1 .1 .0) (qs .1 .1 .1 .1 .1 .1 .1 .0)) ⊛ ‵ (flft (κs .1 .1 .1 .1 .1 .1 .1 .1 .0) (qs .1 .1 .1 .1 .1 .1 .1 .1 .0)) ⊛ ‵ (flft (κs .1 .1 .1 .1 .1 .1 .1 .1 .1 .0) (qs .1 .1 .1 .1 .1 .1 .1 .1 .1 .0)) ⊛ ‵ ftrue) ∷ ‵ (owns (ShrSlice (named 0) (κs .0) u8 ∷ ShrSlice (named 1) (κs .1 .0) u32 ∷ ShrSlice (named 2) (κs .1 .1 .0) i32 ∷ ShrSlice (named 3) (κs .1 .1 .1 .0) i32 ∷ ShrSlice (named 4) (κs .1 .1 .1 .1 .0) u32 ∷ G.the-row ∷ ShrSlice (named 5) (κs .1 .1 .1 .1 .1 .0) u32 ∷ ShrSlice (named 6) (κs .1 .1 .1 .1 .1 .1 .0) u32 ∷ ShrSlice (named 7) (κs .1 .1 .1 .1 .1 .1 .1 .0) u32 ∷ ShrSlice (named 8) (κs .1 .1 .1 .1 .1 .1 .1 .1 .0) u32 ∷ MutRef (named 9) κ S.the-row ∷ u8 ∷ []) x at) ∷ []) ∵
+      split ! $ move ! (1 ∷ []) $ split ! $ move ! (1 ∷ []) $ split ! $ move ! (1 ∷ []) $ split ! $ move ! (1 ∷ []) $ split ! $ move ! (1 ∷ []) $ split ! $ move ! (1 ∷ []) $ split ! $ move ! (1 ∷ []) $ split ! $ move ! (1 ∷ []) $ split ! $ move ! (1 ∷ []) $ split ! $
       -- the tokens apart; then the parameters
-      move ! (3 ∷ 1 ∷ []) $ join ! $ move ! (9 ∷ []) $ fsplit ! $ drop ! $ fsplit ! $ drop ! $ fsplit ! $ drop ! $ fsplit ! $ drop ! $ fsplit ! $ drop ! $ fsplit ! $ drop ! $ fsplit ! $ drop ! $ fsplit ! $ move ! (1 ∷ []) $ fsplit ! $ drop ! $ fsplit ! $ fsplit3 ! $ drop ! $ keep ! (0 ∷ 1 ∷ 5 ∷ 4 ∷ 3 ∷ 6 ∷ 7 ∷ 8 ∷ 9 ∷ 10 ∷ 11 ∷ 12 ∷ []) $ done !
+      move ! (4 ∷ 1 ∷ []) $ join ! $ move ! (10 ∷ []) $ fsplit ! $ drop ! $ fsplit ! $ drop ! $ fsplit ! $ drop ! $ fsplit ! $ drop ! $ fsplit ! $ drop ! $ fsplit ! $ drop ! $ fsplit ! $ drop ! $ fsplit ! $ move ! (1 ∷ []) $ fsplit ! $ drop ! $ fsplit ! $ drop ! $ fsplit ! $ fsplit3 ! $ drop ! $ keep ! (0 ∷ 1 ∷ 5 ∷ 4 ∷ 3 ∷ 6 ∷ 7 ∷ 8 ∷ 9 ∷ 10 ∷ 11 ∷ 12 ∷ 13 ∷ []) $ done !
 
   -- what the callee asks: the nodes, and facts
   goes-g : Is S.the-row s (sessionVal s ∷ []) → Is u8 n (vint w8 n ∷ []) → ent 𝓤 (⋆ 𝓤 H A (Tok ∷ Nodes ∷ [])) Pre
@@ -165,65 +165,66 @@ module _ {M : Type 1} (𝓤 : URA M) (H : Heap 𝓤) (A : Atoms 𝓤) (W : Given
       → ent 𝓤 (⋆ 𝓤 H A (‵ (u32 .own k (u ∷ [])) ∷ ‵ (fobs γ (S.the-row .coded .code (r .session))) ∷ ‵ (fbor κ (Body (mem S.the-row) b o γ)) ∷ ‵ (flft κ q) ∷ Tok ∷ Others)) (Post u)
   exits r e was k k-is u =
       qed W (‵ (u32 .own k (u ∷ [])) ∷ ‵ (fobs γ (S.the-row .coded .code (r .session))) ∷ ‵ (fbor κ (Body (mem S.the-row) b o γ)) ∷ ‵ (flft κ q) ∷ Tok ∷ Others) ∵
-      suffices ! _ (ends-at 𝓤 H A f.ended stayed (f.clauses 𝓤 H A at-mem run) W ((κs, qs, tt, x, at), tt) u k (tt, (tt, (tt, (tt, (tt, (tt, (tt, (tt, (tt, (r .session, (tt, tt))))))))))) (tt, (tt, (tt, (tt, (tt, (tt, (tt, (tt, (tt, (tt, (tt, tt)))))))))))) $
+      suffices ! _ (ends-at 𝓤 H A f.ended stayed (f.clauses 𝓤 H A at-mem run) W ((κs, qs, tt, x, at), tt) u k (tt, (tt, (tt, (tt, (tt, (tt, (tt, (tt, (tt, (tt, (r .session, (tt, tt)))))))))))) (tt, (tt, (tt, (tt, (tt, (tt, (tt, (tt, (tt, (tt, (tt, (tt, tt))))))))))))) $
       says ! (record { answer = r .verdict; promised = subst (λ (v : Stroke). TypePromise (now ns) n s (v .session) (v .verdict)) (sym e) (type-keeps (now ns) s n (text-full s was)); same = k-is }) $
-      move ! (4 ∷ []) $ split ! $ move ! (5 ∷ 1 ∷ []) $ join ! $ move ! (5 ∷ 0 ∷ []) $ join ! $ move ! (1 ∷ 0 ∷ []) $ join ! $ move ! (4 ∷ 0 ∷ []) $ join ! $ move ! (4 ∷ 0 ∷ []) $ join ! $ move ! (4 ∷ 0 ∷ []) $ join ! $ move ! (4 ∷ 0 ∷ []) $ join ! $ move ! (4 ∷ 0 ∷ []) $ join ! $ move ! (4 ∷ 0 ∷ []) $ join ! $ frame ! $
+      move ! (4 ∷ []) $ split ! $ move ! (5 ∷ 1 ∷ []) $ join ! $ move ! (5 ∷ 0 ∷ []) $ join ! $ move ! (5 ∷ 0 ∷ []) $ join ! $ move ! (1 ∷ 0 ∷ []) $ join ! $ move ! (4 ∷ 0 ∷ []) $ join ! $ move ! (4 ∷ 0 ∷ []) $ join ! $ move ! (4 ∷ 0 ∷ []) $ join ! $ move ! (4 ∷ 0 ∷ []) $ join ! $ move ! (4 ∷ 0 ∷ []) $ join ! $ move ! (4 ∷ 0 ∷ []) $ join ! $ frame ! $
       -- [the result's; obs; the borrow]
-      move ! (1 ∷ 2 ∷ []) $ feqI ! (List Val) (vptr b o ∷ []) (vptr b o ∷ []) refl $ fjoin3 ! $ nothing ! $ nothing ! $ fjoin ! $ move ! (1 ∷ 0 ∷ []) $ fjoin ! $ nothing ! $ fjoin ! $ nothing ! $ fjoin ! $ nothing ! $ fjoin ! $ nothing ! $ fjoin ! $ nothing ! $ fjoin ! $ nothing ! $ fjoin ! $ nothing ! $ fjoin ! $ nothing ! $ fjoin ! $ nothing ! $ fjoin ! $
+      move ! (1 ∷ 2 ∷ []) $ feqI ! (List Val) (vptr b o ∷ []) (vptr b o ∷ []) refl $ fjoin3 ! $ nothing ! $ nothing ! $ fjoin ! $ move ! (1 ∷ 0 ∷ []) $ fjoin ! $ nothing ! $ fjoin ! $ nothing ! $ fjoin ! $ nothing ! $ fjoin ! $ nothing ! $ fjoin ! $ nothing ! $ fjoin ! $ nothing ! $ fjoin ! $ nothing ! $ fjoin ! $ nothing ! $ fjoin ! $ nothing ! $ fjoin ! $ nothing ! $ fjoin ! $
       done !
 
   module _ (C : Calls 𝓤 H) (Λ : Loops 𝓤 H) (fm : FmC 𝓤 H (W .laws) C) (known : Triple 𝓤 (C #g) (Callee 𝓤 H A at-mem run)) (known-m : Triple 𝓤 (C #m) (Number 𝓤 H A at-mem run)) (are : Are (typesAt (f.signature .params) κs) (Ises (typesAt (f.signature .params) κs)) x at) where
-    walk : ent 𝓤 (onEntry 𝓤 H A f.signature κs qs x at) (WpFn 𝓤 H C Λ code.function (sliceVal (x .0 .ptr) (length (x .0 .now)) ∷ sliceVal (x .1 .0 .ptr) (length (x .1 .0 .now)) ∷ sliceVal (x .1 .1 .0 .ptr) (length (x .1 .1 .0 .now)) ∷ sliceVal (x .1 .1 .1 .0 .ptr) (length (x .1 .1 .1 .0 .now)) ∷ sliceVal (x .1 .1 .1 .1 .0 .ptr) (length (x .1 .1 .1 .1 .0 .now)) ∷ gridVal (x .1 .1 .1 .1 .1 .0) ∷ sliceVal (x .1 .1 .1 .1 .1 .1 .0 .ptr) (length (x .1 .1 .1 .1 .1 .1 .0 .now)) ∷ sliceVal (x .1 .1 .1 .1 .1 .1 .1 .0 .ptr) (length (x .1 .1 .1 .1 .1 .1 .1 .0 .now)) ∷ sliceVal (x .1 .1 .1 .1 .1 .1 .1 .1 .0 .ptr) (length (x .1 .1 .1 .1 .1 .1 .1 .1 .0 .now)) ∷ vptr b o ∷ vint w8 n ∷ []) Post)
+    walk : ent 𝓤 (onEntry 𝓤 H A f.signature κs qs x at) (WpFn 𝓤 H C Λ code.function (sliceVal (x .0 .ptr) (length (x .0 .now)) ∷ sliceVal (x .1 .0 .ptr) (length (x .1 .0 .now)) ∷ sliceVal (x .1 .1 .0 .ptr) (length (x .1 .1 .0 .now)) ∷ sliceVal (x .1 .1 .1 .0 .ptr) (length (x .1 .1 .1 .0 .now)) ∷ sliceVal (x .1 .1 .1 .1 .0 .ptr) (length (x .1 .1 .1 .1 .0 .now)) ∷ gridVal (x .1 .1 .1 .1 .1 .0) ∷ sliceVal (x .1 .1 .1 .1 .1 .1 .0 .ptr) (length (x .1 .1 .1 .1 .1 .1 .0 .now)) ∷ sliceVal (x .1 .1 .1 .1 .1 .1 .1 .0 .ptr) (length (x .1 .1 .1 .1 .1 .1 .1 .0 .now)) ∷ sliceVal (x .1 .1 .1 .1 .1 .1 .1 .1 .0 .ptr) (length (x .1 .1 .1 .1 .1 .1 .1 .1 .0 .now)) ∷ sliceVal (x .1 .1 .1 .1 .1 .1 .1 .1 .1 .0 .ptr) (length (x .1 .1 .1 .1 .1 .1 .1 .1 .1 .0 .now)) ∷ vptr b o ∷ vint w8 n ∷ []) Post)
     walk =
-        via 𝓤 _ apart (qed W (‵ (fobs γ (S.the-row .coded .code s)) ∷ ‵ (fbor κ (Body (mem S.the-row) b o γ)) ∷ ‵ (flft κ q) ∷ Tok ∷ Nodes ∷ Others) ∵ enter ! C Λ code.function (sliceVal (x .0 .ptr) (length (x .0 .now)) ∷ sliceVal (x .1 .0 .ptr) (length (x .1 .0 .now)) ∷ sliceVal (x .1 .1 .0 .ptr) (length (x .1 .1 .0 .now)) ∷ sliceVal (x .1 .1 .1 .0 .ptr) (length (x .1 .1 .1 .0 .now)) ∷ sliceVal (x .1 .1 .1 .1 .0 .ptr) (length (x .1 .1 .1 .1 .0 .now)) ∷ gridVal (x .1 .1 .1 .1 .1 .0) ∷ sliceVal (x .1 .1 .1 .1 .1 .1 .0 .ptr) (length (x .1 .1 .1 .1 .1 .1 .0 .now)) ∷ sliceVal (x .1 .1 .1 .1 .1 .1 .1 .0 .ptr) (length (x .1 .1 .1 .1 .1 .1 .1 .0 .now)) ∷ sliceVal (x .1 .1 .1 .1 .1 .1 .1 .1 .0 .ptr) (length (x .1 .1 .1 .1 .1 .1 .1 .1 .0 .now)) ∷ vptr b o ∷ vint w8 n ∷ []) _ $
-        alloc1 ! (λ l0. alloc1 ! (λ l1. alloc1 ! (λ l2. alloc1 ! (λ l3. alloc1 ! (λ l4. alloc1 ! (λ l5. alloc1 ! (λ l6. alloc1 ! (λ l7. alloc1 ! (λ l8. alloc1 ! (λ l9. alloc1 ! (λ l10. alloc1 ! (λ l11. alloc1 ! (λ l12. alloc1 ! (λ l13. alloc0 ! $ params1 ! $
-        pass1 ! (init ! 24 refl (shr-slice-lawful 𝓤 H A W (named 0) (κs .0) u8 .typed (x .0) _ (are .0) .0)) $
-        pass1 ! (init ! 22 refl (shr-slice-lawful 𝓤 H A W (named 1) (κs .1 .0) u32 .typed (x .1 .0) _ (are .1 .0) .0)) $
-        pass1 ! (init ! 20 refl (shr-slice-lawful 𝓤 H A W (named 2) (κs .1 .1 .0) i32 .typed (x .1 .1 .0) _ (are .1 .1 .0) .0)) $
-        pass1 ! (init ! 18 refl (shr-slice-lawful 𝓤 H A W (named 3) (κs .1 .1 .1 .0) i32 .typed (x .1 .1 .1 .0) _ (are .1 .1 .1 .0) .0)) $
-        pass1 ! (init ! 16 refl (shr-slice-lawful 𝓤 H A W (named 4) (κs .1 .1 .1 .1 .0) u32 .typed (x .1 .1 .1 .1 .0) _ (are .1 .1 .1 .1 .0) .0)) $
-        pass1 ! (init ! 14 refl (LL.lawful G.the-type G′.the-laws 𝓤 H A W .typed (x .1 .1 .1 .1 .1 .0) _ (are .1 .1 .1 .1 .1 .0) .0)) $
-        pass1 ! (init ! 12 refl (shr-slice-lawful 𝓤 H A W (named 5) (κs .1 .1 .1 .1 .1 .0) u32 .typed (x .1 .1 .1 .1 .1 .1 .0) _ (are .1 .1 .1 .1 .1 .1 .0) .0)) $
-        pass1 ! (init ! 10 refl (shr-slice-lawful 𝓤 H A W (named 6) (κs .1 .1 .1 .1 .1 .1 .0) u32 .typed (x .1 .1 .1 .1 .1 .1 .1 .0) _ (are .1 .1 .1 .1 .1 .1 .1 .0) .0)) $
-        pass1 ! (init ! 8 refl (shr-slice-lawful 𝓤 H A W (named 7) (κs .1 .1 .1 .1 .1 .1 .1 .0) u32 .typed (x .1 .1 .1 .1 .1 .1 .1 .1 .0) _ (are .1 .1 .1 .1 .1 .1 .1 .1 .0) .0)) $
+        via 𝓤 _ apart (qed W (‵ (fobs γ (S.the-row .coded .code s)) ∷ ‵ (fbor κ (Body (mem S.the-row) b o γ)) ∷ ‵ (flft κ q) ∷ Tok ∷ Nodes ∷ Others) ∵ enter ! C Λ code.function (sliceVal (x .0 .ptr) (length (x .0 .now)) ∷ sliceVal (x .1 .0 .ptr) (length (x .1 .0 .now)) ∷ sliceVal (x .1 .1 .0 .ptr) (length (x .1 .1 .0 .now)) ∷ sliceVal (x .1 .1 .1 .0 .ptr) (length (x .1 .1 .1 .0 .now)) ∷ sliceVal (x .1 .1 .1 .1 .0 .ptr) (length (x .1 .1 .1 .1 .0 .now)) ∷ gridVal (x .1 .1 .1 .1 .1 .0) ∷ sliceVal (x .1 .1 .1 .1 .1 .1 .0 .ptr) (length (x .1 .1 .1 .1 .1 .1 .0 .now)) ∷ sliceVal (x .1 .1 .1 .1 .1 .1 .1 .0 .ptr) (length (x .1 .1 .1 .1 .1 .1 .1 .0 .now)) ∷ sliceVal (x .1 .1 .1 .1 .1 .1 .1 .1 .0 .ptr) (length (x .1 .1 .1 .1 .1 .1 .1 .1 .0 .now)) ∷ sliceVal (x .1 .1 .1 .1 .1 .1 .1 .1 .1 .0 .ptr) (length (x .1 .1 .1 .1 .1 .1 .1 .1 .1 .0 .now)) ∷ vptr b o ∷ vint w8 n ∷ []) _ $
+        alloc1 ! (λ l0. alloc1 ! (λ l1. alloc1 ! (λ l2. alloc1 ! (λ l3. alloc1 ! (λ l4. alloc1 ! (λ l5. alloc1 ! (λ l6. alloc1 ! (λ l7. alloc1 ! (λ l8. alloc1 ! (λ l9. alloc1 ! (λ l10. alloc1 ! (λ l11. alloc1 ! (λ l12. alloc1 ! (λ l13. alloc1 ! (λ l14. alloc0 ! $ params1 ! $
+        pass1 ! (init ! 26 refl (shr-slice-lawful 𝓤 H A W (named 0) (κs .0) u8 .typed (x .0) _ (are .0) .0)) $
+        pass1 ! (init ! 24 refl (shr-slice-lawful 𝓤 H A W (named 1) (κs .1 .0) u32 .typed (x .1 .0) _ (are .1 .0) .0)) $
+        pass1 ! (init ! 22 refl (shr-slice-lawful 𝓤 H A W (named 2) (κs .1 .1 .0) i32 .typed (x .1 .1 .0) _ (are .1 .1 .0) .0)) $
+        pass1 ! (init ! 20 refl (shr-slice-lawful 𝓤 H A W (named 3) (κs .1 .1 .1 .0) i32 .typed (x .1 .1 .1 .0) _ (are .1 .1 .1 .0) .0)) $
+        pass1 ! (init ! 18 refl (shr-slice-lawful 𝓤 H A W (named 4) (κs .1 .1 .1 .1 .0) u32 .typed (x .1 .1 .1 .1 .0) _ (are .1 .1 .1 .1 .0) .0)) $
+        pass1 ! (init ! 16 refl (LL.lawful G.the-type G′.the-laws 𝓤 H A W .typed (x .1 .1 .1 .1 .1 .0) _ (are .1 .1 .1 .1 .1 .0) .0)) $
+        pass1 ! (init ! 14 refl (shr-slice-lawful 𝓤 H A W (named 5) (κs .1 .1 .1 .1 .1 .0) u32 .typed (x .1 .1 .1 .1 .1 .1 .0) _ (are .1 .1 .1 .1 .1 .1 .0) .0)) $
+        pass1 ! (init ! 12 refl (shr-slice-lawful 𝓤 H A W (named 6) (κs .1 .1 .1 .1 .1 .1 .0) u32 .typed (x .1 .1 .1 .1 .1 .1 .1 .0) _ (are .1 .1 .1 .1 .1 .1 .1 .0) .0)) $
+        pass1 ! (init ! 10 refl (shr-slice-lawful 𝓤 H A W (named 7) (κs .1 .1 .1 .1 .1 .1 .1 .0) u32 .typed (x .1 .1 .1 .1 .1 .1 .1 .1 .0) _ (are .1 .1 .1 .1 .1 .1 .1 .1 .0) .0)) $
+        pass1 ! (init ! 8 refl (shr-slice-lawful 𝓤 H A W (named 8) (κs .1 .1 .1 .1 .1 .1 .1 .1 .0) u32 .typed (x .1 .1 .1 .1 .1 .1 .1 .1 .1 .0) _ (are .1 .1 .1 .1 .1 .1 .1 .1 .1 .0) .0)) $
         pass1 ! (init ! 6 refl (tt, tt)) $
-        pass1 ! (init ! 4 refl (uint-lawful 𝓤 H A W w8 .typed n _ (are .1 .1 .1 .1 .1 .1 .1 .1 .1 .1 .0) .0)) $
-        pass0 ! $ move ! (28 ∷ 29 ∷ 30 ∷ []) $
+        pass1 ! (init ! 4 refl (uint-lawful 𝓤 H A W w8 .typed n _ (are .1 .1 .1 .1 .1 .1 .1 .1 .1 .1 .1 .0) .0)) $
+        pass0 ! $ move ! (30 ∷ 31 ∷ 32 ∷ []) $
         opens ! tt S.the-row {h = s} b o (λ vs. spelt ! S.the-row (Is S.the-row) (shows 𝓤 H A S.the-row) (LL.vals S.the-type S′.the-laws) (LL.tells S.the-type S′.the-laws) fullShare s vs b o $
         move ! (1 ∷ []) $ peeks ! S.the-row (Is S.the-row) (shows 𝓤 H A S.the-row) s (sessionVal s ∷ []) (λ was. move ! (1 ∷ 0 ∷ []) $
-        -- [the session's cell; what a Session owns; the open borrow; obs; auth; room for _13; …; room for _0; …; the token; the nodes; the tokens not used]
+        -- [the session's cell; what a Session owns; the open borrow; obs; auth; room for _14; …; room for _0; …; the token; the nodes; the tokens not used]
         assigns ! (of-opd ! (load ! (from ! (hop ! (look ! 11 refl) (stop !))) (look-raw ! 0 refl))) (from ! (stop !)) (init ! 5 refl (session-typed 𝓤 H A W s was)) $
-        move ! (33 ∷ 34 ∷ []) $ use2 W (raw Pre) (goes-g was (are .1 .1 .1 .1 .1 .1 .1 .1 .1 .1 .0)) $
-        calls-at ! fm (Callee 𝓤 H A at-mem run) known to-g (and-then ! (load ! (from ! (stop !)) (look ! 16 refl)) (and-then ! (load ! (from ! (stop !)) (look ! 6 refl)) (and-then ! (load ! (from ! (stop !)) (look ! 10 refl)) (no-more !)))) (λ v.
+        move ! (35 ∷ 36 ∷ []) $ use2 W (raw Pre) (goes-g was (are .1 .1 .1 .1 .1 .1 .1 .1 .1 .1 .1 .0)) $
+        calls-at ! fm (Callee 𝓤 H A at-mem run) known to-g (and-then ! (load ! (from ! (stop !)) (look ! 18 refl)) (and-then ! (load ! (from ! (stop !)) (look ! 6 refl)) (and-then ! (load ! (from ! (stop !)) (look ! 10 refl)) (no-more !)))) (λ v.
         use1 W (later (some (λ (r : Stroke). (Tok ⊛ ‵ (P.the-row .own r (v ∷ []))) ⊛ raw (ensured 𝓤 H A g.ended (g.clauses 𝓤 H A at-mem run) κs′ x′ tt r)))) (id⊢ 𝓤 _) $ await ! tt $ pick ! (λ r.
         split ! $ move ! (1 ∷ []) $ use1 W (raw (fact 𝓤 (r ≡ out))) (said-of r) $ heard ! (r ≡ out) (λ e. split ! $ move ! (1 ∷ []) $
-        -- [what the stroke owns; the token; the session's cell; what the old Session owns; the open borrow; obs; auth; _13; …; room for _0; …]
+        -- [what the stroke owns; the token; the session's cell; what the old Session owns; the open borrow; obs; auth; _14; …; room for _0; …]
         peeks ! P.the-row (Is P.the-row) (shows 𝓤 H A P.the-row) r (v ∷ []) (λ is.
-        land ! (from ! (stop !)) (init ! 9 refl (stroke-typed 𝓤 H A W r v is)) $ rewrite ! 9 (λ (u : Val). ‵ (fat fullShare P′.mir l12 0 u)) (ap only (LL.tells P.the-type P′.the-laws r _ is)) refl $
+        land ! (from ! (stop !)) (init ! 9 refl (stroke-typed 𝓤 H A W r v is)) $ rewrite ! 9 (λ (u : Val). ‵ (fat fullShare P′.mir l13 0 u)) (ap only (LL.tells P.the-type P′.the-laws r _ is)) refl $
         rewrite ! 0 (λ (us : List Val). ‵ (P.the-row .own r us)) (LL.tells P.the-type P′.the-laws r _ is) refl $
         peeks ! P.the-row (Is P.the-row) (shows 𝓤 H A P.the-row) r (strokeVal r ∷ []) (λ is′.
         assigns ! (of-opd ! (load ! (from ! (fld ! refl (stop !))) (look-in ! 9 (sub ! 1 refl (whole !))))) (from ! (hop ! (look ! 13 refl) (stop !))) (store-raw ! 2 refl (session-typed 𝓤 H A W (r .session) (session-is r is′))) $
         -- what was owned of the stroke and of the old session is let go, and the new session's is made
         drop ! $ move ! (2 ∷ []) $ drop ! $ owned ! S.the-row (Is S.the-row) (LL.makes S.the-type S′.the-plain 𝓤 H A) (r .session) _ (session-is r is′) $ move ! (2 ∷ 0 ∷ 3 ∷ 4 ∷ 5 ∷ []) $ closes ! tt S.the-row (r .session) (sessionVal (r .session) ∷ []) b o $
-        -- [obs; the borrow; κ; the token; _13; …; _0; …; the tokens not used]
+        -- [obs; the borrow; κ; the token; _14; …; _0; …; the tokens not used]
         use0 W (raw (Number 𝓤 H A at-mem run .pre (to-m 𝓤 H A W at-mem run (r .verdict)))) (goes-m 𝓤 H A W at-mem run (r .verdict) (verdict-is r is′)) $
         calls-at ! fm (Number 𝓤 H A at-mem run) known-m (to-m 𝓤 H A W at-mem run (r .verdict)) (and-then ! (load ! (from ! (fld ! refl (stop !))) (look-in ! 7 (sub ! 0 refl (whole !)))) (no-more !)) (λ u.
         use1 W (later (some (λ (k : ℕ). (‵ ftrue ⊛ ‵ (u32 .own k (u ∷ []))) ⊛ raw (ensured 𝓤 H A m.ended (m.clauses 𝓤 H A at-mem run) tt (r .verdict, tt) tt k)))) (id⊢ 𝓤 _) $ await ! tt $ pick ! (λ k.
         split ! $ move ! (1 ∷ []) $ use1 W (raw (fact 𝓤 (k ≡ verdictNumber (r .verdict)))) (said-m 𝓤 H A W at-mem run (r .verdict) k) $ heard ! (k ≡ verdictNumber (r .verdict)) (λ k-is. split ! $ drop ! $
-        -- [the result's; obs; the borrow; κ; the token; _13; …; room for _0; …; the tokens not used]
-        peeks ! u32 (Is u32) (shows 𝓤 H A u32) k (u ∷ []) (λ u-is. land ! (from ! (stop !)) (init ! 31 refl (uint-lawful 𝓤 H A W w32 .typed k _ u-is .0)) $
-        returns ! (look ! 31 refl) $ forget ! 5 refl $ forget ! 7 refl $ forget ! 9 refl $ forget ! 11 refl $ forget ! 13 refl $ forget ! 15 refl $ forget ! 17 refl $ forget ! 19 refl $ forget ! 21 refl $ forget ! 23 refl $ forget ! 25 refl $ forget ! 27 refl $ forget ! 29 refl $ forget ! 31 refl $
-        move ! (31 ∷ 32 ∷ []) $ free1 ! $ move ! (29 ∷ 30 ∷ []) $ free1 ! $ move ! (27 ∷ 28 ∷ []) $ free1 ! $ move ! (25 ∷ 26 ∷ []) $ free1 ! $ move ! (23 ∷ 24 ∷ []) $ free1 ! $ move ! (21 ∷ 22 ∷ []) $ free1 ! $ move ! (19 ∷ 20 ∷ []) $ free1 ! $ move ! (17 ∷ 18 ∷ []) $ free1 ! $ move ! (15 ∷ 16 ∷ []) $ free1 ! $ move ! (13 ∷ 14 ∷ []) $ free1 ! $ move ! (11 ∷ 12 ∷ []) $ free1 ! $ move ! (9 ∷ 10 ∷ []) $ free1 ! $ move ! (7 ∷ 8 ∷ []) $ free1 ! $ move ! (5 ∷ 6 ∷ []) $ free1 ! $ free0 ! $
-        by ! (exits r e was k k-is u)))))))))))))))))))))))))))
+        -- [the result's; obs; the borrow; κ; the token; _14; …; room for _0; …; the tokens not used]
+        peeks ! u32 (Is u32) (shows 𝓤 H A u32) k (u ∷ []) (λ u-is. land ! (from ! (stop !)) (init ! 33 refl (uint-lawful 𝓤 H A W w32 .typed k _ u-is .0)) $
+        returns ! (look ! 33 refl) $ forget ! 5 refl $ forget ! 7 refl $ forget ! 9 refl $ forget ! 11 refl $ forget ! 13 refl $ forget ! 15 refl $ forget ! 17 refl $ forget ! 19 refl $ forget ! 21 refl $ forget ! 23 refl $ forget ! 25 refl $ forget ! 27 refl $ forget ! 29 refl $ forget ! 31 refl $ forget ! 33 refl $
+        move ! (33 ∷ 34 ∷ []) $ free1 ! $ move ! (31 ∷ 32 ∷ []) $ free1 ! $ move ! (29 ∷ 30 ∷ []) $ free1 ! $ move ! (27 ∷ 28 ∷ []) $ free1 ! $ move ! (25 ∷ 26 ∷ []) $ free1 ! $ move ! (23 ∷ 24 ∷ []) $ free1 ! $ move ! (21 ∷ 22 ∷ []) $ free1 ! $ move ! (19 ∷ 20 ∷ []) $ free1 ! $ move ! (17 ∷ 18 ∷ []) $ free1 ! $ move ! (15 ∷ 16 ∷ []) $ free1 ! $ move ! (13 ∷ 14 ∷ []) $ free1 ! $ move ! (11 ∷ 12 ∷ []) $ free1 ! $ move ! (9 ∷ 10 ∷ []) $ free1 ! $ move ! (7 ∷ 8 ∷ []) $ free1 ! $ move ! (5 ∷ 6 ∷ []) $ free1 ! $ free0 ! $
+        by ! (exits r e was k k-is u))))))))))))))))))))))))))))
 
 module _ {M : Type 1} (𝓤 : URA M) (H : Heap 𝓤) (A : Atoms 𝓤) (W : Given 𝓤 H A) (at-mem : Memory → SProp 𝓤) (run : Routine → Fun 𝓤) where
   f-walks : (C : Calls 𝓤 H) (Λ : Loops 𝓤 H) → FmC 𝓤 H (W .laws) C → Triple 𝓤 (C #g) (Callee 𝓤 H A at-mem run) → Triple 𝓤 (C #m) (Number 𝓤 H A at-mem run) → Walks 𝓤 H A f.ended stayed (WpFn 𝓤 H C Λ code.function) (f.clauses 𝓤 H A at-mem run)
-  f-walks C Λ fm known known-m = walked 𝓤 H A f.ended stayed (f.clauses 𝓤 H A at-mem run) (WpFn 𝓤 H C Λ code.function) (λ κs. (slice-vals, (slice-vals, (slice-vals, (slice-vals, (slice-vals, (LL.vals G.the-type G′.the-laws, (slice-vals, (slice-vals, (slice-vals, (ptr-vals, (uint-vals w8, tt))))))))))))
-      (λ κs. (shr-slice-tells (named 0) (κs .0) u8, (shr-slice-tells (named 1) (κs .1 .0) u32, (shr-slice-tells (named 2) (κs .1 .1 .0) i32, (shr-slice-tells (named 3) (κs .1 .1 .1 .0) i32, (shr-slice-tells (named 4) (κs .1 .1 .1 .1 .0) u32, (LL.tells G.the-type G′.the-laws, (shr-slice-tells (named 5) (κs .1 .1 .1 .1 .1 .0) u32, (shr-slice-tells (named 6) (κs .1 .1 .1 .1 .1 .1 .0) u32, (shr-slice-tells (named 7) (κs .1 .1 .1 .1 .1 .1 .1 .0) u32, (mut-tells (named 8) (κs .1 .1 .1 .1 .1 .1 .1 .1 .0) S.the-row, (uint-tells w8, tt))))))))))))
+  f-walks C Λ fm known known-m = walked 𝓤 H A f.ended stayed (f.clauses 𝓤 H A at-mem run) (WpFn 𝓤 H C Λ code.function) (λ κs. (slice-vals, (slice-vals, (slice-vals, (slice-vals, (slice-vals, (LL.vals G.the-type G′.the-laws, (slice-vals, (slice-vals, (slice-vals, (slice-vals, (ptr-vals, (uint-vals w8, tt)))))))))))))
+      (λ κs. (shr-slice-tells (named 0) (κs .0) u8, (shr-slice-tells (named 1) (κs .1 .0) u32, (shr-slice-tells (named 2) (κs .1 .1 .0) i32, (shr-slice-tells (named 3) (κs .1 .1 .1 .0) i32, (shr-slice-tells (named 4) (κs .1 .1 .1 .1 .0) u32, (LL.tells G.the-type G′.the-laws, (shr-slice-tells (named 5) (κs .1 .1 .1 .1 .1 .0) u32, (shr-slice-tells (named 6) (κs .1 .1 .1 .1 .1 .1 .0) u32, (shr-slice-tells (named 7) (κs .1 .1 .1 .1 .1 .1 .1 .0) u32, (shr-slice-tells (named 8) (κs .1 .1 .1 .1 .1 .1 .1 .1 .0) u32, (mut-tells (named 9) (κs .1 .1 .1 .1 .1 .1 .1 .1 .1 .0) S.the-row, (uint-tells w8, tt)))))))))))))
       (λ κs qs bounds a _ are. via 𝓤 _ (fst∗ 𝓤 _ (emp 𝓤)) (walk 𝓤 H A W at-mem run κs qs a C Λ fm known known-m are))
 
-  goes : AllGo 𝓤 H A W 9 (f.signature .params) (f.ended .kept) stayed
-  goes = (goes-dropped 𝓤 H A W 9 (shrSliceOf (0 ∷ []) tt (plain (λ _. u8))) yes (λ κs x f. refl), (goes-dropped 𝓤 H A W 9 (shrSliceOf (1 ∷ []) tt (plain (λ _. u32))) yes (λ κs x f. refl), (goes-dropped 𝓤 H A W 9 (shrSliceOf (2 ∷ []) tt (plain (λ _. i32))) yes (λ κs x f. refl), (goes-dropped 𝓤 H A W 9 (shrSliceOf (3 ∷ []) tt (plain (λ _. i32))) yes (λ κs x f. refl), (goes-dropped 𝓤 H A W 9 (shrSliceOf (4 ∷ []) tt (plain (λ _. u32))) yes (λ κs x f. refl), (goes-dropped 𝓤 H A W 9 (plain (λ _. G.the-row)) yes (λ κs x f. refl), (goes-dropped 𝓤 H A W 9 (shrSliceOf (5 ∷ []) tt (plain (λ _. u32))) yes (λ κs x f. refl), (goes-dropped 𝓤 H A W 9 (shrSliceOf (6 ∷ []) tt (plain (λ _. u32))) yes (λ κs x f. refl), (goes-dropped 𝓤 H A W 9 (shrSliceOf (7 ∷ []) tt (plain (λ _. u32))) yes (λ κs x f. refl), (goes-ref 𝓤 H A W 9 8 tt (plain (λ _. S.the-row)), (goes-dropped 𝓤 H A W 9 (plain (λ _. u8)) yes (λ κs x f. refl), tt)))))))))))
+  goes : AllGo 𝓤 H A W 10 (f.signature .params) (f.ended .kept) stayed
+  goes = (goes-dropped 𝓤 H A W 10 (shrSliceOf (0 ∷ []) tt (plain (λ _. u8))) yes (λ κs x f. refl), (goes-dropped 𝓤 H A W 10 (shrSliceOf (1 ∷ []) tt (plain (λ _. u32))) yes (λ κs x f. refl), (goes-dropped 𝓤 H A W 10 (shrSliceOf (2 ∷ []) tt (plain (λ _. i32))) yes (λ κs x f. refl), (goes-dropped 𝓤 H A W 10 (shrSliceOf (3 ∷ []) tt (plain (λ _. i32))) yes (λ κs x f. refl), (goes-dropped 𝓤 H A W 10 (shrSliceOf (4 ∷ []) tt (plain (λ _. u32))) yes (λ κs x f. refl), (goes-dropped 𝓤 H A W 10 (plain (λ _. G.the-row)) yes (λ κs x f. refl), (goes-dropped 𝓤 H A W 10 (shrSliceOf (5 ∷ []) tt (plain (λ _. u32))) yes (λ κs x f. refl), (goes-dropped 𝓤 H A W 10 (shrSliceOf (6 ∷ []) tt (plain (λ _. u32))) yes (λ κs x f. refl), (goes-dropped 𝓤 H A W 10 (shrSliceOf (7 ∷ []) tt (plain (λ _. u32))) yes (λ κs x f. refl), (goes-dropped 𝓤 H A W 10 (shrSliceOf (8 ∷ []) tt (plain (λ _. u32))) yes (λ κs x f. refl), (goes-ref 𝓤 H A W 10 9 tt (plain (λ _. S.the-row)), (goes-dropped 𝓤 H A W 10 (plain (λ _. u8)) yes (λ κs x f. refl), tt))))))))))))
 
 f-meets : {M : Type 1} (𝓤 : URA M) (H : Heap 𝓤) (A : Atoms 𝓤) → Given 𝓤 H A → (at-mem : Memory → SProp 𝓤) (run : Routine → Fun 𝓤) (𝓣 : Tables 𝓤 H) → Triple 𝓤 (𝓣 .C #g) (Callee 𝓤 H A at-mem run) → Triple 𝓤 (𝓣 .C #m) (Number 𝓤 H A at-mem run)
     → Meets 𝓤 H A f.signature (WpFn 𝓤 H (𝓣 .C) (𝓣 .Λ) code.function) (f.spec 𝓤 H A at-mem run)

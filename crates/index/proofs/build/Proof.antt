@@ -15,7 +15,7 @@ returns c = refused-built _ _ _ _ (sym (ap verdictNumber (c .before .verdict .gi
 
 -- past the refusals
 lawful-here : (c : tie.After-enum-told) →
-    let a = c .before .before .before .before .before .before .before .before .before .args in
+    let a = c .before .before .before .before .before .before .before .before .before .before .args in
     LawfulTable (tableOf (a .text .now) (a .starts .now) (a .east .now) (a .north .now) (a .score .now)) (a .grid)
 lawful-here c = granted _ _ _ (c .before .before .table-refusal .ensures) (c .enum-told .given .1)
 
@@ -48,16 +48,16 @@ slice-aggregate-put-index-3 c = front-size _ _ (lawful-here (c .before .before .
 
 put-index-requires : tie.Need-put-index-requires
 put-index-requires c κs =
-    let lent = c .before .before .before .before .before .before in
+    let lent = c .before .before .before .before .before .before .before in
     let l = lawful-here (lent .before .before .before) in
     rw (columns-are _ _ l _ (lent .before .before .lengths .ensures) (lent .before .shares .ensures) (lent .regions .ensures)) (columns-lawful _ _ l)
 
 returns-2 : tie.Need-returns-2
 returns-2 c =
-    let lent = c .before .before .before .before .before .before .before .before .before .before .before .before .before in
+    let lent = c .before .before .before .before .before .before .before .before .before .before .before .before .before .before .before .before in
     let l = lawful-here (lent .before .before .before) in
     let columns = columns-are _ _ l _ (lent .before .before .lengths .ensures) (lent .before .shares .ensures) (lent .regions .ensures) in
-    wrote-built _ _ l _ _ _ (rw columns at (c .before .before .before .before .before .before .put-index .ensures))
+    wrote-built _ _ l _ _ _ (rw columns at (c .before .before .before .before .before .before .before .before .put-index .ensures))
 
 pub build-spec : {M : Type 1} → statement M
 build-spec =
@@ -77,6 +77,7 @@ build-spec =
     array-share-prefix-region
     slice-aggregate-put-index-3
     put-index-requires
+    (λ c. search needs)
     (λ c. search needs)
     (λ c. search needs)
     (λ c. search needs)

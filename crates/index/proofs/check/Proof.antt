@@ -15,7 +15,7 @@ returns c = refused-checked _ _ _ (c .enum-told2 .given .0 .0) (sym (ap verdictN
 
 -- past the refusals
 lawful-here : (c : tie.After-enum-told) →
-    let a = c .before .before .before .before .before .before .before .before .before .args in
+    let a = c .before .before .before .before .before .before .before .before .before .before .args in
     LawfulTable (tableOf (a .text .now) (a .starts .now) (a .east .now) (a .north .now) (a .score .now)) (a .grid)
 lawful-here c = granted _ _ _ (c .before .before .table-refusal .ensures) (c .enum-told .given .1)
 

@@ -1,4 +1,4 @@
--- `buffers::has_index` compares the order, then the nodes with their entries: a way out for each.
+-- `buffers::has_index` compares the order, then the nodes with their entries and records: a way out for each.
 -- Assumes nothing.
 use borrow.Author.Tests.{not-true, not-false}
 use Rattle.index.proofs.Answers.{other-order, other-nodes, has-words}
@@ -10,12 +10,11 @@ returns : tie.Need-returns
 returns c = other-order _ _ _ (c .before .has-order .ensures) (not-true _ (c .if1 .taken))
 
 returns-2 : tie.Need-returns-2
-returns-2 c = other-nodes _ _ _ (c .before .before .before .before .has-order .ensures) _ (c .before .check .ensures) (not-false _ (c .before .before .before .if1 .left)) (not-true _ (c .if2 .taken))
+returns-2 c = other-nodes _ _ _ (c .before .before .before .before .before .has-order .ensures) _ (c .before .before .check .ensures) (not-false _ (c .before .before .before .before .if1 .left)) (c .enum-told .given .1)
 
 returns-3 : tie.Need-returns-3
 returns-3 c =
-    has-words _ _ _ (c .before .before .before .before .before .has-order .ensures) _ (c .before .before .check .ensures) (not-false _ (c .before .before .before .before .if1 .left)) (not-false _ (c .before .if2 .left)) _ _
-    (c .before .before .before .count-nodes .ensures) (c .count-entries .ensures)
+    has-words _ _ _ (c .before .before .before .before .before .before .has-order .ensures) _ (c .before .before .before .check .ensures) (not-false _ (c .before .before .before .before .before .if1 .left)) _ _ (c .before .before .before .before .count-nodes .ensures) (c .before .past .given .1)
 
 pub has-index-spec : {M : Type 1} → statement M
 has-index-spec =
@@ -25,6 +24,7 @@ has-index-spec =
     returns
     (λ c κs. search needs)
     (λ c κs. search needs)
+    (λ c. search needs)
+    (λ c. search needs)
     returns-2
-    (λ c κs. search needs)
     returns-3)

@@ -8,30 +8,34 @@ use Rattle.index.proofs.buffers.put_index.Statement.{statement}
 use Rattle.index.proofs.buffers.put_index.Tie as tie
 
 returns : tie.Need-returns
-returns c = no-room _ _ _ _ (c .before .before .before .count-nodes .ensures) (c .before .before .count-entries .ensures) _ (c .before .too-small .ensures) (c .if1 .taken)
+returns c =
+    let counts = c .before .before .count .ensures in
+    no-room _ _ _ _ _ (c .before .before .before .count-nodes .ensures) (counts .entries) (counts .records) _ (c .before .too-small .ensures) (c .if1 .taken)
 
 abbrev start : tie.Else1 → tie.Start
-start c = c .before .before .before .before .before .before .before .before .before .before .before .before .before
+start c = c .before .before .before .before .before .before .before .before .before .before .before .before .before .before
 
 room : (c : tie.Else1) →
     let a = start c .args in
-    Roomy (indexColumns (a .text .now) (a .starts .now) (a .lengths .now) (a .shared .now) (a .region .now) (a .score .now)) (indexOf (a .order .now) (a .nodes .now) (a .entries .now))
-room c = roomy _ _ _ _ (c .before .before .before .count-nodes .ensures) (c .before .before .count-entries .ensures) _ (c .before .too-small .ensures) (c .if1 .left)
+    Roomy (indexColumns (a .text .now) (a .starts .now) (a .lengths .now) (a .shared .now) (a .region .now) (a .score .now)) (indexOf (a .order .now) (a .nodes .now) (a .entries .now) (a .bits .now))
+room c =
+    let counts = c .before .before .count .ensures in
+    roomy _ _ _ _ _ (c .before .before .before .count-nodes .ensures) (counts .entries) (counts .records) _ (c .before .too-small .ensures) (c .if1 .left)
 
 put-order-requires : tie.Need-put-order-requires
 put-order-requires c κs = (start (c .before) .pre .placed, room (c .before) .for-order)
 
 write-requires : tie.Need-write-requires
 write-requires c κs =
-    let s = c .before .before .before .before .before .before in
+    let s = c .before .before .before .before .before .before .before in
     let r = room s in
-    record { lawful = start s .pre; count = s .before .before .before .count-nodes .ensures; row-room = r .for-nodes; entry-room = r .for-entries }
+    record { lawful = start s .pre; count = s .before .before .before .count-nodes .ensures; row-room = r .for-nodes; entry-room = r .for-entries; record-room = r .for-bits }
 
 returns-2 : tie.Need-returns-2
 returns-2 c =
-    let s = c .before .before .before .before .before .before .before .before .before .before .before in
-    wrote _ _ _ _ (s .before .before .before .count-nodes .ensures) (s .before .before .count-entries .ensures) _ (s .before .too-small .ensures) (s .if1 .left) _ _ _
-    (c .before .before .before .before .before .before .before .before .before .put-order .ensures) (c .before .before .before .before .write .ensures .rows-now) (c .before .before .before .before .write .ensures .entries-now)
+    let s = c .before .before .before .before .before .before .before .before .before .before .before .before .before .before in
+    let counts = s .before .before .count .ensures in
+    wrote _ _ _ _ _ (s .before .before .before .count-nodes .ensures) (counts .entries) (counts .records) _ (s .before .too-small .ensures) (s .if1 .left) _ _ (c .before .before .before .before .before .before .before .before .before .before .before .before .put-order .ensures) (c .before .before .before .before .before .before .write .ensures)
 
 pub put-index-spec : {M : Type 1} → statement M
 put-index-spec =
@@ -43,6 +47,7 @@ put-index-spec =
     returns
     put-order-requires
     write-requires
+    (λ c. search needs)
     (λ c. search needs)
     (λ c. search needs)
     (λ c. search needs)

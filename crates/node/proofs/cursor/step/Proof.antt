@@ -11,21 +11,21 @@ use Rattle.node.proofs.cursor.step.Statement.{statement}
 use Rattle.node.proofs.cursor.step.Tie as tie
 
 abbrev Inv-loop : tie.InvT-loop
-Inv-loop lengths shared held number entries stand₀ length₀ stand length = Stepping lengths shared stand₀ length₀ (number .0) stand length
+Inv-loop lengths shared held kept number entries records stand₀ length₀ stand length = Stepping lengths shared stand₀ length₀ (number .0) stand length
 
 abbrev μ-loop : tie.MeasureT-loop
-μ-loop lengths shared held number entries stand₀ length₀ stand len = length lengths - stand
+μ-loop lengths shared held kept number entries records stand₀ length₀ stand len = length lengths - stand
 
 add-length : tie.Need-add-length Inv-loop μ-loop
-add-length c = let s = c .before .before .before .before .before .before in omega (arith, s .pre .on .long, length-short _ _ (s .pre .grows) (s .args .cursor .stand .0))
+add-length c = let s = c .before .before .before .before .before .before .before in omega (arith, s .pre .on .long, length-short _ _ (s .pre .grows) (s .args .cursor .stand .0))
 
 add-length-2 : tie.Need-add-length-2 Inv-loop μ-loop
-add-length-2 c = omega (arith, shared-short _ _ (c .before .before .before .before .before .before .before .before .before .before .before .pre .grows) (c .before .before .before .before .loop .stand + 1), c .value-at .ensures)
+add-length-2 c = omega (arith, shared-short _ _ (c .before .before .before .before .before .before .before .before .before .before .before .before .pre .grows) (c .before .before .before .before .loop .stand + 1), c .value-at .ensures)
 
 returns : tie.Need-returns Inv-loop μ-loop
 returns c =
-    let s = c .before .before .before .before .before .before .before .before in
-    stepped _ _ (s .pre .grows) (s .args .cursor) _ _ _ (c .before .loop .inv)
+    let s = c .before .before .before .before .before .before .before .before .before in
+    stepped _ _ (s .pre .grows) (s .args .cursor) _ _ _ _ (c .before .loop .inv)
     (λ h. ⊎-elim (λ w. ltb-false _ _ (w .2 .left)) (λ w. absurd (omega (arith, w .left))) (c .loop-test .came))
 
 pub step-spec : {M : Type 1} → statement M
@@ -34,6 +34,7 @@ step-spec =
     (tie.spec
     Inv-loop
     μ-loop
+    (λ c. search needs)
     (λ c. search needs)
     (λ c. search needs)
     (λ c. search needs)

@@ -13,6 +13,6 @@ listing-at-spec =
     (λ c κs. search needs)
     (λ c. search needs)
     (λ c. search needs)
-    (λ c. c .entries-of .ensures ∙ ap (listingAt _) (sym (c .before .before .at .given .1)))
+    (λ c. c .entries-of .ensures ∙ ap (listingAt _ _) (sym (c .before .before .at .given .1)))
     (λ c. search needs)
     (λ c. search needs))

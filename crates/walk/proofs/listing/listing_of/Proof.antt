@@ -7,4 +7,4 @@ use Rattle.walk.proofs.listing.listing_of.Tie as tie
 
 pub listing-of-spec : {M : Type 1} → statement M
 listing-of-spec =
-    tie.close (tie.spec (λ c κs. search needs) (λ c κs. search needs) (λ c. c .listing-at .ensures ∙ ap (listingAt _) (c .before .node-of .ensures)))
+    tie.close (tie.spec (λ c κs. search needs) (λ c κs. search needs) (λ c. c .listing-at .ensures ∙ ap (listingAt _ _) (c .before .node-of .ensures)))

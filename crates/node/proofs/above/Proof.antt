@@ -1,12 +1,12 @@
--- `node::parent` meets its contract, by the test that each return comes from. Assumes nothing.
+-- `node::above` meets its contract, by the test that each return comes from. Assumes nothing.
 use borrow.Author.Needs.{needs}
 use native.Mathlib.Omega.{arith}
 use borrow.Author.Tests.{eq-eqb, ne-eqb}
-use Rattle.node.proofs.parent.Statement.{statement}
-use Rattle.node.proofs.parent.Tie as tie
+use Rattle.node.proofs.above.Statement.{statement}
+use Rattle.node.proofs.above.Tie as tie
 
-pub parent-spec : {M : Type 1} → statement M
-parent-spec =
+pub above-spec : {M : Type 1} → statement M
+above-spec =
     tie.close
     (tie.spec
     (λ c. search (needs, eq-eqb))
