@@ -42,22 +42,22 @@ pub struct Gathered {
     pub held: usize,
 }
 
-// What lies under the node of a stand's first length bytes: its regions' places and scores in their slots, and the regions ranked.
+// What lies under the cursor's node: its regions' places and scores in their slots, and the regions ranked.
 pub fn gather(
     shared: &[u8],
     region: &[u8],
     score: &[u32],
-    stand: Stand,
-    length: u8,
+    cursor: Cursor,
     next: &Slots,
     places: &mut Slots,
     best: &mut Slots,
     ranked: &mut Slots,
 ) -> Gathered
-    requires { ⌜ GatherAsks (now shared) (now region) (now score) (stand .0) (now next) (now places) (now best) (now ranked) ⌝ }
-    ensures { λ g. ⌜ Gathers (given shared) (given region) (given score) (given next) (stand .0) length (after places) (after best) (after ranked) g ⌝ }
+    requires { ⌜ GatherAsks (now shared) (now region) (now score) (cursor .stand .0) (now next) (now places) (now best) (now ranked) ⌝ }
+    ensures { λ g. ⌜ Gathers (given shared) (given region) (given score) (given next) (cursor .stand .0) (cursor .length) (after places) (after best) (after ranked) g ⌝ }
 {
-    let past = end_of(shared, stand, length);
+    let stand = cursor.stand;
+    let past = end_of(shared, stand, cursor.length);
     let bits = tally(region, score, stand, past, next, places, best);
     let held = ranks(bits, best, ranked);
     Gathered { past, bits, held }

@@ -43,17 +43,7 @@ pub fn write_node(
     requires { ⌜ PutAsks (columnsNow text starts lengths shared region score) cursor (workNow next path records regions places best ranked) (roomsNow nodes entries bits) ⌝ }
     ensures { λ r. ⌜ PutTurn (columnsIn text starts lengths shared region score) cursor (workGiven next path records regions places best ranked) r (workAfter next path records regions places best ranked) (roomsGiven nodes entries bits) (roomsAfter nodes entries bits) ⌝ }
 {
-    let gathered = gather(
-        shared,
-        region,
-        score,
-        cursor.stand,
-        cursor.length,
-        next,
-        places,
-        best,
-        ranked,
-    );
+    let gathered = gather(shared, region, score, cursor, next, places, best, ranked);
     let served = serve(records, regions, cursor, gathered.bits);
     let past = gathered.past;
     let words = row(text, starts, lengths, shared, path, cursor, past, served);
@@ -67,12 +57,8 @@ pub fn write_node(
         next,
         places,
     );
-    put_record(
-        bits,
-        cursor.records as usize * RECORD_WORDS,
-        served.kept,
-        gathered.bits,
-    );
+    let record = cursor.records as usize * RECORD_WORDS;
+    put_record(bits, record, served.kept, gathered.bits);
     advance(
         lengths,
         shared,
@@ -115,17 +101,7 @@ pub fn check_node(
     requires { ⌜ TurnAsks (columnsNow text starts lengths shared region score) cursor (workNow next path records regions places best ranked) ⌝ }
     ensures { λ v. ⌜ Compares (columnsIn text starts lengths shared region score) cursor (workGiven next path records regions places best ranked) (workAfter next path records regions places best ranked) (roomsGiven nodes entries bits) v ⌝ }
 {
-    let gathered = gather(
-        shared,
-        region,
-        score,
-        cursor.stand,
-        cursor.length,
-        next,
-        places,
-        best,
-        ranked,
-    );
+    let gathered = gather(shared, region, score, cursor, next, places, best, ranked);
     let served = serve(records, regions, cursor, gathered.bits);
     let past = gathered.past;
     let words = row(text, starts, lengths, shared, path, cursor, past, served);
@@ -143,12 +119,8 @@ pub fn check_node(
     ) {
         return Compared::Different;
     }
-    if !has_record(
-        bits,
-        cursor.records as usize * RECORD_WORDS,
-        served.kept,
-        gathered.bits,
-    ) {
+    let record = cursor.records as usize * RECORD_WORDS;
+    if !has_record(bits, record, served.kept, gathered.bits) {
         return Compared::Different;
     }
     Compared::Same(advance(
