@@ -32,6 +32,10 @@ def regions_under(text):
     return sorted({region(s) for s in STANDS if s[0].startswith(text)})
 
 
+def keeps_bits(text):
+    return text == "" or regions_under(text) != regions_under(text[:-1])
+
+
 def entries_under(text):
     found = []
     for r in regions_under(text):
@@ -101,7 +105,7 @@ def draw_lens():
 
 
 def draw_tree():
-    out = [text(TREE_X - 22, 34, "The letter tree: a node for each beginning of a name, with its regions", "head")]
+    out = [text(TREE_X - 22, 34, "The letter tree: a node for each beginning of a name; its regions, bold where it keeps bits", "head")]
     texts = beginnings()
     rows, spots = 0, {}
     for number, t in enumerate(texts):
@@ -118,7 +122,7 @@ def draw_tree():
         kind = "asked" if t == "ki" else "node"
         out.append(f'<circle cx="{x}" cy="{y}" r="13" class="{kind}"/>')
         out.append(text(x, y + 4, number, "number", "middle"))
-        out.append(text(x, y + 28, " ".join(map(str, regions_under(t))), "small", "middle"))
+        out.append(text(x, y + 28, " ".join(map(str, regions_under(t))), "own" if keeps_bits(t) else "small", "middle"))
     return out
 
 
@@ -151,6 +155,7 @@ STYLE = """
 text { font-family: sans-serif; font-size: 13px; fill: #1c2b33; }
 .head { font-size: 14px; font-weight: bold; }
 .small { font-size: 10px; fill: #5a6b75; }
+.own { font-size: 11px; font-weight: bold; }
 .tiny { font-size: 11px; }
 .number { font-size: 12px; font-weight: bold; }
 .letter { font-size: 13px; font-style: italic; }

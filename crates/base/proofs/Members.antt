@@ -1,6 +1,6 @@
 -- Members of a list and what stands at its places; what `keep`, `each` and `eachList` do to them.
 -- Assumes nothing.
-use mathlib.Core.Path.{_≡_, refl, sym, ap, _∙_}
+use mathlib.Core.Path.{_≡_, refl, sym, ap, _∙_, subst}
 use mathlib.Core.Logic.{_⊎_, inl, inr, ⊎-elim}
 use mathlib.Core.Bool.{Bool, true, false, not, _&&_, and-comm, true≢false, false≢true}
 use mathlib.Core.List.{List, [], _∷_, _++_, append-assoc}
@@ -12,7 +12,7 @@ use lib.Seq.{drop-cons, take-nil}
 use borrow.Table.Steps.{cases}
 use borrow.Author.Tests.{eq-eqb, ne-eqb}
 use Rattle.base.specs.Lists.{keep, each, eachList, firstOf, isEmpty, positionIn, In}
-use Rattle.base.proofs.Tests.{Unlike, alike}
+use Rattle.base.proofs.Tests.{both-ways, Unlike, alike}
 
 pub in-left : {A : Type 0} (x : A) (s t : List A) → In x s → In x (s ++ t)
 in-left x [] t h = absurd h
@@ -137,6 +137,13 @@ module _ {A : Type 0} (f : A → Bool) where
 pub keep-same : {A : Type 0} (f g : A → Bool) (l : List A) → ((x : A) → In x l → f x ≡ g x) → keep f l ≡ keep g l
 keep-same f g [] h = refl
 keep-same f g (x ∷ l) h = rw (h x (inl refl), keep-same f g l (λ y k. h y (inr k)))
+
+-- tests that keep the same agree on the members
+pub keep-agree : {A : Type 0} (f g : A → Bool) (l : List A) → keep f l ≡ keep g l → (x : A) → In x l → f x ≡ g x
+keep-agree f g l e x h =
+    both-ways (f x) (g x)
+    (λ q. keep-in g l x (subst (In x) e (in-keep f l x h q)) .1)
+    (λ q. keep-in f l x (subst (In x) (sym e) (in-keep g l x h q)) .1)
 
 -- tests that do not keep the same differ on a member
 pub keep-unlike : {A : Type 0} (f g : A → Bool) (l : List A) → (keep f l ≡ keep g l) ⊎ ((x : A) × In x l × Unlike (f x) (g x))

@@ -23,6 +23,12 @@ pub refuted : (b : Bool) → (b ≡ true → ⊥) → b ≡ false
 refuted true h = absurd (h refl)
 refuted false h = refl
 
+-- two tests are the same where each holds if the other does
+pub both-ways : (a b : Bool) → (a ≡ true → b ≡ true) → (b ≡ true → a ≡ true) → a ≡ b
+both-ways true b to from = sym (to refl)
+both-ways false true to from = from refl
+both-ways false false to from = refl
+
 -- one of the two holds and the other does not
 abbrev pub Unlike : Bool → Bool → Type 0
 Unlike a b = ((a ≡ true) × (b ≡ false)) ⊎ ((a ≡ false) × (b ≡ true))

@@ -1,7 +1,6 @@
 -- A node's stands, its last byte and the end of its subtree: by the columns they are the definitions'.
 -- Assumes nothing.
 use mathlib.Core.Path.{_≡_, refl, sym, ap, _∙_}
-use mathlib.Core.Logic.{⊎-elim}
 use mathlib.Core.Bool.{false}
 use mathlib.Core.List.{List, []}
 use Prim.Native.Nat.{ℕ, zero, suc, _+_, _-_, _≤_, _<_}
@@ -11,11 +10,10 @@ use native.Mathlib.Nat.{add-zero}
 use lib.Dec.{eqb}
 use lib.ListN.{length, take}
 use lib.Seq.{length-take-le}
-use borrow.Author.Tests.{lt-ltb, le-ltb, ne-eqb}
+use borrow.Author.Tests.{ne-eqb}
 use Rattle.base.specs.Lists.{upTo, firstOf}
-use Rattle.base.proofs.Tests.{le-or-lt}
 use Rattle.base.proofs.Runs.{length-from}
-use Rattle.base.proofs.Begins.{shared-le, shared-le-other, sharedLength-take}
+use Rattle.base.proofs.Begins.{shared-le-other, sharedLength-take}
 use Rattle.rules.specs.declared.Grid.{Grid}
 use Rattle.rules.specs.Tables.{Table, stands, nameOf, LawfulTable}
 use Rattle.rules.specs.Questions.{under}

@@ -7,7 +7,7 @@ use mathlib.Core.List.{List, [], _∷_}
 use Prim.Native.Nat.{ℕ, suc, _+_, _-_, _≤_, _<_}
 use native.Mathlib.Omega.{arith}
 use lib.Dec.{eqb}
-use lib.ListN.{length, take, getD, set, length-append}
+use lib.ListN.{length, take, set, length-append}
 use lib.Seq.{take-suc, take-length, getD-set-same, getD-set-other}
 use borrow.Table.Steps.{cases}
 use borrow.Author.Tests.{ne-eqb, eqb-true, eqb-false}

@@ -15,7 +15,7 @@ use Rattle.base.proofs.Members.{length-each, in-each, in-eachList, getD-each, g
 use Rattle.base.proofs.Runs.{in-from}
 use Rattle.rules.specs.declared.Grid.{Grid}
 use Rattle.rules.specs.Tables.{Table, stands, nameOf, LawfulTable}
-use Rattle.rules.specs.Indexes.{newAt, beginnings, nodeCount, numberIn, occupied, regionsUnder, repeats, recordRow, keepers, bitWords, recordCount, entriesOf, entryRow, nodeRow, nodeWords, entryWords, entryCount}
+use Rattle.rules.specs.Indexes.{newAt, beginnings, nodeCount, numberIn, occupied, regionsUnder, repeats, recordRow, bitWords, recordCount, entriesOf, entryRow, nodeRow, nodeWords, entryWords, entryCount}
 use Rattle.meaning.specs.Adding.{sharedAt}
 use Rattle.meaning.specs.Trees.{textOf}
 use Rattle.meaning.proofs.Tree.{number-at}

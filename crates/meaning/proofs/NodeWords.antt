@@ -12,7 +12,7 @@ use lib.ListN.{length, getD}
 use borrow.Table.Steps.{cases}
 use Rattle.base.specs.Lists.{In}
 use Rattle.base.specs.Bits.{wordOf, bitAt}
-use Rattle.base.proofs.Tests.{tested}
+use Rattle.base.proofs.Tests.{tested, both-ways}
 use Rattle.base.proofs.Members.{getD-in}
 use Rattle.base.proofs.Words.{bit-asks}
 use Rattle.rules.specs.declared.Grid.{Grid}
@@ -25,7 +25,7 @@ use Rattle.meaning.proofs.Tree.{number-in, number-at}
 use Rattle.meaning.proofs.Children.{subtree-in, subtree-only, child-text, parent-in, parent-child}
 use Rattle.meaning.proofs.Tables.{beginnings-tree, root-first, under-from, under-only}
 use Rattle.meaning.proofs.Words.{node-word, entries-length, entry-word}
-use Rattle.meaning.proofs.Records.{both-ways, record-less, record-word, repeat-same, same-repeat, repeat-some}
+use Rattle.meaning.proofs.Records.{record-less, record-word, repeat-same, same-repeat, repeat-some}
 use Rattle.meaning.proofs.Listing.{occupied-held, held-occupied}
 
 -- texts have the same regions where they occupy the same

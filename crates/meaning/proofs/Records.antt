@@ -1,6 +1,6 @@
 -- The bit records: which node keeps one, which record serves a node, and that it holds the node's own regions.
 -- And in pre-order a node's text but for its last byte begins the text before it. Assumes nothing.
-use mathlib.Core.Path.{_≡_, refl, sym, ap, ap₂, _∙_, subst}
+use mathlib.Core.Path.{_≡_, refl, sym, ap, ap₂, _∙_}
 use mathlib.Core.Bool.{Bool, true, false, not, false≢true}
 use mathlib.Core.List.{List, [], _∷_}
 use Prim.Native.Nat.{ℕ, zero, suc, _+_, _-_, _*_, _≤_, _<_}
@@ -13,8 +13,8 @@ use borrow.Table.Steps.{cases}
 use borrow.Author.Tests.{eqb-true, eq-eqb}
 use Rattle.base.specs.Lists.{upTo, keep, sameList, begins, In}
 use Rattle.base.specs.Bits.{wordOf, bitAt}
-use Rattle.base.proofs.Tests.{never, refuted}
-use Rattle.base.proofs.Members.{getD-in, in-keep, keep-in, keep-same}
+use Rattle.base.proofs.Tests.{never, refuted, both-ways}
+use Rattle.base.proofs.Members.{getD-in, in-keep, keep-same, keep-agree}
 use Rattle.base.proofs.Runs.{in-from, from-in}
 use Rattle.base.proofs.Begins.{begins-part, begins-length, take-begins, same-true, same-refl}
 use Rattle.base.proofs.Words.{bit-asks, word-same}
@@ -33,20 +33,7 @@ use Rattle.meaning.proofs.Adding.{but-last-take}
 
 -- ---- what two tests keep, and their words
 
--- two tests are the same where each holds if the other does
-pub both-ways : (a b : Bool) → (a ≡ true → b ≡ true) → (b ≡ true → a ≡ true) → a ≡ b
-both-ways true b to from = sym (to refl)
-both-ways false true to from = from refl
-both-ways false false to from = refl
-
--- tests that keep the same agree on the members
-keep-agree : {A : Type 0} (f g : A → Bool) (l : List A) → keep f l ≡ keep g l → (x : A) → In x l → f x ≡ g x
-keep-agree f g l e x h =
-    both-ways (f x) (g x)
-    (λ q. keep-in g l x (subst (In x) e (in-keep f l x h q)) .1)
-    (λ q. keep-in f l x (subst (In x) (sym e) (in-keep g l x h q)) .1)
-
--- so the numbers kept are the same exactly if the words are
+-- two tests keep the same numbers exactly if their words are the same
 kept-word : (f g : ℕ → Bool) (n : ℕ) → sameList (keep f (upTo n)) (keep g (upTo n)) ≡ eqb (wordOf f 0 n) (wordOf g 0 n)
 kept-word f g n =
     let asks : (h : ℕ → Bool) (k : ℕ) → k < 0 + n → bitAt (wordOf h 0 n) k ≡ h k = λ h k l. bit-asks h 0 n k (omega arith) ∙ ap h (zero-add k) in

@@ -1,20 +1,16 @@
 -- The cursor's step, over plain lists: past a stand's nodes come the next stand's new ones. Assumes nothing.
-use mathlib.Core.Path.{_≡_, refl, sym, ap, _∙_}
+use mathlib.Core.Path.{_≡_, refl, ap, _∙_}
 use mathlib.Core.Logic.{⊎-elim}
 use mathlib.Core.List.{List, [], _∷_}
 use Prim.Native.Nat.{ℕ, zero, suc, _+_, _-_, _≤_, _<_}
 use native.Mathlib.Omega.{arith}
 use native.Mathlib.Numerals.{add-one}
-use lib.Dec.{eqb}
-use lib.ListN.{length, set, length-set, List·getD-eq-default}
-use lib.Seq.{getD-set-same, getD-set-other}
-use borrow.Table.Steps.{cases}
-use borrow.Author.Tests.{lt-ltb, le-ltb, eqb-true, eqb-false}
+use lib.ListN.{length, List·getD-eq-default}
 use Rattle.base.proofs.Tests.{le-or-lt}
-use Rattle.node.specs.Columns.{at, Grows, grownOf}
+use Rattle.node.specs.Columns.{at, Grows}
 use Rattle.node.specs.declared.cursor.Cursor.{Cursor}
 use Rattle.node.specs.Visits.{visitsFrom, grownBefore, On, Stepped}
-use Rattle.node.proofs.Ends.{length-short, grown-last}
+use Rattle.node.proofs.Ends.{grown-last}
 
 module _ (lengths shared : List ℕ) where
   visits-next : (i l : ℕ) → i < length lengths → l ≡ suc (at lengths i) → visitsFrom lengths shared (suc i) (suc (at shared (suc i))) ≡ visitsFrom lengths shared i l

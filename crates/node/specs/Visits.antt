@@ -1,10 +1,12 @@
 -- The walk through the nodes in pre-order, from the columns alone: which nodes, what lies above each, and where regions' stands begin.
+use denote.Ref.{RefT, now}
 use mathlib.Core.Path.{_≡_}
 use mathlib.Core.Bool.{cond}
 use mathlib.Core.List.{List, [], _∷_, _++_}
 use Prim.Native.Nat.{ℕ, suc, _+_, _-_, _/_, _%_, _≤_, _<_}
 use lib.Dec.{eqb, ltb}
 use lib.ListN.{length, set}
+use Rattle.base.specs.Lent.{Lent, given, after}
 use Rattle.base.specs.Lists.{fromOn, upTo, keep, each, eachList}
 use Rattle.rules.specs.Places.{regions}
 use Rattle.node.specs.Columns.{at, grownOf, standsIn}
@@ -75,6 +77,16 @@ pub record Above : Type 0 where
 
 abbrev pub aboveOf : List ℕ → List ℕ → List ℕ → Above
 aboveOf numbers records regions = record { numbers = numbers; records = records; regions = regions }
+
+-- what a call is lent of it: as its `requires` and its `ensures` see it, and as it leaves it
+abbrev pub aboveNow : (numbers records regions : RefT (List ℕ)) → Above
+aboveNow numbers records regions = aboveOf (now numbers) (now records) (now regions)
+
+abbrev pub aboveGiven : (numbers records regions : Lent (List ℕ)) → Above
+aboveGiven numbers records regions = aboveOf (given numbers) (given records) (given regions)
+
+abbrev pub aboveAfter : (numbers records regions : Lent (List ℕ)) → Above
+aboveAfter numbers records regions = aboveOf (after numbers) (after records) (after regions)
 
 -- a place for each length
 pub record Long (a : Above) : Type 0 where

@@ -12,7 +12,7 @@ use rules::Node;
 use rules::Stand;
 ghost use mathlib.Core.Path.{_≡_};
 ghost use Rattle.base.specs.Lent.{given, after};
-ghost use Rattle.node.specs.Visits.{rootCursor, placesAt, aboveOf, Stepped, Advanced};
+ghost use Rattle.node.specs.Visits.{rootCursor, placesAt, aboveNow, aboveGiven, aboveAfter, Stepped, Advanced};
 ghost use Rattle.node.specs.Asks.{StepAsks, PassAsks, AdvanceAsks};
 
 // The node of a stand's first length bytes, its number, and how many entries and bit records the nodes before it have.
@@ -87,8 +87,8 @@ pub fn advance(
     records: &mut Path,
     regions: &mut RegionPath,
 ) -> Cursor
-    requires { ⌜ AdvanceAsks (now lengths) (now shared) (now region) cursor gathered served (now next) (aboveOf (now path) (now records) (now regions)) ⌝ }
-    ensures { λ r. ⌜ Advanced (given lengths) (given shared) (given region) cursor gathered served (after next) (aboveOf (given path) (given records) (given regions)) (aboveOf (after path) (after records) (after regions)) r ⌝ }
+    requires { ⌜ AdvanceAsks (now lengths) (now shared) (now region) cursor gathered served (now next) (aboveNow path records regions) ⌝ }
+    ensures { λ r. ⌜ Advanced (given lengths) (given shared) (given region) cursor gathered served (after next) (aboveGiven path records regions) (aboveAfter path records regions) r ⌝ }
 {
     let place = wide(cursor.length);
     path[place] = cursor.number.0;

@@ -2,14 +2,14 @@
 -- Assumes nothing.
 use mathlib.Core.Path.{_≡_, refl}
 use mathlib.Core.List.{List, [], _∷_}
-use Prim.Native.Nat.{ℕ, _+_, _*_, _≤_, _<_}
+use Prim.Native.Nat.{ℕ, _*_, _≤_, _<_}
 use native.Mathlib.Omega.{arith}
 use lib.ListN.{length, length-append}
 use Rattle.node.specs.declared.cursor.Cursor.{Cursor}
 use Rattle.node.specs.Columns.{IndexColumns}
 use Rattle.node.specs.Visits.{Visit, rootCursor}
 use Rattle.node.specs.Rows.{entriesAt}
-use Rattle.words.specs.Words.{Trail, rootTrail, trailPast, rowOf, recordOf, rowsFrom, recordsFrom, entryWordsFrom, nodeWordsOf, entryWordsOf, bitWordsOf, visitsOf, Rooms, visitOf, trailOf, Work, Room, PutTurn, WriteAsks, WroteAll}
+use Rattle.words.specs.Words.{Trail, rootTrail, trailPast, rowOf, rowsFrom, recordsFrom, entryWordsFrom, nodeWordsOf, entryWordsOf, bitWordsOf, visitsOf, Rooms, visitOf, trailOf, Work, Room, PutTurn, WriteAsks, WroteAll}
 use Rattle.words.proofs.Overs.{Filled, filled, filled-room, filled-more, filled-end, length-rows}
 use Rattle.words.proofs.Walks.{restOf, Carrying, carrying-more, rows-first, records-first, entries-first, going-end, length-row, entries-length, record-length, records-length}
 

@@ -264,3 +264,12 @@ hasNode t c w rooms = hasRow t c w rooms ∷ hasEntries t c rooms ∷ hasRecord 
 pub record Compares (t : IndexColumns) (c : Cursor) (w w′ : Work) (rooms : Rooms) (v : Compared) : Type 0 where
   pub same : (r : Cursor) → v ≡ Same r → (every (hasNode t c w rooms) ≡ true) × Moved t c w r w′
   pub different : v ≡ Different → every (hasNode t c w rooms) ≡ false
+
+-- the same of what a turn is lent
+abbrev pub WritesNode : IndexColumns → Cursor → (next path records regions places best ranked nodes entries bits : Lent (List ℕ)) → Cursor → Type 0
+WritesNode t c next path records regions places best ranked nodes entries bits r =
+    PutTurn t c (workGiven next path records regions places best ranked) r (workAfter next path records regions places best ranked) (roomsGiven nodes entries bits) (roomsAfter nodes entries bits)
+
+abbrev pub ChecksNode : IndexColumns → Cursor → (next path records regions places best ranked nodes entries bits : Lent (List ℕ)) → Compared → Type 0
+ChecksNode t c next path records regions places best ranked nodes entries bits v =
+    Compares t c (workGiven next path records regions places best ranked) (workAfter next path records regions places best ranked) (roomsGiven nodes entries bits) v

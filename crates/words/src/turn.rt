@@ -18,7 +18,7 @@ use rules::layout::ENTRY_WORDS;
 use rules::layout::NODE_WORDS;
 use rules::layout::RECORD_WORDS;
 ghost use Rattle.node.specs.Columns.{columnsNow, columnsIn};
-ghost use Rattle.words.specs.Words.{workNow, workGiven, workAfter, roomsNow, roomsGiven, roomsAfter, TurnAsks, PutAsks, PutTurn, Compares};
+ghost use Rattle.words.specs.Words.{workNow, roomsNow, TurnAsks, PutAsks, WritesNode, ChecksNode};
 
 // The node's words, in the rooms.
 pub fn write_node(
@@ -41,7 +41,7 @@ pub fn write_node(
     bits: &mut [u32],
 ) -> Cursor
     requires { ⌜ PutAsks (columnsNow text starts lengths shared region score) cursor (workNow next path records regions places best ranked) (roomsNow nodes entries bits) ⌝ }
-    ensures { λ r. ⌜ PutTurn (columnsIn text starts lengths shared region score) cursor (workGiven next path records regions places best ranked) r (workAfter next path records regions places best ranked) (roomsGiven nodes entries bits) (roomsAfter nodes entries bits) ⌝ }
+    ensures { λ r. ⌜ WritesNode (columnsIn text starts lengths shared region score) cursor next path records regions places best ranked nodes entries bits r ⌝ }
 {
     let gathered = gather(shared, region, score, cursor, next, places, best, ranked);
     let served = serve(records, regions, cursor, gathered.bits);
@@ -99,7 +99,7 @@ pub fn check_node(
     bits: &[u32],
 ) -> Compared
     requires { ⌜ TurnAsks (columnsNow text starts lengths shared region score) cursor (workNow next path records regions places best ranked) ⌝ }
-    ensures { λ v. ⌜ Compares (columnsIn text starts lengths shared region score) cursor (workGiven next path records regions places best ranked) (workAfter next path records regions places best ranked) (roomsGiven nodes entries bits) v ⌝ }
+    ensures { λ v. ⌜ ChecksNode (columnsIn text starts lengths shared region score) cursor next path records regions places best ranked nodes entries bits v ⌝ }
 {
     let gathered = gather(shared, region, score, cursor, next, places, best, ranked);
     let served = serve(records, regions, cursor, gathered.bits);
