@@ -107,23 +107,29 @@ module _ (lengths shared : List ℕ) where
   grown-small g i e h =
       omega (arith, total-most (growth lengths shared) 24 (span i e) (λ k h. omega (arith, length-short lengths shared g k)), length-from i (e - i), g .few)
 
+  -- none from the end on, and before it those of one stand and of the stands behind
+  pub grown-none : (i e : ℕ) → e ≤ i → grownOf lengths shared i e ≡ 0
+  unfolding grownOf
+  grown-none i e h = let z : e - i ≡ 0 = omega arith in rw z
+
+  pub grown-first : (i e : ℕ) → i < e → grownOf lengths shared i e ≡ growth lengths shared i + grownOf lengths shared (suc i) e
+  unfolding grownOf
+  grown-first i e h = let more : e - i ≡ suc (e - suc i) = omega arith in rw more
+
+-- what is summed, and what is left to sum
 pub record Growing (lengths shared : List ℕ) (i e sum k : ℕ) : Type 0 where
-  pub after : i ≤ k
-  pub within : k ≤ e
-  pub now : sum ≡ grownOf lengths shared i k
+  pub left : sum + grownOf lengths shared k e ≡ grownOf lengths shared i e
 
 module _ (lengths shared : List ℕ) (i e : ℕ) where
-  pub growing : i ≤ e → Growing lengths shared i e 0 i
-  unfolding grownOf
-  growing h = record { after = omega arith; within = h; now = rw (span-none i) }
+  pub growing : Growing lengths shared i e 0 i
+  growing = record { left = omega arith }
 
   pub growing-more : (sum k w : ℕ) → Growing lengths shared i e sum k → k < e → w ≡ growth lengths shared k → Growing lengths shared i e (sum + w) (k + 1)
-  growing-more sum k w s h q =
-      record { after = omega (arith, s .after); within = omega arith; now = omega (arith, grown-last lengths shared i k (s .after), s .now) }
+  growing-more sum k w s h q = record { left = rw (add-one k) (omega (arith, s .left, grown-first lengths shared k e h)) }
 
   -- one stand's nodes more fit
   pub growing-fits : (sum k w : ℕ) → Grows lengths shared → e ≤ length lengths → Growing lengths shared i e sum k → k < e → w ≡ growth lengths shared k → sum + w ≤ 24576
-  growing-fits sum k w g u s h q = omega (arith, growing-more sum k w s h q .now, grown-small lengths shared g i (k + 1) (omega arith))
+  growing-fits sum k w g u s h q = omega (arith, growing-more sum k w s h q .left, grown-small lengths shared g i e u)
 
   pub growing-end : (sum k : ℕ) → Growing lengths shared i e sum k → e ≤ k → sum ≡ grownOf lengths shared i e
-  growing-end sum k s h = let q : k ≡ e = omega (arith, s .within) in s .now ∙ ap (grownOf lengths shared i) q
+  growing-end sum k s h = omega (arith, s .left, grown-none lengths shared k e h)

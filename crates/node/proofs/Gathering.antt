@@ -24,7 +24,7 @@ use Rattle.node.specs.declared.records.Served.{Served}
 use Rattle.node.specs.Columns.{at, Grows, Spelt, Ends, endOf, span, grownOf, heldAmong, regionsAmong, bitsAmong, entryAmong, entriesAmong, entryFrom, entriesFrom, byBest, Tallied, Ranks}
 use Rattle.node.specs.Visits.{On, keptIn}
 use Rattle.node.specs.Rows.{lastOf, pastNumber, rowWith, Gathers}
-use Rattle.node.proofs.Ends.{length-short, end-from, end-after}
+use Rattle.node.proofs.Ends.{length-short, grown-none, grown-first, end-from, end-after}
 use Rattle.node.proofs.Placing.{regions-are}
 
 -- ---- its entries
@@ -112,15 +112,16 @@ module _ (regions : List ℕ) (l bits : ℕ) where
 -- ---- its row
 
 module _ (lengths shared : List ℕ) (g : Grows lengths shared) where
-  -- the number past a subtree is reckoned without falling below 0
-  pub past-fits : (i e l : ℕ) → l ≤ at lengths i → (i < length lengths → i < e) → l ≤ at shared i + grownOf lengths shared i e
-  unfolding grownOf
-  past-fits i e l h k =
+  -- the number past a subtree, by the first stand's longer nodes and what the stands behind it add
+  pub past-is : (i l e j : ℕ) → l ≤ at lengths i → (i < length lengths → i < e) → e ≤ length lengths
+      → j + 1 + (at lengths i - l) + grownOf lengths shared (suc i) e ≡ pastNumber lengths shared i l e j
+  past-is i l e j h k w =
       ⊎-elim
-      (λ (q : length lengths ≤ i). let z : at lengths i ≡ 0 = List·getD-eq-default lengths 0 q in omega arith)
-      (λ (q : i < length lengths).
-      let more : e - i ≡ suc (e - suc i) = omega (arith, k q) in
-      rw more (omega (arith, g .part i q)))
+      (λ (q : length lengths ≤ i).
+      let z : at lengths i ≡ 0 = List·getD-eq-default lengths 0 q in
+      let y : at shared i ≡ 0 = List·getD-eq-default shared 0 (omega (arith, g .same)) in
+      omega (arith, grown-none lengths shared i e (omega arith), grown-none lengths shared (suc i) e (omega arith)))
+      (λ (q : i < length lengths). omega (arith, grown-first lengths shared i e (k q), g .part i q))
       (le-or-lt (length lengths) i)
 
   module _ (c : Cursor) (o : On lengths shared c) where

@@ -86,7 +86,7 @@ fn above(path: &Path, length: u8) -> u32
     path[wide(length - 1)]
 }
 
-// The number past a node's subtree.
+// The number past a node's subtree: those under it are the longer ones of its first stand, and what the stands behind that one add.
 fn past_number(
     lengths: &[u8],
     shared: &[u8],
@@ -98,10 +98,10 @@ fn past_number(
     requires { ⌜ PastAsks (now lengths) (now shared) (stand .0) length (past .0) (number .0) ⌝ }
     ensures { λ r. ⌜ r .0 ≡ pastNumber (given lengths) (given shared) (stand .0) length (past .0) (number .0) ⌝ }
 {
-    let old = word(value_at(shared, stand));
-    let grew = grown(lengths, shared, stand, past);
-    let less = word(length);
-    Node(number.0 + old + 1 + grew - less)
+    let own = word(value_at(lengths, stand) - length);
+    let behind = Stand(stand.0 + 1);
+    let grew = grown(lengths, shared, behind, past);
+    Node(number.0 + 1 + own + grew)
 }
 
 // The words of the cursor's node, whose stands end here and which is served so, in the order of rules::layout.

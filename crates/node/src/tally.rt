@@ -7,7 +7,7 @@ ghost use Prim.Native.Nat.{_≤_, _<_};
 ghost use lib.Dec.{ltb};
 ghost use lib.ListN.{length};
 ghost use Rattle.base.specs.Lent.{given, after};
-ghost use Rattle.node.specs.Columns.{at, Grows, Placed, InColumn, Ends, span, standsUnder, grownOf, bitsAmong, RegionAt, Tallied};
+ghost use Rattle.node.specs.Columns.{at, Grows, Placed, Ends, span, standsUnder, grownOf, bitsAmong, RegionAt, Tallied};
 ghost use Rattle.node.specs.Asks.{TallyAsks};
 
 // A byte of a column as a place, and as a word of the index.
@@ -58,9 +58,9 @@ pub fn end_of(shared: &[u8], stand: Stand, bytes: u8) -> Stand
     Stand(past as u32)
 }
 
-// How many nodes the stands from first on make, past not among them.
+// How many nodes the stands from first on make, past not among them; none where first is past it.
 pub fn grown(lengths: &[u8], shared: &[u8], first: Stand, past: Stand) -> u32
-    requires { ⌜ (Grows (now lengths) (now shared)) × (InColumn (now lengths) (first .0) (past .0)) ⌝ }
+    requires { ⌜ (Grows (now lengths) (now shared)) × (past .0 ≤ length (now lengths)) ⌝ }
     ensures { λ r. ⌜ r ≡ grownOf (given lengths) (given shared) (first .0) (past .0) ⌝ }
 {
     let mut sum: u32 = 0;
