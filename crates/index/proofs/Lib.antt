@@ -1,4 +1,4 @@
--- A table's columns by place; where a node's stands end, its number, what its regions hold; and the words of it all.
+-- A table's columns by place; where a node's stands end, what a walk has behind it there, what its regions hold; and the words of it all.
 pub mod ByStand
 pub mod Blocks
 pub mod Numbers

@@ -26,7 +26,7 @@ use Rattle.meaning.proofs.Words.{entries-length}
 use Rattle.node.specs.Columns.{IndexColumns, at, endOf}
 use Rattle.node.specs.Visits.{Visit, newVisits}
 use Rattle.node.specs.Rows.{bitsAt, entriesAt, rowAt}
-use Rattle.words.specs.Words.{Trail, rootTrail, servedAt, trailPast, rowOf, recordOf, rowsFrom, recordsFrom, visitsOf, nodeCountOf, entryCountOf, recordCountOf, nodeWordsOf, entryWordsOf, bitWordsOf}
+use Rattle.words.specs.Words.{Trail, rootTrail, servedAt, trailPast, rowOf, ownRecord, rowsFrom, recordsFrom, visitsOf, nodeCountOf, entryCountOf, recordCountOf, nodeWordsOf, entryWordsOf, bitWordsOf}
 use Rattle.node.proofs.Gathering.{low-is, high-is}
 use Rattle.words.proofs.Walks.{visits-all, entries-held-at, records-length}
 use Rattle.index.specs.Columns.{lengthsOf, sharedOf, tableColumns}
@@ -139,7 +139,7 @@ module _ (t : Table) (g : Grid) (l : LawfulTable t g) where
           let mark : 1 - cond (repeats t g p) 0 1 ≡ cond (repeats t g p) 1 0 = cases (repeats t g p) (λ q. rw q) (λ q. rw q) in
           rw (number-above t g l j inside a s v (m .size) bits, served, s .number, s .entries, mark) (cc (m .last, m .first, m .past, end))
 
-      record-at : recordOf C a v ≡ cond (repeats t g p) [] (recordRow t g p)
+      record-at : ownRecord C a v ≡ cond (repeats t g p) [] (recordRow t g p)
       record-at =
           rw (served, bits)
           (cases (repeats t g p) (λ q. rw q) (λ q. rw q (ap₂ (λ (x y : ℕ). x ∷ y ∷ []) (low-is _ (occupied t g p) refl) (high-is _ (occupied t g p) refl))))

@@ -19,7 +19,7 @@ use Rattle.node.specs.Asks.{Low, GatherAsks, RowAsks, AdvanceAsks}
 use Rattle.node.proofs.Placing.{next-small}
 use Rattle.words.specs.declared.turn.Compared.the-variants.{Same, Different}
 use Rattle.words.specs.Over.{over}
-use Rattle.words.specs.Words.{entryRows, servedAt, trailPast, rowOf, keptWords, recordOf, Rooms, visitOf, trailOf, Work, Scratch, TurnAsks, Moved, Wrote, hasNode, Compares}
+use Rattle.words.specs.Words.{entryRows, servedAt, trailPast, rowOf, keptWords, ownRecord, Rooms, visitOf, trailOf, Work, Scratch, TurnAsks, Moved, Wrote, hasNode, Compares}
 use Rattle.words.proofs.Walks.{length-row, long-still, served-one}
 
 module _ {t : IndexColumns} {c : Cursor} {u : Work} (asks : TurnAsks t c u) where
@@ -60,7 +60,7 @@ module _ {t : IndexColumns} {c : Cursor} {u : Work} (asks : TurnAsks t c u) wher
     unfolding entriesAt
     count-now = rw (← asks .standing .next-is) (k .count)
 
-    pub record-now : keptWords (s .kept) (g .bits) ≡ recordOf t (trailOf c u) (visitOf c)
+    pub record-now : keptWords (s .kept) (g .bits) ≡ ownRecord t (trailOf c u) (visitOf c)
     record-now = rw (served-now, bits-now)
 
     pub advance-asks : AdvanceAsks (t .lengths) (t .shared) (t .region) c g s (u .next) (u .above)

@@ -25,7 +25,7 @@ use Rattle.node.proofs.Ends.{grown-small}
 use Rattle.node.proofs.Placing.{regions-are}
 use Rattle.node.proofs.Gathering.{entries-held}
 use Rattle.node.proofs.Steps.{visits-first, visits-done}
-use Rattle.words.specs.Words.{entryRows, Trail, rootTrail, servedAt, trailPast, rowOf, keptWords, recordOf, rowsFrom, recordsFrom, entryWordsFrom, countFrom, keptFrom, noneYet, nodeCountOf, Counted, visitOf, trailOf, Work, workOf, Scratch, Standing, Moved}
+use Rattle.words.specs.Words.{entryRows, Trail, rootTrail, servedAt, trailPast, rowOf, keptWords, ownRecord, rowsFrom, recordsFrom, entryWordsFrom, countFrom, keptFrom, noneYet, nodeCountOf, Counted, visitOf, trailOf, Work, workOf, Scratch, Standing, Moved}
 use Rattle.words.proofs.Overs.{Next, length-rows}
 
 abbrev pub restOf : List ℕ → List ℕ → Cursor → List Visit
@@ -193,7 +193,7 @@ module _ {t : IndexColumns} {all : ℕ} {c : Cursor} {w : Work} where
     pub rows-first : Next (rowsFrom t (trailOf c w) (restOf (t .lengths) (t .shared) c)) (rowOf t (trailOf c w) (visitOf c)) (rowsFrom t (trailPast t (trailOf c w) (visitOf c)) left)
     rows-first = record { is = ap (rowsFrom t (trailOf c w)) (going-first (s .way) lt) }
 
-    pub records-first : Next (recordsFrom t (trailOf c w) (restOf (t .lengths) (t .shared) c)) (recordOf t (trailOf c w) (visitOf c)) (recordsFrom t (trailPast t (trailOf c w) (visitOf c)) left)
+    pub records-first : Next (recordsFrom t (trailOf c w) (restOf (t .lengths) (t .shared) c)) (ownRecord t (trailOf c w) (visitOf c)) (recordsFrom t (trailPast t (trailOf c w) (visitOf c)) left)
     records-first = record { is = ap (recordsFrom t (trailOf c w)) (going-first (s .way) lt) }
 
     pub entries-first : Next (entryWordsFrom t (restOf (t .lengths) (t .shared) c)) (entryRows (entriesAt t (visitOf c))) (entryWordsFrom t left)
@@ -215,11 +215,11 @@ entries-length t (v ∷ vs) =
 words-kept : (kept bits : ℕ) → kept ≤ 1 → length (keptWords kept bits) ≡ kept * 2
 words-kept kept bits h = cases (eqb kept 1) (λ q. rw q (omega (arith, eqb-true kept 1 q))) (λ q. rw q (omega (arith, eqb-false kept 1 q)))
 
-pub record-length : (t : IndexColumns) (a : Trail) (v : Visit) → length (recordOf t a v) ≡ servedAt t a v .kept * 2
+pub record-length : (t : IndexColumns) (a : Trail) (v : Visit) → length (ownRecord t a v) ≡ servedAt t a v .kept * 2
 record-length t a v = words-kept (servedAt t a v .kept) (bitsAt t v) (served-one t a v)
 
 pub records-length : (t : IndexColumns) (a : Trail) (vs : List Visit) → length (recordsFrom t a vs) ≡ keptFrom (t .shared) (t .region) (a .above .regions) vs * 2
 unfolding trailPast servedIn bitsAt
 records-length t a [] = refl
 records-length t a (v ∷ vs) =
-    omega (arith, length-append (recordOf t a v) (recordsFrom t (trailPast t a v) vs), record-length t a v, records-length t (trailPast t a v) vs)
+    omega (arith, length-append (ownRecord t a v) (recordsFrom t (trailPast t a v) vs), record-length t a v, records-length t (trailPast t a v) vs)

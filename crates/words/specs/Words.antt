@@ -1,4 +1,4 @@
--- The words of all nodes and entries, from the columns alone, and what a turn of each loop leaves.
+-- The words of all nodes, entries and bit records, from the columns alone, and what a turn of each loop leaves.
 use denote.Ref.{RefT, now}
 use mathlib.Core.Path.{_≡_}
 use mathlib.Core.Bool.{Bool, true, false, cond}
@@ -57,12 +57,12 @@ abbrev pub rowOf : IndexColumns → Trail → Visit → List ℕ
 rowOf t a v =
     rowAt t (aboveIn (a .above .numbers) (v .length)) (a .number) (a .entries) (v .stand) (v .length) (endOf (t .shared) (v .stand) (v .length)) (servedAt t a v)
 
--- the words of a record, of a node that keeps one
+-- the words of a record, of a node that keeps one; and the node's own
 abbrev pub keptWords : ℕ → ℕ → List ℕ
 keptWords kept bits = cond (eqb kept 1) (halvesOf bits) []
 
-abbrev pub recordOf : IndexColumns → Trail → Visit → List ℕ
-recordOf t a v = keptWords (servedAt t a v .kept) (bitsAt t v)
+abbrev pub ownRecord : IndexColumns → Trail → Visit → List ℕ
+ownRecord t a v = keptWords (servedAt t a v .kept) (bitsAt t v)
 
 -- of these nodes, with this trail behind the first of them
 abbrev pub rowsFrom : IndexColumns → Trail → List Visit → List ℕ
@@ -71,7 +71,7 @@ rowsFrom t a (v ∷ vs) = rowOf t a v ++ rowsFrom t (trailPast t a v) vs
 
 abbrev pub recordsFrom : IndexColumns → Trail → List Visit → List ℕ
 recordsFrom t a [] = []
-recordsFrom t a (v ∷ vs) = recordOf t a v ++ recordsFrom t (trailPast t a v) vs
+recordsFrom t a (v ∷ vs) = ownRecord t a v ++ recordsFrom t (trailPast t a v) vs
 
 abbrev pub entryWordsFrom : IndexColumns → List Visit → List ℕ
 entryWordsFrom t vs = eachList (λ v. entryRows (entriesAt t v)) vs
@@ -231,13 +231,13 @@ pub record Moved (t : IndexColumns) (c : Cursor) (w : Work) (r : Cursor) (w′ :
 pub record Room (t : IndexColumns) (c : Cursor) (w : Work) (rooms : Rooms) : Type 0 where
   pub row-room : c .number .0 * 8 + 8 ≤ length (rooms .nodes)
   pub entry-room : c .entries * 4 + length (entriesAt t (visitOf c)) * 4 ≤ length (rooms .entries)
-  pub record-room : c .records * 2 + length (recordOf t (trailOf c w) (visitOf c)) ≤ length (rooms .bits)
+  pub record-room : c .records * 2 + length (ownRecord t (trailOf c w) (visitOf c)) ≤ length (rooms .bits)
 
 -- and have them afterwards
 pub record Wrote (t : IndexColumns) (c : Cursor) (w : Work) (rooms rooms′ : Rooms) : Type 0 where
   pub row-now : rooms′ .nodes ≡ over (rooms .nodes) (c .number .0 * 8) (rowOf t (trailOf c w) (visitOf c))
   pub entries-now : rooms′ .entries ≡ over (rooms .entries) (c .entries * 4) (entryRows (entriesAt t (visitOf c)))
-  pub record-now : rooms′ .bits ≡ over (rooms .bits) (c .records * 2) (recordOf t (trailOf c w) (visitOf c))
+  pub record-now : rooms′ .bits ≡ over (rooms .bits) (c .records * 2) (ownRecord t (trailOf c w) (visitOf c))
 
 -- what writing a node asks, and what it leaves
 pub record PutAsks (t : IndexColumns) (c : Cursor) (w : Work) (rooms : Rooms) : Type 0 where
@@ -256,7 +256,7 @@ abbrev pub hasEntries : IndexColumns → Cursor → Rooms → Bool
 hasEntries t c rooms = begins (entryRows (entriesAt t (visitOf c))) (drop (c .entries * 4) (rooms .entries))
 
 abbrev pub hasRecord : IndexColumns → Cursor → Work → Rooms → Bool
-hasRecord t c w rooms = begins (recordOf t (trailOf c w) (visitOf c)) (drop (c .records * 2) (rooms .bits))
+hasRecord t c w rooms = begins (ownRecord t (trailOf c w) (visitOf c)) (drop (c .records * 2) (rooms .bits))
 
 abbrev pub hasNode : IndexColumns → Cursor → Work → Rooms → List Bool
 hasNode t c w rooms = hasRow t c w rooms ∷ hasEntries t c rooms ∷ hasRecord t c w rooms ∷ []
