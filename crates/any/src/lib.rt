@@ -1,5 +1,7 @@
 // Whether any stand is in a rectangle: from a text's listing to the first stand of its range, and no further.
 // `runs` says which stands are to be looked at, `first` goes through them.
+#![tactic(auto)]
+
 ghost use Rattle.base.specs.Lent.{given};
 ghost use Rattle.rules.specs.Numbers.{any_numbers};
 ghost use Rattle.rules.specs.Tables.{table_in};

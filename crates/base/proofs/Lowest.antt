@@ -1,6 +1,6 @@
 -- The set bits of a word, taken lowest first: the lowest one, the word without it, and how many there are.
 -- Each law goes by the lowest digit and the word's half. Assumes nothing.
-use mathlib.Core.Path.{◌≡◌, ap, ◌∙◌}
+use mathlib.Core.Path.{◌≡◌, ap, ◌∙◌, subst, sym}
 use mathlib.Core.Logic.{⊎_elim}
 use mathlib.Core.List.{List, [], ◌∷◌}
 use Prim.Native.Nat.{ℕ, zero, suc, ◌-◌, ◌*◌, ◌/◌, ◌%◌, ◌^◌, ◌<◌}
@@ -52,13 +52,15 @@ bits_lowest (suc k) w h u =
     let v = bit_and (w / 2) (w / 2 - 1) in
     let r : bit_and w (w - 1) ≡ v * 2 = and_step w (w - 1) ∙ rw (half, last, e) (omega arith) in
     let half' : v * 2 / 2 ≡ v = omega arith in
-    even k w e ∙ ap (each suc) (bits_lowest k (w / 2) (omega arith) (omega (arith, rw (pow-suc 2 k) at u))) ∙ rw (e, r, even k (v * 2) (omega arith), half'))
+    let tail : set_bits (suc k) (bit_and w (w - 1)) ≡ each suc (set_bits k v) = ap (set_bits (suc k)) r ∙ even k (v * 2) (omega arith) ∙ ap (λ x. each suc (set_bits k x)) half' in
+    even k w e ∙ ap (each suc) (bits_lowest k (w / 2) (omega arith) (omega (arith, rw (pow-suc 2 k) at u))) ∙ rw e (ap (λ t. suc (count_trailing_zeros k (w / 2)) ∷ t) (sym tail)))
     (λ (e : w % 2 ≡ 1).
     let half : (w - 1) / 2 ≡ w / 2 = omega arith in
     let last : (w - 1) % 2 ≡ 0 = omega arith in
     let r : bit_and w (w - 1) ≡ w / 2 * 2 = and_step w (w - 1) ∙ rw (half, last, e, and_self (w / 2)) (omega arith) in
     let half' : w / 2 * 2 / 2 ≡ w / 2 = omega arith in
-    odd k w e ∙ rw (e, r, even k (w / 2 * 2) (omega arith), half'))
+    let tail : set_bits (suc k) (bit_and w (w - 1)) ≡ above k w = ap (set_bits (suc k)) r ∙ even k (w / 2 * 2) (omega arith) ∙ ap (λ x. each suc (set_bits k x)) half' in
+    odd k w e ∙ rw e (ap (λ t. 0 ∷ t) (sym tail)))
     (parity w)
 
 -- a word has as many ones as set bits

@@ -1,6 +1,6 @@
 -- Sums over a list, how many of it pass a test, and the largest of it: put together, with one more, and bounded.
 -- Counting goes by rows or by columns: how many pass for each of one list, or for each of the other. Assumes nothing.
-use mathlib.Core.Path.{◌≡◌, refl, sym, ap, ◌∙◌}
+use mathlib.Core.Path.{◌≡◌, refl, sym, ap, ◌∙◌, subst}
 use mathlib.Core.Logic.{inl, inr}
 use mathlib.Core.Bool.{Bool, true, cond, not, false≢true}
 use mathlib.Core.List.{List, [], ◌∷◌, ◌++◌}
@@ -88,4 +88,9 @@ in-largest (y ∷ l) x (inr h) = omega (arith, larger_max y (largest l), in-larg
 pub largest-in : (l : List ℕ) → not (is_empty l) ≡ true → In (largest l) l
 largest-in [] h = absurd (false≢true h)
 largest-in (y ∷ []) h = inl (larger_max y 0 ∙ omega arith)
-largest-in (y ∷ z ∷ l) h = cases (ltb y (largest (z ∷ l))) (λ q. rw q (inr (largest-in (z ∷ l) refl))) (λ q. rw q (inl refl))
+largest-in (y ∷ z ∷ l) h =
+    let m = largest (z ∷ l) in
+    let P : ℕ → Type 0 = λ x. In x (y ∷ z ∷ l) in
+    cases (ltb y m)
+    (λ q. subst P (ap (λ (b : Bool). cond b m y) (sym q)) (inr (largest-in (z ∷ l) refl)))
+    (λ q. subst P (ap (λ (b : Bool). cond b m y) (sym q)) (inl refl))

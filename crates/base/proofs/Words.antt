@@ -1,6 +1,6 @@
 -- A word of bits: its size, what one more bit adds, what each bit says, the words of tests put together, of parts and of an interval.
 -- Assumes nothing.
-use mathlib.Core.Path.{◌≡◌, refl, sym, ap, ◌∙◌}
+use mathlib.Core.Path.{◌≡◌, refl, sym, ap, ◌∙◌, subst}
 use mathlib.Core.Bool.{Bool, true, false, ◌&&◌, ◌||◌, and-true, and-false}
 use mathlib.Core.Logic.{◌⊎◌, inl, inr, ⊎_elim}
 use mathlib.Core.List.{[], ◌∷◌}
@@ -152,7 +152,8 @@ word_between first past (suc n) h =
     (λ (k : n < past).
     let e : past ≡ suc n = omega arith in
     let same = word_same (λ k. leb first k && ltb k (suc n)) (λ k. leb first k && ltb k n) 0 0 n (λ k l. rw (zero-add k, lt-ltb k n l, lt-ltb k (suc n) (omega arith))) in
-    rw (e, same, word_between first n n (omega arith), zero-add n, lt-ltb n (suc n) (omega arith), and-true (leb first n)) (interval_bit first n))
+    let P : ℕ → Type 0 = λ p. word_of (λ k. leb first k && ltb k p) 0 (suc n) ≡ 2 ^ p - 2 ^ first in
+    subst P (sym e) (rw (same, word_between first n n (omega arith), zero-add n, lt-ltb n (suc n) (omega arith), and-true (leb first n)) (interval_bit first n)))
     (le_or_lt past n)
 
 -- a number is the word of its own bits

@@ -1,5 +1,7 @@
 // The desk program: a scheme and a question on standard input, the best stands or a refusal on standard output.
 // What is printed is settled in desk_answer; here stand its rooms, all zero at the start, one read and one write.
+#![tactic(auto)]
+
 use desk_answer::{BITS_ROOM, ENTRIES_ROOM, ORDER_ROOM, OUTPUT_MOST, answer};
 use desk_form::Reading;
 use libc::{STDIN_FILENO, STDOUT_FILENO};

@@ -1,4 +1,6 @@
 // The desk program without its reading and writing: from the bytes of an input to the bytes that are printed.
+#![tactic(auto)]
+
 mod printing;
 mod reply;
 

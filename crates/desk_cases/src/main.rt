@@ -1,5 +1,7 @@
 // The desk program's answers on inputs that are not of its form, on inputs that the finder refuses, and at the limits.
 // Each answer stands behind the name of its case; what is printed is held to the file stdout.
+#![tactic(auto)]
+
 use desk_answer::{BITS_ROOM, ENTRIES_ROOM, NODES_ROOM, ORDER_ROOM, OUTPUT_MOST, answer};
 use desk_form::Reading;
 use libc::STDOUT_FILENO;

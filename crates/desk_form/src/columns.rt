@@ -9,7 +9,7 @@ use crate::group::{StandRead, read_stand};
 use lines::put;
 
 // How many bytes the names have, and where the lines behind the stands begin.
-#[derive(Drop)]
+#[derive(Clone, Copy)]
 pub enum Stands {
     Laid { bytes: usize, next: usize },
     Malformed,

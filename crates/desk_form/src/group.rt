@@ -9,7 +9,7 @@ use lines::{Bytes, Signed, Unsigned, bytes_line, signed_line, unsigned_line};
 use rules::{Grid, Place, Ranking};
 
 // The grid, how many stands follow, and where their lines begin.
-#[derive(Drop)]
+#[derive(Clone, Copy)]
 pub enum Opening {
     Lines {
         grid: Grid,
@@ -21,7 +21,7 @@ pub enum Opening {
 
 // A stand, its name as a part of the input, and where the next lines begin; or the first of its four lines that is not as it
 // should be, from 0.
-#[derive(Drop)]
+#[derive(Clone, Copy)]
 pub enum StandRead {
     Lines {
         from: usize,
@@ -35,7 +35,7 @@ pub enum StandRead {
 }
 
 // The question, its text as a part of the input, and where its lines end.
-#[derive(Drop)]
+#[derive(Clone, Copy)]
 pub enum Question {
     Lines {
         from: usize,

@@ -1,5 +1,7 @@
 // The desk program's input: lines of key=value, read into the parts of a table and a question. Form.antt says which inputs are
 // of the form, by how one is written; any other is refused 14.
+#![tactic(auto)]
+
 mod columns;
 mod group;
 
@@ -14,7 +16,7 @@ use rules::{Grid, Ranking, Refusal};
 
 // What an input says: how many stands it has and how many bytes their names, the grid, where in the input the question's text
 // begins and past its end, and what is asked for.
-#[derive(Drop)]
+#[derive(Clone, Copy)]
 pub enum Reading {
     Of {
         stands: usize,

@@ -1,5 +1,7 @@
 // The finder: every call that users make and every type that these take, by one name.
 // specs/Runs says what any sequence of calls on one session comes to.
+#![tactic(auto)]
+
 pub use any::any;
 pub use grid::locate;
 pub use index::{build, check};

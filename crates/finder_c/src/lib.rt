@@ -1,6 +1,8 @@
 // The finder for C: a slice is a pointer and a length, an answer its numbers. The questions, building and checking hand on to the finder's
 // own calls; the keystrokes and the rest of a name to the steps by value under these, since a lent record is walked by hand.
 // include/krzewido.h says the same to C. Nothing is asked of any argument: what the calls under these promise, these promise of the numbers.
+#![tactic(auto)]
+
 ghost use Rattle.std.specs.Prelude.{◌≡◌};
 ghost use Rattle.base.specs.Lent.{given, after};
 ghost use Rattle.rules.specs.Numbers.{located_numbers, built_numbers, checked_numbers, range_numbers, any_numbers, ranked_numbers, verdict_number};
@@ -20,14 +22,14 @@ use table::names::{Span, rest_span};
 
 // A refusal is its number, or 0; with one every other number is 0, but for a range's matches.
 #[repr(C)]
-#[derive(Drop)]
+#[derive(Clone, Copy)]
 pub struct Located {
     pub refusal: u32,
     pub region: u32,
 }
 
 #[repr(C)]
-#[derive(Drop)]
+#[derive(Clone, Copy)]
 pub struct Built {
     pub refusal: u32,
     pub nodes: u32,
@@ -37,7 +39,7 @@ pub struct Built {
 
 // Lawful is 1 or 0.
 #[repr(C)]
-#[derive(Drop)]
+#[derive(Clone, Copy)]
 pub struct Checked {
     pub lawful: u32,
     pub nodes: u32,
@@ -46,7 +48,7 @@ pub struct Checked {
 }
 
 #[repr(C)]
-#[derive(Drop)]
+#[derive(Clone, Copy)]
 pub struct Found {
     pub refusal: u32,
     pub count: u32,
@@ -54,7 +56,7 @@ pub struct Found {
 
 // Yes is 1 or 0, and without a yes the stand is 0.
 #[repr(C)]
-#[derive(Drop)]
+#[derive(Clone, Copy)]
 pub struct AnyFound {
     pub refusal: u32,
     pub yes: u32,
@@ -63,7 +65,7 @@ pub struct AnyFound {
 
 // A part of the table's text: where it begins, and how many bytes it has.
 #[repr(C)]
-#[derive(Drop)]
+#[derive(Clone, Copy)]
 pub struct Part {
     pub start: u32,
     pub length: u32,

@@ -10,7 +10,7 @@ use super::metres::edge_strip;
 use rules::{Grid, Rect};
 
 // One bit for each region.
-#[derive(Drop)]
+#[derive(Clone, Copy)]
 pub struct Cells {
     pub low: u32,
     pub high: u32,
@@ -85,7 +85,7 @@ const EVERY_ROW: u64 = 0x0101_0101_0101_0101;
 const HALF: u64 = 4_294_967_296;
 
 // Columns or rows from first on, past not among them.
-#[derive(Drop)]
+#[derive(Clone, Copy)]
 struct Span {
     first: u32,
     past: u32,

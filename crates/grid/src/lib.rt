@@ -1,5 +1,7 @@
 // Where a place lies in the grid of 8 by 8 regions, and whether grid and place are within their limits.
 // Ways and values are in `worth`, roots in `roots`, a rectangle's regions in `cells`, signed metres in `metres`.
+#![tactic(auto)]
+
 ghost use Rattle.std.specs.Prelude.{◌≡◌, ◌<◌, true};
 ghost use Rattle.rules.specs.Numbers.{located_numbers};
 ghost use Rattle.rules.specs.Places.{edge_lawful, grid_lawful, within, in_grid, strip, region_of, region_told, rect_lawful, in_rect};

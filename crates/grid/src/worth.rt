@@ -10,7 +10,7 @@ use super::roots::root;
 use rules::{Grid, Place, Ranking, Stand};
 
 // So many metres east or west, and so many north or south.
-#[derive(Drop)]
+#[derive(Clone, Copy)]
 pub struct Way {
     pub across: u32,
     pub along: u32,

@@ -1,4 +1,6 @@
 // The index of a table: building it into four lent buffers, and checking four buffers against it.
+#![tactic(auto)]
+
 mod buffers;
 mod columns;
 

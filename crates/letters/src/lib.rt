@@ -1,5 +1,7 @@
 // The questions on the letters of a session. Its path has the letters' node, so nothing is walked from the root.
 // On a lawful set and session the outcome is that of the same text given afresh; on any other it is harmless.
+#![tactic(auto)]
+
 ghost use Rattle.std.specs.Prelude.{◌≡◌};
 ghost use Rattle.rules.specs.Numbers.{verdict_number, any_numbers};
 ghost use Rattle.rules.specs.Tables.{table_in};

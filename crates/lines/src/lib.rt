@@ -1,4 +1,6 @@
 // Lines of key=value and the numbers in them: read from any bytes, and put into any bytes. What is put is read back.
+#![tactic(auto)]
+
 mod putting;
 mod reading;
 

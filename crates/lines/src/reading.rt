@@ -9,33 +9,33 @@ ghost use Rattle.lines.specs.Says.{said_number, said_signed, SaysBytes, SaysUnsi
 use table::names::shared;
 
 // The value of a line: where it begins, and past its end, where the line feed stands.
-#[derive(Drop)]
+#[derive(Clone, Copy)]
 pub enum Bytes {
     Part(usize, usize),
     Malformed,
 }
 
 // A line's number, and where the next line begins.
-#[derive(Drop)]
+#[derive(Clone, Copy)]
 pub enum Unsigned {
     Number(u32, usize),
     Malformed,
 }
 
-#[derive(Drop)]
+#[derive(Clone, Copy)]
 pub enum Signed {
     Number(i32, usize),
     Malformed,
 }
 
 // A whole part as a number.
-#[derive(Drop)]
+#[derive(Clone, Copy)]
 pub enum Decimal {
     Number(u32),
     Malformed,
 }
 
-#[derive(Drop)]
+#[derive(Clone, Copy)]
 pub enum SignedDecimal {
     Number(i32),
     Malformed,

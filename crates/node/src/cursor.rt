@@ -11,7 +11,7 @@ use crate::{Gathered, Path, RegionPath, Slots};
 use rules::{Node, Stand};
 
 // The node of a stand's first length bytes, its number, and how many entries and bit records the nodes before it have.
-#[derive(Drop)]
+#[derive(Clone, Copy)]
 pub struct Cursor {
     pub stand: Stand,
     pub length: u8,

@@ -1,5 +1,7 @@
 // One node of the index, reckoned from a table's columns: what lies under it, gathered and ranked, and its row of words.
 // `cursor` goes from node to node, `records` says whose bits serve one. The work for a node grows with its stands and its entries.
+#![tactic(auto)]
+
 pub mod cursor;
 pub mod ranks;
 pub mod records;
@@ -28,7 +30,7 @@ pub type Path = [u32; Session::PATH];
 pub type RegionPath = [u64; Session::PATH];
 
 // The stand past a node's last, its regions as bits, and how many regions and so entries it has.
-#[derive(Drop)]
+#[derive(Clone, Copy)]
 pub struct Gathered {
     pub past: Stand,
     pub bits: u64,

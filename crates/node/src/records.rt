@@ -9,7 +9,7 @@ use crate::{Path, RegionPath, above};
 use rules::layout::RECORD_WORDS;
 
 // The record that serves a node, and how many it keeps: one, or none where that record is its parent's.
-#[derive(Drop)]
+#[derive(Clone, Copy)]
 pub struct Served {
     pub number: u32,
     pub kept: u32,

@@ -16,7 +16,7 @@ use runs::sight::{Sighted, sight};
 use walk::entry::EntryRead;
 
 // How many stands are in the rectangle.
-#[derive(Drop)]
+#[derive(Clone, Copy)]
 pub(crate) enum Tally {
     Count(u32),
     // A place of the order has no stand of the table.

@@ -1,5 +1,7 @@
 // The range question: from a text's listing to the stands in the rectangle, written to the caller's room.
 // `runs` says which stands are to be looked at, `gather` goes through them.
+#![tactic(auto)]
+
 ghost use Rattle.std.specs.Prelude.{◌≡◌};
 ghost use Rattle.base.specs.Lent.{given};
 ghost use Rattle.grid.specs.Cells.{regions_in};

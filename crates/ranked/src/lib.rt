@@ -1,5 +1,7 @@
 // The ranked question. On a lawful set it comes to what the rules say; on any other it is harmless.
 // Refusals 9 and 8 are the text's, then come 12, 13 and 7; the search itself is the crate `search`.
+#![tactic(auto)]
+
 ghost use Rattle.std.specs.Prelude.{◌≡◌};
 ghost use Rattle.base.specs.Lent.{given};
 ghost use Rattle.rules.specs.Tables.{table_in};

@@ -1,5 +1,7 @@
 // What the finder's calls are given and what they answer: places, numberings, questions, the session, refusals.
 // Code reads a limit here, at the type that it belongs to; specs/ has the rules, with their numbers written out.
+#![tactic(auto)]
+
 ghost use Rattle.std.specs.Prelude.{◌≡◌};
 ghost use Rattle.rules.specs.Numbers.{refusal_number, verdict_number};
 ghost use Rattle.rules.specs.Sessions.{fresh_session};
@@ -7,15 +9,15 @@ ghost use Rattle.rules.specs.Sessions.{fresh_session};
 pub mod layout;
 
 // The number of a stand: its position in the table.
-#[derive(Drop)]
+#[derive(Clone, Copy)]
 pub struct Stand(pub u32);
 
 // The number of a node of the letter tree, in pre-order.
-#[derive(Drop)]
+#[derive(Clone, Copy)]
 pub struct Node(pub u32);
 
 // A place in the stand order.
-#[derive(Drop)]
+#[derive(Clone, Copy)]
 pub struct OrderPlace(pub u32);
 
 impl Stand {
@@ -30,7 +32,7 @@ impl Stand {
 
 // Where the grid lies: its west and south edge and the side of a cell, in metres.
 #[repr(C)]
-#[derive(Drop)]
+#[derive(Clone, Copy)]
 pub struct Grid {
     pub west: i32,
     pub south: i32,
@@ -50,7 +52,7 @@ impl Grid {
 }
 
 #[repr(C)]
-#[derive(Drop)]
+#[derive(Clone, Copy)]
 pub struct Place {
     pub east: i32,
     pub north: i32,
@@ -58,7 +60,7 @@ pub struct Place {
 
 // A rectangle; all four edges belong to it.
 #[repr(C)]
-#[derive(Drop)]
+#[derive(Clone, Copy)]
 pub struct Rect {
     pub west: i32,
     pub east: i32,
@@ -67,7 +69,7 @@ pub struct Rect {
 }
 
 // What a ranked question asks for: the best k stands at a place, by this weight of score against nearness.
-#[derive(Drop)]
+#[derive(Clone, Copy)]
 pub struct Ranking {
     pub place: Place,
     pub weight: u32,
@@ -81,7 +83,7 @@ impl Ranking {
 }
 
 // A stand that a ranked question found, with its value.
-#[derive(Drop)]
+#[derive(Clone, Copy)]
 pub struct Hit {
     pub stand: u32,
     pub value: u64,
@@ -89,7 +91,7 @@ pub struct Hit {
 
 // The letters typed so far, and at place i of the path the node of the first i of them; 0 where there is none.
 #[repr(C)]
-#[derive(Drop)]
+#[derive(Clone, Copy)]
 pub struct Session {
     pub text: [u8; Stand::NAME_MOST],
     pub len: u32,
@@ -113,7 +115,7 @@ impl Session {
 }
 
 // Why a call refuses, in the order of their numbers, from 1.
-#[derive(Drop)]
+#[derive(Clone, Copy)]
 pub enum Refusal {
     TableMisshapen,
     GridOutsideLimits,
@@ -155,7 +157,7 @@ impl Refusal {
 }
 
 // Whether a table is taken, or a keystroke.
-#[derive(Drop)]
+#[derive(Clone, Copy)]
 pub enum Verdict {
     Passed,
     Refused(Refusal),
@@ -174,35 +176,35 @@ impl Verdict {
 }
 
 // The region of a place.
-#[derive(Drop)]
+#[derive(Clone, Copy)]
 pub enum Located {
     In(u32),
     Refused(Refusal),
 }
 
 // What building wrote: how many nodes, entries and bit records.
-#[derive(Drop)]
+#[derive(Clone, Copy)]
 pub enum Built {
     Index { nodes: u32, entries: u32, bits: u32 },
     Refused(Refusal),
 }
 
 // Whether a set is lawful, and what its index has.
-#[derive(Drop)]
+#[derive(Clone, Copy)]
 pub enum Checked {
     Lawful { nodes: u32, entries: u32, bits: u32 },
     Unlawful,
 }
 
 // How many stands a range question wrote to its room; a refusal for want of room tells how many match.
-#[derive(Drop)]
+#[derive(Clone, Copy)]
 pub enum RangeAnswer {
     Found(u32),
     Refused { why: Refusal, matches: u32 },
 }
 
 // Whether any stand is in a range: yes, with the first of the range's list, or no.
-#[derive(Drop)]
+#[derive(Clone, Copy)]
 pub enum AnyAnswer {
     Yes(Stand),
     No,
@@ -210,7 +212,7 @@ pub enum AnyAnswer {
 }
 
 // How many stands a ranked question wrote to its rooms.
-#[derive(Drop)]
+#[derive(Clone, Copy)]
 pub enum RankedAnswer {
     Found(u32),
     Refused(Refusal),

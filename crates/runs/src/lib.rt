@@ -1,6 +1,8 @@
 // What a question about a rectangle has to look at: the stands of the regions that a text's listing and the rectangle share, region by region.
 // `notes` has the entry of each such region, which says where its stands are in the order, and `sight` where a stand is on the map.
 // No stand is reached but through the listing.
+#![tactic(auto)]
+
 ghost use Rattle.std.specs.Prelude.{◌≡◌};
 ghost use Rattle.base.specs.Lent.{given, after};
 ghost use Rattle.runs.specs.Notes.{blank};
@@ -15,7 +17,7 @@ use rules::{Grid, Rect, Refusal, Stand};
 use walk::listing::Listing;
 
 // The regions to be looked at, with the number of the listing's first entry; that there are none; or why the question is refused.
-#[derive(Drop)]
+#[derive(Clone, Copy)]
 pub enum Touched {
     Regions(Cells, u32),
     Nothing,

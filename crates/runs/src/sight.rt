@@ -5,7 +5,7 @@ ghost use Rattle.runs.specs.Sights.{sighted};
 
 use rules::{Place, Stand};
 
-#[derive(Drop)]
+#[derive(Clone, Copy)]
 pub enum Sighted {
     At(Place),
     // It is no stand of the table.

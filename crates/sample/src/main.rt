@@ -1,5 +1,7 @@
 // The index of the small scheme and of some generated tables, printed word by word.
 // tests/src/words.rs prints the same from a scan of every stand; the file stdout is what both print.
+#![tactic(auto)]
+
 ghost use Rattle.std.specs.Prelude.{◌<◌};
 
 use libc::STDOUT_FILENO;

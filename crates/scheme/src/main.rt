@@ -1,5 +1,7 @@
 // The small scheme, reckoned with the finder's own calls, line by line of the rules; then tables that are refused, and rests of names.
 // Letters go by the steps under the calls on a lent session; tests/example.c has those. What is printed is held to the file stdout.
+#![tactic(auto)]
+
 mod answers;
 mod set;
 

@@ -17,7 +17,7 @@ pub(crate) const GRID: Grid = Grid {
     cell: 10,
 };
 
-#[derive(Drop)]
+#[derive(Clone, Copy)]
 pub(crate) struct Index {
     pub order: [u32; 5],
     pub nodes: [u32; 96],

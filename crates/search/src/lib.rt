@@ -2,6 +2,8 @@
 // `keys` weighs a stand at the end of a way, `stands` offers stands, `entries` passes the listed entries over or takes them.
 // The grid's diagonal is reckoned once, and handed to all of them. The words may be anything:
 // those that no building writes are Broken, and nothing outside them is read.
+#![tactic(auto)]
+
 ghost use Rattle.std.specs.Prelude.{take};
 ghost use Rattle.base.specs.Lent.{given, after};
 ghost use Rattle.rules.specs.Outcomes.{rooms_in, ranked_came_in};
@@ -18,7 +20,7 @@ use grid::worth::diagonal;
 use rules::{Grid, RankedAnswer, Ranking, Refusal};
 
 // How many keys are held after a step of the search.
-#[derive(Drop)]
+#[derive(Clone, Copy)]
 pub enum Kept {
     Held(usize),
     // These are not the words of an index.

@@ -1,5 +1,7 @@
 // Keystrokes: a letter typed or rubbed out, by value and on the one session record that a caller lends; and where its letters came to.
 // Nothing is asked of session and nodes: on any words a keystroke ends, reads nothing outside them, and a refused one alters nothing.
+#![tactic(auto)]
+
 ghost use Rattle.std.specs.Prelude.{◌≡◌};
 ghost use Rattle.base.specs.Lent.{given, after};
 ghost use Rattle.rules.specs.Names.{folded};
@@ -11,14 +13,14 @@ use table::names::{allowed, folded};
 use walk::{Child, child_of};
 
 // What a keystroke comes to: whether it is taken, and the session after it, which is the old one where it is not.
-#[derive(Drop)]
+#[derive(Clone, Copy)]
 pub struct Stroke {
     pub verdict: Verdict,
     pub session: Session,
 }
 
 // Where a letter leads: to a node, 0 for none; or it is refused.
-#[derive(Drop)]
+#[derive(Clone, Copy)]
 enum Led {
     To(u32),
     Refused(Refusal),

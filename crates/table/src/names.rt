@@ -10,7 +10,7 @@ ghost use Rattle.table.specs.Parts.{Spans, RestSpans, Rest};
 use rules::Stand;
 
 // A part of the text: where it begins, and past its end.
-#[derive(Drop)]
+#[derive(Clone, Copy)]
 pub struct Span {
     pub from: usize,
     pub past: usize,

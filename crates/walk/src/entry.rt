@@ -7,7 +7,7 @@ use rules::layout::{BEST_SCORE, ENTRY_WORDS, FIRST_PLACE, PAST_PLACE, REGION};
 use rules::{Grid, OrderPlace};
 
 // A region, the largest score there, and the run of its stands in the order: from a first place on, short of the one past the last.
-#[derive(Drop)]
+#[derive(Clone, Copy)]
 pub struct Entry {
     pub region: u32,
     pub score: u32,
@@ -15,7 +15,7 @@ pub struct Entry {
     pub past: OrderPlace,
 }
 
-#[derive(Drop)]
+#[derive(Clone, Copy)]
 pub enum EntryRead {
     At(Entry),
     // There is no such entry, it has no region, or its run goes past the places.

@@ -1,5 +1,7 @@
 // From a text to its node, by the nodes' words. The words may be anything: a walk always ends and reads nothing outside them.
 // Where they are what building writes, the node found is the text's. `listing` goes on to the node's entries, `entry` reads one.
+#![tactic(auto)]
+
 ghost use Rattle.std.specs.Prelude.{◌≡◌};
 ghost use Rattle.base.specs.Lent.{given};
 ghost use Rattle.rules.specs.Names.{folded, folded_text};
@@ -13,7 +15,7 @@ pub mod entry;
 pub mod listing;
 
 // Where a walk comes to.
-#[derive(Drop)]
+#[derive(Clone, Copy)]
 pub enum Child {
     At(Node),
     // There is no such node.

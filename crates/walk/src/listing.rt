@@ -11,7 +11,7 @@ use grid::cells::Cells;
 use rules::Node;
 use rules::layout::{FIRST_ENTRY, HIGH_REGIONS, LOW_REGIONS, NODE_WORDS, RECORD, RECORD_WORDS};
 
-#[derive(Drop)]
+#[derive(Clone, Copy)]
 pub enum Listing {
     // The regions that have an entry, and the number of the first entry.
     Entries(Cells, u32),

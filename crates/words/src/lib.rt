@@ -1,5 +1,7 @@
 // The words of an index, reckoned from a table's columns: the length and the region of each name, how much it shares with the one
 // before, and its score. One cursor goes through the nodes in pre-order and serves counting, writing and checking.
+#![tactic(auto)]
+
 pub mod order;
 pub mod rooms;
 pub mod turn;
@@ -27,7 +29,7 @@ pub fn count_nodes(lengths: &[u8], shared: &[u8]) -> u32
 }
 
 // How many entries and bit records an index has.
-#[derive(Drop)]
+#[derive(Clone, Copy)]
 pub struct Counts {
     pub entries: u32,
     pub records: u32,

@@ -54,7 +54,7 @@ pub fn write_node(
 }
 
 // Whether the rooms have the node's words, and the cursor past it if so.
-#[derive(Drop)]
+#[derive(Clone, Copy)]
 pub enum Compared {
     Same(Cursor),
     Different,
