@@ -26,15 +26,15 @@ reach_fits (negsuc e) n fe h =
     (λ (g : n < suc e). rw (sub_down n (suc e) g) (record { sfits = omega (arith, fe.sfits) }))
     (le_or_lt (suc e) n)
 
--- so many strips are passed; where the next one begins, in the bits that hold it
-pub record Stepping (edge : ℤ) (c : ℕ) (x : ℤ) (next passed : ℕ) : Type 0 where
+-- so many strips are passed; where the next one begins
+pub record Stepping (edge : ℤ) (c : ℕ) (x next : ℤ) (passed : ℕ) : Type 0 where
   pub few : passed ≤ 7
-  pub begins : next ≡ of_z w64 (edge +ℤ pos (suc passed * c))
+  pub begins : next ≡ edge +ℤ pos (suc passed * c)
   pub behind : lifted edge + passed * c ≤ lifted x
 
 -- whether the next strip has begun at x, as the code tests it
-abbrev begun : ℕ → ℤ → Bool
-begun next x = le_z (to_z w64 next) (to_z w64 (of_z w64 (to_z w32 (of_z w32 x))))
+abbrev begun : ℤ → ℤ → Bool
+begun next x = le_z next (to_z w64 (of_z w64 (to_z w32 (of_z w32 x))))
 
 -- a coordinate of the grid, and the numbers that it is found by
 pub record Axis (edge : ℤ) (c : ℕ) (x : ℤ) : Type 0 where
@@ -57,24 +57,21 @@ module _ (edge : ℤ) (c : ℕ) (x : ℤ) (a : Axis edge c x) where
   pub first_fits : SFits w64 (edge +ℤ pos c)
   first_fits = let one : 1 * c ≡ c = omega arith in rw one at (begin_fits 1 (omega arith))
 
-  pub first : Stepping edge c x (of_z w64 (edge +ℤ pos c)) 0
-  first = record { few = omega arith; begins = ap (λ (k : ℕ). of_z w64 (edge +ℤ pos k)) (omega arith); behind = omega (arith, from_edge edge c x a.inside) }
+  pub first : Stepping edge c x (edge +ℤ pos c) 0
+  first = record { few = omega arith; begins = ap (λ (k : ℕ). edge +ℤ pos k) (omega arith); behind = omega (arith, from_edge edge c x a.inside) }
 
-  module _ (next passed : ℕ) (s : Stepping edge c x next passed) where
-    read : to_z w64 next ≡ edge +ℤ pos (suc passed * c)
-    read = rw s.begins (to_z-of_z (begin_fits (suc passed) (omega (arith, s.few))))
-
+  module _ (next : ℤ) (passed : ℕ) (s : Stepping edge c x next passed) where
     reached : {t : Bool} → begun next x ≡ t → leb (lifted edge + suc passed * c) (lifted x) ≡ t
-    reached e = sym (reach_order edge (suc passed * c) x a.edge_fits a.x_fits) ∙ (rw (read, wide x a.x_fits) at e)
+    reached e = sym (reach_order edge (suc passed * c) x a.edge_fits a.x_fits) ∙ (rw (s.begins, wide x a.x_fits) at e)
 
-    pub next_fits : passed < 7 → SFits w64 (to_z w64 next +ℤ to_z w64 c)
-    next_fits h = rw (read, side_is, further (suc passed)) (begin_fits (suc (suc passed)) (omega arith))
+    pub next_fits : passed < 7 → SFits w64 (next +ℤ to_z w64 c)
+    next_fits h = rw (s.begins, side_is, further (suc passed)) (begin_fits (suc (suc passed)) (omega arith))
 
-    pub stepped : passed < 7 → begun next x ≡ true → Stepping edge c x (of_z w64 (to_z w64 next +ℤ to_z w64 c)) (passed + 1)
+    pub stepped : passed < 7 → begun next x ≡ true → Stepping edge c x (to_z w64 (of_z w64 (next +ℤ to_z w64 c))) (passed + 1)
     stepped h e =
         record {
           few = omega arith;
-          begins = rw (read, side_is) (ap (of_z w64) (further (suc passed) ∙ ap (λ (k : ℕ). edge +ℤ pos (k * c)) (omega arith)));
+          begins = to_z-of_z (next_fits h) ∙ rw (s.begins, side_is) (further (suc passed) ∙ ap (λ (k : ℕ). edge +ℤ pos (k * c)) (omega arith));
           behind = omega (arith, leb-true (lifted edge + suc passed * c) (lifted x) (reached e), ap (λ (k : ℕ). k * c) more);
         }
       where

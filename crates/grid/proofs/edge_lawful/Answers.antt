@@ -1,6 +1,6 @@
 -- `grid::edge_lawful` meets its contract. The signed tests say the same of the bits that are read back.
 -- Assumes nothing.
-use Rattle.std.proofs.Common.{not, negsuc, ap, ◌∙◌, to_z-of_z, rules}
+use Rattle.std.proofs.Common.{not, negsuc, ap, ◌∙◌, to_z-of_z}
 use Rattle.rules.specs.Places.{edge_lawful}
 use Rattle.grid.proofs.Signed.{turned}
 use Rattle.grid.proofs.edge_lawful.Goals as goal

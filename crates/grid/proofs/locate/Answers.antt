@@ -1,6 +1,5 @@
 -- `grid::locate` meets its contract. One return for each case of the definition.
 -- Assumes nothing.
-use Rattle.std.proofs.Common.{rules}
 use Rattle.base.proofs.Tests.{breaks, holds}
 use Rattle.rules.specs.Places.{region_told}
 use Rattle.grid.proofs.locate.Goals as goal

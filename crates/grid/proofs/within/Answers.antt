@@ -1,6 +1,6 @@
 -- `grid::within` meets its contract: of a coordinate before the edge the wrapped difference is near 2 ^ 64.
 -- Assumes nothing.
-use Rattle.std.proofs.Common.{◌≡◌, ℕ, suc, ◌+◌, ◌*◌, ◌%◌, ◌^◌, ◌<◌, ◌≤◌, ◌&&◌, ltb, leb, ◌∙◌, ⊎_elim, arith, rules, le-ltb, le-leb}
+use Rattle.std.proofs.Common.{◌≡◌, ℕ, suc, ◌+◌, ◌*◌, ◌%◌, ◌^◌, ◌<◌, ◌≤◌, ◌&&◌, ltb, leb, ◌∙◌, ⊎_elim, arith, le-ltb, le-leb}
 use borrow.Author.Tests.{lt-leb}
 use Rattle.base.proofs.Machine.{arrives}
 use Rattle.base.proofs.Tests.{le_or_lt}
@@ -20,15 +20,11 @@ module _ (edge x into width : ℕ) (edge-small : edge < 4294967296) (x-small : x
       (λ (h : x < edge). rw (lt-leb edge x h) (le-ltb into width (omega (arith, wraps))))
       (le_or_lt edge x)
 
-x_is : (c : goal.After-lift) → c.lift.result ≡ lifted c.args.x
-x_is c = c.lift.ensures ∙ arrives lifted c.args.x c.ranges.x
-
-edge-is : (c : goal.After-lift-2) → c.lift-2.result ≡ lifted c.args.edge
-edge-is c = c.lift-2.ensures ∙ arrives lifted c.args.edge c.ranges.edge
-
 pub returns : goal.returns
 unfolding within
 returns c =
     let s = c.before.before.before in
-    let wraps = rw (x_is c.before.before, edge-is c.before) at c.wrapping_sub_u64-into.ensures in
+    let x_is : c.lift.result ≡ lifted c.args.x = c.lift.ensures ∙ arrives lifted c.args.x c.ranges.x in
+    let edge_is : c.lift-2.result ≡ lifted c.args.edge = c.lift-2.ensures ∙ arrives lifted c.args.edge c.ranges.edge in
+    let wraps = rw (x_is, edge_is) at c.wrapping_sub_u64-into.ensures.value in
     one-test _ _ _ (8 * s.args.cell) (lifted_less _ s.ranges.edge) (lifted_less _ s.ranges.x) c.wrapping_sub_u64-into.type_inv (omega (arith, s.ranges.cell.fits)) wraps

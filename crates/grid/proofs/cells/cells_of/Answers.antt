@@ -45,7 +45,7 @@ pub overflow_mul-bits : goal.overflow_mul-bits
 overflow_mul-bits c = record { fits = rw (product c) (word_less _ 0 64) }
 
 pub overflow_cast-result-2 : goal.overflow_cast-result-2
-overflow_cast-result-2 c = omega (arith, (mul-bits c).ranges)
+overflow_cast-result-2 c = omega (arith, (overflow_mul-bits c).fits)
 
 pub returns : goal.returns
 unfolding cells_of

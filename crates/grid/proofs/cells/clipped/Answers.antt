@@ -1,6 +1,6 @@
 -- `grid::cells::clipped` meets its contract. By the sign, and then by the test against the last column.
 -- Assumes nothing.
-use Rattle.std.proofs.Common.{true, false, pos, arith, to_z-of_z, rules, ltb-false}
+use Rattle.std.proofs.Common.{true, false, pos, arith, to_z-of_z, ltb-false}
 use Rattle.grid.proofs.Signed.{Signed, by_sign}
 use Rattle.grid.proofs.cells.clipped.Goals as goal
 

@@ -1,6 +1,6 @@
 -- `grid::cells::span_between` meets its contract. By the tests of the definition; a clipped end is at most 7.
 -- Assumes nothing.
-use Rattle.std.proofs.Common.{ap, ◌∙◌, arith, to_z-of_z, rules}
+use Rattle.std.proofs.Common.{ap, ◌∙◌, arith, to_z-of_z}
 use Rattle.grid.specs.Cells.{span_of, clip}
 use Rattle.grid.proofs.Spans.{clip_less}
 use Rattle.grid.proofs.cells.span_between.Goals as goal

@@ -1,6 +1,6 @@
 -- `grid::cells::strips` meets its contract. Both edges are floored.
 -- Assumes nothing.
-use Rattle.std.proofs.Common.{to_z-of_z, w64, rules}
+use Rattle.std.proofs.Common.{to_z-of_z, w64}
 use borrow.Author.Rules.{sfits_of}
 use Rattle.grid.specs.Cells.{edges_span}
 use Rattle.grid.proofs.cells.strips.Goals as goal

@@ -1,6 +1,6 @@
 -- `grid::metres::edge_strip` meets its contract. The quotient of the difference.
 -- Assumes nothing.
-use Rattle.std.proofs.Common.{to_z-of_z, w64, rules}
+use Rattle.std.proofs.Common.{to_z-of_z, w64}
 use borrow.Author.Rules.{sfits_of}
 use Rattle.grid.proofs.metres.edge_strip.Goals as goal
 

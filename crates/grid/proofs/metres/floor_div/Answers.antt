@@ -1,6 +1,6 @@
 -- `grid::metres::floor_div` meets its contract. Of a negative number: one up, toward zero, one down.
 -- Assumes nothing.
-use Rattle.std.proofs.Common.{◌≡◌, true, false, pos, negsuc, arith, to_z-of_z, w64, to_z, rules}
+use Rattle.std.proofs.Common.{◌≡◌, true, false, pos, negsuc, arith, to_z-of_z, w64, to_z}
 use mir.Facts.{to_z_pos}
 use Rattle.grid.proofs.Signed.{Signed, by_sign, one_up, one_down, quotient, neg_fits, part_less}
 use Rattle.grid.proofs.metres.floor_div.Goals as goal

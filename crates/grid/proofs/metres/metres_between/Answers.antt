@@ -1,6 +1,6 @@
 -- `grid::metres::metres_between` meets its contract. Both are lifted first, and stay below 2 ^ 32.
 -- Assumes nothing.
-use Rattle.std.proofs.Common.{◌≡◌, arith, to_z-of_z, rules}
+use Rattle.std.proofs.Common.{◌≡◌, arith, to_z-of_z}
 use Rattle.rules.specs.Places.{lifted}
 use Rattle.rules.specs.Worth.{apart}
 use Rattle.grid.proofs.Signed.{lifted_less}

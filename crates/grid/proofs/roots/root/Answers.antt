@@ -1,6 +1,6 @@
 -- `grid::roots::root` meets its contract: its loop's invariant is `Rooting`, whose laws are of proofs/Rooting.antt. Assumes nothing.
 use Rattle.std.proofs.Common.{arith, rules}
-use Rattle.grid.proofs.Rooting.{Rooting, begin, next_fits, square_fits, bit_added, bit_left, rooted}
+use Rattle.grid.proofs.Rooting.{begin, next_fits, square_fits, bit_added, bit_left, rooted}
 use Rattle.grid.proofs.roots.root.Goals as goal
 
 pub loop-bits-init : goal.loop-bits-init

@@ -1,6 +1,5 @@
 -- What the loop of `roots::root` keeps.
-use Rattle.std.proofs.Common.{arith, rules}
-use Rattle.grid.proofs.Rooting.{Rooting, begin, next_fits, square_fits, bit_added, bit_left, rooted}
+use Rattle.grid.proofs.Rooting.{Rooting}
 use Rattle.grid.proofs.roots.root.Given as goal
 
 abbrev pub invariant-loop-bits : goal.invariant-loop-bits

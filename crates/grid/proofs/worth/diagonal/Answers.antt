@@ -14,3 +14,7 @@ overflow_mul-cell-2 c = omega (arith, cell_squared _ (cell_small _ c.requires))
 
 pub root-requires : goal.root-requires
 root-requires c = omega (arith, cell_squared _ (cell_small _ c.requires))
+
+pub returns : goal.returns
+unfolding diagonal diagonal²
+returns c = search rules

@@ -1,6 +1,6 @@
 -- `grid::worth::gap` meets its contract. The strip starts below 2^33.
 -- Assumes nothing.
-use Rattle.std.proofs.Common.{◌+◌, ◌*◌, ◌<◌, le_of_lt, mul-le-mul, arith, to_z-of_z, rules}
+use Rattle.std.proofs.Common.{◌+◌, ◌*◌, ◌<◌, le_of_lt, mul-le-mul, arith, to_z-of_z}
 use Rattle.grid.proofs.Signed.{lifted_less}
 use Rattle.grid.proofs.worth.gap.Goals as goal
 

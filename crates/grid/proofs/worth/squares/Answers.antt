@@ -1,6 +1,6 @@
 -- `grid::worth::squares` meets its contract. Two squares below 2^32 each.
 -- Assumes nothing.
-use Rattle.std.proofs.Common.{arith, rules}
+use Rattle.std.proofs.Common.{arith}
 use Rattle.rules.proofs.Roots.{square_less}
 use Rattle.grid.proofs.worth.squares.Goals as goal
 

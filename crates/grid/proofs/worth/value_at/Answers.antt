@@ -19,3 +19,7 @@ overflow_mul-by_place-2 c = omega (arith, by_place_most _ _ _ c.requires.0 c.arg
 
 pub overflow_add-result : goal.overflow_add-result
 overflow_add-result c = omega (arith, by_score_most _ _ _ c.requires.0, by_place_most _ _ _ c.requires.0 c.args.distance)
+
+pub returns : goal.returns
+unfolding value_at
+returns c = search rules

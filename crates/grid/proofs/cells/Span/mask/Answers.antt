@@ -1,6 +1,6 @@
 -- `grid::cells::Span::mask` meets its contract. 2 ^ past - 2 ^ first is the word of the columns between; with none, 2 ^ past is the less.
 -- Assumes nothing.
-use Rattle.std.proofs.Common.{sym, ◌∙◌, arith, pow_mono, rules}
+use Rattle.std.proofs.Common.{sym, ◌∙◌, arith, pow_mono}
 use Rattle.base.proofs.Words.{word_between, one_shifted}
 use Rattle.grid.specs.Cells.{in_span}
 use Rattle.grid.proofs.cells.Span.mask.Goals as goal

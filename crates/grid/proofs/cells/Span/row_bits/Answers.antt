@@ -1,6 +1,5 @@
 -- `grid::cells::Span::row_bits` meets its contract. The bits of all rows are shifted down until as many are left as the span has, and up to its first.
 -- Assumes nothing.
-use Rattle.std.proofs.Common.{rules}
 use Rattle.grid.proofs.Rows.{no_row, rows_shifted}
 use Rattle.grid.proofs.cells.Span.row_bits.Goals as goal
 
