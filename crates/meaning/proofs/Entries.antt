@@ -6,7 +6,7 @@ use mathlib.Core.List.{List}
 use Prim.Native.Nat.{ℕ, ◌+◌, ◌-◌, ◌≤◌, ◌<◌, min}
 use native.Mathlib.Omega.{arith}
 use lib.ListN.{length, take, drop, length-take, length-drop}
-use Rattle.base.specs.Lists.{In, up_to, keep, each, largest}
+use Rattle.base.specs.Lists.{In, up_to, keep, each}
 use Rattle.base.proofs.Members.{get_or_in, in-at, in-keep, keep-in, in-each, each_in, in_some, some_in, some_length}
 use Rattle.base.proofs.Runs.{in_from, from_in}
 use Rattle.base.proofs.Sums.{in-largest, largest-in}

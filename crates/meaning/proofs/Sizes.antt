@@ -107,9 +107,9 @@ module _ (t : Table) (g : Grid) (l : LawfulTable t g) where
       let nodes : node_count t ≤ 24 * stands t + 1 = omega (arith, sizes_by_text.nodes, names_short) in
       let entries : entry_count t g ≤ 25 * stands t = omega (arith, sizes_by_text.entries, names_short) in
       record {
-        node_words_lem = nodes_length t g;
-        entry_words_lem = entry_words_length t g;
-        bit_words_lem = bit_words_length t g;
+        node_words = nodes_length t g;
+        entry_words = entry_words_length t g;
+        bit_words = bit_words_length t g;
         nodes = nodes;
         entries = entries;
         records_few = records_few t g;
