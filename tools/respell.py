@@ -41,6 +41,8 @@ def snake(word):
 
 def respelt(name, known):
     """The name as today's Rattle spells it."""
+    if name == "getD-in":
+        return "get_or_in"
     if name[0].isupper() and "-" not in name:
         return name
     parts = name.split("-")
