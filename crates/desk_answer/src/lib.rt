@@ -43,7 +43,7 @@ pub fn answer(
     bits: &mut [u32; BITS_ROOM],
     out: &mut [u8; OUTPUT_MOST],
 ) -> usize
-    ensures { AnswersInput (given input) (given out) (after out) result }
+    ensures { AnswersInput (given input) out.old out.new result }
 {
     let reading = read_input(input, text, starts, east, north, score);
     let Reading::Of {

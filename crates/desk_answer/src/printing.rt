@@ -14,7 +14,7 @@ use table::names::name_of;
 
 // A refusal is one line.
 pub fn put_refusal(out: &mut [u8; OUTPUT_MOST], why: Refusal) -> usize
-    ensures { Puts (printed_refusal (refusal_number why)) (given out) 0 (after out) result }
+    ensures { Puts (printed_refusal (refusal_number why)) out.old 0 out.new result }
 {
     put_number(out, 0, b"refused=", why.number() as u64)
 }
@@ -29,7 +29,7 @@ fn put_hit(
     value: u64,
 ) -> usize
     requires { (at + 96 ≤ 2048) × (length (name text.now starts.now stand.0) ≤ 24) }
-    ensures { PutsHit (given text) (given starts) stand.0 value (given out) at (after out) result }
+    ensures { PutsHit (given text) (given starts) stand.0 value out.old at out.new result }
 {
     let name = name_of(text, starts, stand);
     let at = put_number(out, at, b"object=", stand.0 as u64);
@@ -47,7 +47,7 @@ pub fn put_hits(
     count: usize,
 ) -> usize
     requires { NamesListed text.now starts.now found.now count }
-    ensures { Puts (found_lines (given text) (given starts) (given found) (given values) count) (given out) 0 (after out) result }
+    ensures { Puts (found_lines (given text) (given starts) (given found) (given values) count) out.old 0 out.new result }
 {
     let mut at = put_number(out, 0, b"found=", count as u64);
     let mut i = 0;

@@ -27,7 +27,7 @@ fn index_made(
     bits: &mut [u32; BITS_ROOM],
 ) -> Verdict
     requires { length score.now ≤ 64 }
-    ensures { MakesIndex (table_in text starts east north score) grid result (index_of (after order) (after nodes) (after entries) (after bits)) }
+    ensures { MakesIndex (table_in text starts east north score) grid result (index_of order.new nodes.new entries.new bits.new) }
 {
     let built = build(
         text, starts, east, north, score, grid, order, nodes, entries, bits,

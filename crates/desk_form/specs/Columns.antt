@@ -1,7 +1,7 @@
 -- What an input is to the finder: its stands as the columns of a table, and where the question's text lies.
 use Rattle.std.specs.Prelude.{List, [], ◌∷◌, ◌++◌, ℕ, ◌+◌, ℤ, length, drop}
 use Rattle.base.specs.Lists.{each, each_list}
-use Rattle.base.specs.Lent.{Lent, after}
+use Rattle.base.specs.Lent.{LentMut, after}
 use Rattle.rules.specs.Tables.{Table, table_of}
 use Rattle.lines.specs.Writing.{ascii}
 use Rattle.desk_form.specs.Form.{StandLines, Input, grid_text, stand_text}
@@ -26,7 +26,7 @@ table_from stands =
     }
 
 -- the table that the lent parts hold when the call returns
-abbrev pub table_after : Lent (List ℕ) → Lent (List ℕ) → Lent (List ℤ) → Lent (List ℤ) → Lent (List ℕ) → Table
+abbrev pub table_after : LentMut (List ℕ) → LentMut (List ℕ) → LentMut (List ℤ) → LentMut (List ℤ) → LentMut (List ℕ) → Table
 table_after text starts east north score = table_of (after text) (after starts) (after east) (after north) (after score)
 
 -- a lent part after these were written at its start

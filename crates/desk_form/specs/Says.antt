@@ -1,6 +1,6 @@
 -- What an answer of the code says of what its reader got: the same values, and the place where the bytes behind them begin.
 use Rattle.std.specs.Prelude.{◌≡◌, List, ℕ, ◌+◌, ◌≤◌, ◌<◌, ℤ, length, drop, set}
-use Rattle.base.specs.Lent.{Lent, given, after}
+use Rattle.base.specs.Lent.{LentMut, given_mut, after}
 use Rattle.rules.specs.declared.Ranking.{Ranking}
 use Rattle.lines.specs.Writing.{ascii}
 use Rattle.desk_form.specs.Form.{StandLines}
@@ -80,8 +80,8 @@ pub record NumbersRoom (i : ℕ) (starts : List ℕ) (east north : List ℤ) (sc
   pub score_fits : i < length score
 
 -- and were put there
-pub record NumbersLaid (i end : ℕ) (x y : ℤ) (value : ℕ) (starts : Lent (List ℕ)) (east north : Lent (List ℤ)) (score : Lent (List ℕ)) : Type 0 where
-  pub end_is : after starts ≡ set (given starts) (i + 1) end
-  pub x_is : after east ≡ set (given east) i x
-  pub y_is : after north ≡ set (given north) i y
-  pub value_is : after score ≡ set (given score) i value
+pub record NumbersLaid (i end : ℕ) (x y : ℤ) (value : ℕ) (starts : LentMut (List ℕ)) (east north : LentMut (List ℤ)) (score : LentMut (List ℕ)) : Type 0 where
+  pub end_is : after starts ≡ set (given_mut starts) (i + 1) end
+  pub x_is : after east ≡ set (given_mut east) i x
+  pub y_is : after north ≡ set (given_mut north) i y
+  pub value_is : after score ≡ set (given_mut score) i value

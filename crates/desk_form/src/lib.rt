@@ -54,7 +54,7 @@ pub fn read_input(
     north: &mut [i32; Reading::STANDS_ROOM],
     score: &mut [u32; Reading::STANDS_ROOM],
 ) -> Reading
-    ensures { ReadsInput (given input) (table_in text starts east north score) result (table_after text starts east north score) }
+    ensures { ReadsInput (given input) (table_of text.old starts.old east.old north.old score.old) result (table_after text starts east north score) }
 {
     if Reading::BYTES_MOST < input.len() {
         return Reading::Refused(Refusal::InputMalformed);

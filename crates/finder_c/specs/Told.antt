@@ -2,7 +2,7 @@
 -- A question's promise speaks of numbers alone, and is the same for C. Of the other calls the record holds the numbers of an answer that keeps
 -- the promise of the call under it; no two answers have the same numbers (`rules/proofs/Numbers`), so nothing is lost on the way.
 use Rattle.std.specs.Prelude.{◌≡◌, List, [], ◌∷◌, ℕ, length}
-use Rattle.base.specs.Lent.{Lent, after}
+use Rattle.base.specs.Lent.{LentMut, after}
 use Rattle.rules.specs.declared.Place.{Place}
 use Rattle.rules.specs.declared.Ranking.{Ranking}
 use Rattle.rules.specs.Names.{rest_of, rest_at}
@@ -31,10 +31,10 @@ abbrev pub any_told : AnyFound → AnyTold
 any_told r = record { refusal = r.refusal; yes = r.yes; stand = r.stand }
 
 -- what came of a question with one room, and with two
-abbrev pub found_in : Found → Lent (List ℕ) → Outcome
+abbrev pub found_in : Found → LentMut (List ℕ) → Outcome
 found_in r found = outcome (found_told r) (after found ∷ [])
 
-abbrev pub founds_in : Found → Lent (List ℕ) → Lent (List ℕ) → Outcome
+abbrev pub founds_in : Found → LentMut (List ℕ) → LentMut (List ℕ) → Outcome
 founds_in r found values = outcome (found_told r) (after found ∷ after values ∷ [])
 
 abbrev pub ranking_of : Place → ℕ → ℕ → Ranking

@@ -1,7 +1,7 @@
 -- What building promises, of its answer and of the four buffers, on every input. What checking promises is one equation of the rules:
 -- `checked_numbers r ≡ check_told t g x`.
 use Rattle.std.specs.Prelude.{◌≡◌, List, ℕ}
-use Rattle.base.specs.Lent.{Lent, after}
+use Rattle.base.specs.Lent.{given, LentMut, after}
 use Rattle.rules.specs.declared.Grid.{Grid}
 use Rattle.rules.specs.declared.Built.{Built}
 use Rattle.rules.specs.Numbers.{built_numbers}
@@ -9,7 +9,7 @@ use Rattle.rules.specs.Tables.{Table}
 use Rattle.rules.specs.Indexes.{Index, index_of, build_told, index_after}
 
 -- the buffers that a call leaves
-abbrev pub index_left : Lent (List ℕ) → Lent (List ℕ) → Lent (List ℕ) → Lent (List ℕ) → Index
+abbrev pub index_left : LentMut (List ℕ) → LentMut (List ℕ) → LentMut (List ℕ) → LentMut (List ℕ) → Index
 index_left order nodes entries bits = index_of (after order) (after nodes) (after entries) (after bits)
 
 -- given the table t, the grid g and the buffers x, it answers r and leaves the buffers y

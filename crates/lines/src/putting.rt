@@ -5,7 +5,7 @@ ghost use Rattle.lines.specs.Puts.{RoomAt, Puts};
 
 pub fn put(out: &mut [u8], at: usize, bytes: &[u8]) -> usize
     requires { RoomAt out.old at bytes.now }
-    ensures { Puts (given bytes) (given out) at (after out) result }
+    ensures { Puts (given bytes) out.old at out.new result }
 {
     let mut i = 0;
     while i < bytes.len() {
@@ -18,7 +18,7 @@ pub fn put(out: &mut [u8], at: usize, bytes: &[u8]) -> usize
 // A line whose value may be any bytes.
 pub fn put_line(out: &mut [u8], at: usize, key: &[u8], value: &[u8]) -> usize
     requires { RoomAt out.old at (line key.now value.now) }
-    ensures { Puts (line (given key) (given value)) (given out) at (after out) result }
+    ensures { Puts (line (given key) (given value)) out.old at out.new result }
 {
     let at = put(out, at, key);
     let at = put(out, at, value);
@@ -28,7 +28,7 @@ pub fn put_line(out: &mut [u8], at: usize, key: &[u8], value: &[u8]) -> usize
 // A line whose value is a number in decimal.
 pub fn put_number(out: &mut [u8], at: usize, key: &[u8], n: u64) -> usize
     requires { RoomAt out.old at (line key.now (decimal_of n)) }
-    ensures { Puts (line (given key) (decimal_of n)) (given out) at (after out) result }
+    ensures { Puts (line (given key) (decimal_of n)) out.old at out.new result }
 {
     let mut digits = [0u8; 20];
     let count = io::decimal(n, &mut digits);

@@ -40,7 +40,7 @@ pub(crate) fn copy(words: &[u32], count: usize, room: &mut [u32])
 
 // A stand put at a place of the room; past its end nothing is put.
 fn put(found: &mut [u32], at: u32, stand: Stand)
-    ensures { after found ≡ set (given found) at stand.0 }
+    ensures { found.new ≡ set found.old at stand.0 }
 {
     let i = at as usize;
     if i < found.len() {
@@ -60,7 +60,7 @@ fn gather_run(
     before: u32,
 ) -> Tally
     requires { RunFits east.now north.now order.now past.0 before }
-    ensures { tallied result (after found) ≡ gathered (given east) (given north) rect (given found) before (slice first.0 past.0 (given order)) }
+    ensures { tallied result found.new ≡ gathered (given east) (given north) rect found.old before (slice first.0 past.0 (given order)) }
 {
     let end = past.0 as usize;
     let mut i = first.0 as usize;
@@ -92,7 +92,7 @@ pub(crate) fn gather(
     found: &mut [u32],
 ) -> Tally
     requires { Ready east.now north.now (noted_in east.now order.now entries.now first numbers.now) }
-    ensures { tallied result (after found) ≡ gathered (given east) (given north) rect (given found) 0 (touched_stands (noted_in (given east) (given order) (given entries) first (given numbers)) (regions_in regions)) }
+    ensures { tallied result found.new ≡ gathered (given east) (given north) rect found.old 0 (touched_stands (noted_in (given east) (given order) (given entries) first (given numbers)) (regions_in regions)) }
 {
     let mut n = 0;
     let mut left = regions;

@@ -2,7 +2,7 @@
 -- Questions has the list that is meant; here it may be any.
 use Rattle.std.specs.Prelude.{Bool, cond, List, [], ◌∷◌, ℕ, zero, suc, leb, length, take}
 use Rattle.base.specs.Lists.{all, each, written}
-use Rattle.base.specs.Lent.{Lent, given, after}
+use Rattle.base.specs.Lent.{LentMut, given_mut, after}
 use Rattle.rules.specs.declared.Hit.{Hit}
 use Rattle.rules.specs.declared.RangeAnswer.{RangeAnswer}
 use Rattle.rules.specs.declared.RankedAnswer.{RankedAnswer}
@@ -24,16 +24,16 @@ abbrev pub ranked_came : RankedAnswer → List ℕ → List ℕ → Outcome
 ranked_came a found values = outcome (ranked_numbers a) (found ∷ values ∷ [])
 
 -- the rooms that a call is lent, and what came of the call
-abbrev pub room_in : Lent (List ℕ) → List (List ℕ)
-room_in found = given found ∷ []
+abbrev pub room_in : LentMut (List ℕ) → List (List ℕ)
+room_in found = given_mut found ∷ []
 
-abbrev pub rooms_in : Lent (List ℕ) → Lent (List ℕ) → List (List ℕ)
-rooms_in found values = given found ∷ given values ∷ []
+abbrev pub rooms_in : LentMut (List ℕ) → LentMut (List ℕ) → List (List ℕ)
+rooms_in found values = given_mut found ∷ given_mut values ∷ []
 
-abbrev pub range_came_in : RangeAnswer → Lent (List ℕ) → Outcome
+abbrev pub range_came_in : RangeAnswer → LentMut (List ℕ) → Outcome
 range_came_in a found = range_came a (after found)
 
-abbrev pub ranked_came_in : RankedAnswer → Lent (List ℕ) → Lent (List ℕ) → Outcome
+abbrev pub ranked_came_in : RankedAnswer → LentMut (List ℕ) → LentMut (List ℕ) → Outcome
 ranked_came_in a found values = ranked_came a (after found) (after values)
 
 -- a refusal leaves every room as it was

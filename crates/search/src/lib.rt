@@ -30,7 +30,7 @@ pub enum Kept {
 // The stands and values of the len keys held, best first; the rest of the rooms stays.
 fn write_held(held: &Held, len: usize, found: &mut [u32], values: &mut [u64])
     requires { Writable held.now len found.old values.old }
-    ensures { Written (take len (given held)) (given found) (given values) (after found) (after values) }
+    ensures { Written (take len (given held)) found.old values.old found.new values.new }
 {
     let mut i = 0;
     while i < len {
