@@ -4,7 +4,7 @@
 mod printing;
 mod reply;
 
-ghost use Rattle.base.specs.Lent.{given, after};
+ghost use Rattle.base.specs.Lent.{given};
 ghost use Rattle.desk_answer.specs.Promises.{AnswersInput};
 
 use desk_form::{Reading, read_input};

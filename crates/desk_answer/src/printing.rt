@@ -1,6 +1,6 @@
 // What is printed, put as lines into the room for it. Each call answers where the next line goes.
 ghost use Rattle.std.specs.Prelude.{◌+◌, ◌≤◌, length};
-ghost use Rattle.base.specs.Lent.{given, after};
+ghost use Rattle.base.specs.Lent.{given};
 ghost use Rattle.rules.specs.Numbers.{refusal_number};
 ghost use Rattle.rules.specs.Names.{name};
 ghost use Rattle.lines.specs.Puts.{Puts};

@@ -1,6 +1,6 @@
 // The finder's calls in a row, on a table and a question: build, check, ask. What they answer goes into the bytes to be printed.
 ghost use Rattle.std.specs.Prelude.{◌≡◌, true, ◌≤◌, length};
-ghost use Rattle.base.specs.Lent.{given, after};
+ghost use Rattle.base.specs.Lent.{given};
 ghost use Rattle.rules.specs.Names.{folded_text};
 ghost use Rattle.rules.specs.Tables.{table_of, table_in};
 ghost use Rattle.rules.specs.Indexes.{index_of, set_lawful};
@@ -61,7 +61,7 @@ fn ask(
     asked: Ranking,
 ) -> usize
     requires { set_lawful (table_of text.now starts.now east.now north.now score.now) grid (index_of order.now nodes.now entries.now bits.now) ≡ true }
-    ensures { Puts (reply_to (table_in text starts east north score) grid (folded_text (given typed)) asked) (given out) 0 (after out) result }
+    ensures { Puts (reply_to (table_in text starts east north score) grid (folded_text (given typed)) asked) out.old 0 out.new result }
 {
     let mut found = [0u32; HITS_MOST];
     let mut values = [0u64; HITS_MOST];
@@ -103,7 +103,7 @@ pub fn reply(
     asked: Ranking,
 ) -> usize
     requires { length score.now ≤ 64 }
-    ensures { Puts (reply_to (table_in text starts east north score) grid (folded_text (given typed)) asked) (given out) 0 (after out) result }
+    ensures { Puts (reply_to (table_in text starts east north score) grid (folded_text (given typed)) asked) out.old 0 out.new result }
 {
     let made = index_made(
         text, starts, east, north, score, grid, order, nodes, entries, bits,

@@ -47,7 +47,7 @@ pub fn read_stands(
     score: &mut [u32],
 ) -> Stands
     requires { RoomFor input.now at stands (table_of text.old starts.old east.old north.old score.old) }
-    ensures { SaysStands (given input) at stands (table_of (given text) starts.old east.old north.old score.old) (table_after text starts east north score) result }
+    ensures { SaysStands (given input) at stands (table_of text.old starts.old east.old north.old score.old) (table_after text starts east north score) result }
 {
     starts[0] = 0;
     let mut bytes = 0;

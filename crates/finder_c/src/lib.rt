@@ -4,7 +4,7 @@
 #![tactic(auto)]
 
 ghost use Rattle.std.specs.Prelude.{◌≡◌};
-ghost use Rattle.base.specs.Lent.{given, after};
+ghost use Rattle.base.specs.Lent.{given};
 ghost use Rattle.rules.specs.Numbers.{located_numbers, built_numbers, checked_numbers, range_numbers, any_numbers, ranked_numbers, verdict_number};
 ghost use Rattle.rules.specs.Places.{region_told};
 ghost use Rattle.rules.specs.Tables.{table_in};
@@ -423,7 +423,7 @@ pub extern "C" fn krz_type(
     session: &mut Session,
     byte: u8,
 ) -> u32
-    ensures { Tells verdict_number (λ v. TypePromise (given nodes) byte (given session) (after session) v) result }
+    ensures { Tells verdict_number (λ v. TypePromise (given nodes) byte session.old session.new v) result }
 {
     let out = with_letter(nodes, *session, byte);
     *session = out.session;
@@ -445,7 +445,7 @@ pub extern "C" fn krz_rub_out(
     bits: &[u32],
     session: &mut Session,
 ) -> u32
-    ensures { Tells verdict_number (λ v. RubPromise (given session) (after session) v) result }
+    ensures { Tells verdict_number (λ v. RubPromise session.old session.new v) result }
 {
     let out = rubbed_out(*session);
     *session = out.session;

@@ -1,5 +1,5 @@
 // Writing: bytes, lines and numbers, put one behind the other into a room. Each call answers where the next bytes go.
-ghost use Rattle.base.specs.Lent.{given, after};
+ghost use Rattle.base.specs.Lent.{given};
 ghost use Rattle.lines.specs.Writing.{decimal_of, line};
 ghost use Rattle.lines.specs.Puts.{RoomAt, Puts};
 

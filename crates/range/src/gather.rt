@@ -2,7 +2,7 @@
 // So a small room of one's own serves to count, and to keep what was found until it is known to fit the caller's.
 ghost use Rattle.std.specs.Prelude.{◌≡◌, ◌≤◌, length, set, take};
 ghost use Rattle.std.proofs.Math.Seq.{slice};
-ghost use Rattle.base.specs.Lent.{given, after};
+ghost use Rattle.base.specs.Lent.{given};
 ghost use Rattle.base.specs.Lists.{written};
 ghost use Rattle.grid.specs.Cells.{regions_in};
 ghost use Rattle.runs.specs.Sights.{noted_in, touched_stands, Ready};
@@ -29,7 +29,7 @@ pub(crate) const NEAR: usize = 32;
 // The first so many words put at the start of a room.
 pub(crate) fn copy(words: &[u32], count: usize, room: &mut [u32])
     requires { (count ≤ length words.now) × (count ≤ length room.old) }
-    ensures { after room ≡ written (take count (given words)) (given room) }
+    ensures { room.new ≡ written (take count (given words)) room.old }
 {
     let mut i = 0;
     while i < count {

@@ -4,7 +4,7 @@
 #![tactic(auto)]
 
 ghost use Rattle.std.specs.Prelude.{◌≡◌};
-ghost use Rattle.base.specs.Lent.{given, after};
+ghost use Rattle.base.specs.Lent.{given};
 ghost use Rattle.runs.specs.Notes.{blank};
 ghost use Rattle.runs.specs.Sights.{agree, look_by, listed_look, look_at};
 
@@ -47,7 +47,7 @@ fn touched_of(
     numbers: &mut EntryNumbers,
 ) -> Touched
     requires { numbers.old ≡ blank }
-    ensures { look_by result (after numbers) ≡ listed_look grid (given entries) regions first rect }
+    ensures { look_by result numbers.new ≡ listed_look grid (given entries) regions first rect }
 {
     if !grid::lawful(grid) {
         return Touched::Refused(Refusal::NotLawful);
@@ -71,7 +71,7 @@ pub fn touched_regions(
     numbers: &mut EntryNumbers,
 ) -> Touched
     requires { numbers.old ≡ blank }
-    ensures { look_by result (after numbers) ≡ look_at grid (given entries) at rect }
+    ensures { look_by result numbers.new ≡ look_at grid (given entries) at rect }
 {
     if !grid::rect_lawful(rect) {
         return Touched::Refused(Refusal::RectReversed);

@@ -1,7 +1,7 @@
 // Which entry of a listing is of each region. The entries stand by their scores, and a rectangle is gone through by regions.
 // The words may be anything.
 ghost use Rattle.std.specs.Prelude.{◌≡◌, ◌+◌, ◌≤◌, ◌<◌, get_or};
-ghost use Rattle.base.specs.Lent.{given, after};
+ghost use Rattle.base.specs.Lent.{given};
 ghost use Rattle.walk.specs.Entries.{entry_read};
 ghost use Rattle.runs.specs.Notes.{notes_of, notes_in};
 
@@ -15,7 +15,7 @@ pub type EntryNumbers = [u8; Grid::REGIONS];
 // The numbers of count entries, each noted at its region. False, if one is missing or has no region.
 pub(crate) fn note(entries: &[u32], first: u32, count: u32, numbers: &mut EntryNumbers) -> bool
     requires { count ≤ 64 }
-    ensures { notes_of (after numbers) result ≡ notes_in (given entries) first count (given numbers) }
+    ensures { notes_of numbers.new result ≡ notes_in (given entries) first count numbers.old }
 {
     let from = first as usize;
     let most = count as usize;

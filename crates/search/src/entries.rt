@@ -1,7 +1,7 @@
 // The listed entries in their order, each passed over or taken.
 // An entry is passed over if k are held and even a stand with its bound and its first number would come after the last of them.
 ghost use Rattle.std.specs.Prelude.{◌≡◌, true, [], length, take};
-ghost use Rattle.base.specs.Lent.{given, after};
+ghost use Rattle.base.specs.Lent.{given};
 ghost use Rattle.walk.specs.Entries.{entry_within};
 ghost use Rattle.best.specs.Keys.{key_of};
 ghost use Rattle.search.specs.Searches.{stand_columns_in, Ready, Searching, usable, MayTake, bound_hit, passed_over, entry_taken, entries_taken, Keeps};
@@ -67,7 +67,7 @@ fn take_entry(
     len: usize,
 ) -> Kept
     requires { Searching grid diagonal asked held.old len × MayTake order.now entry }
-    ensures { Keeps (entry_taken (stand_columns_in east north score) grid asked (given order) entry (take len (given held))) asked.k (after held) result }
+    ensures { Keeps (entry_taken (stand_columns_in east north score) grid asked (given order) entry (take len held.old)) asked.k held.new result }
 {
     if passed_over(grid, diagonal, order, entry, asked, held, len) {
         return Kept::Held(len);
@@ -102,7 +102,7 @@ pub(crate) fn take_entries(
     held: &mut Held,
 ) -> Kept
     requires { Ready grid diagonal asked held.old }
-    ensures { Keeps (entries_taken (stand_columns_in east north score) grid asked (given order) (given entries) count from []) asked.k (after held) result }
+    ensures { Keeps (entries_taken (stand_columns_in east north score) grid asked (given order) (given entries) count from []) asked.k held.new result }
 {
     let mut len = 0;
     let mut left = count;

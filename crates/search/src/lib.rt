@@ -5,7 +5,7 @@
 #![tactic(auto)]
 
 ghost use Rattle.std.specs.Prelude.{take};
-ghost use Rattle.base.specs.Lent.{given, after};
+ghost use Rattle.base.specs.Lent.{given};
 ghost use Rattle.rules.specs.Outcomes.{rooms_in, ranked_came_in};
 ghost use Rattle.search.specs.Searches.{stand_columns_in, Searchable, Writable, Written, BestTaken, BestListed};
 

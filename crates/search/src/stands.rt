@@ -1,7 +1,7 @@
 // Stands offered to the k best, one by one or all that stand at some places of the order.
 ghost use Rattle.std.specs.Prelude.{◌≡◌, take};
 ghost use Rattle.std.proofs.Math.Seq.{slice};
-ghost use Rattle.base.specs.Lent.{given, after};
+ghost use Rattle.base.specs.Lent.{given};
 ghost use Rattle.search.specs.Searches.{stand_columns_in, Searching, RunHeld, readable_stand, stand_offered, stands_offered, Keeps};
 
 use super::Kept;
@@ -51,7 +51,7 @@ fn offer_stand(
     len: usize,
 ) -> Kept
     requires { Searching grid diagonal asked held.old len }
-    ensures { Keeps (stand_offered (stand_columns_in east north score) grid asked stand.0 (take len (given held))) asked.k (after held) result }
+    ensures { Keeps (stand_offered (stand_columns_in east north score) grid asked stand.0 (take len held.old)) asked.k held.new result }
 {
     let s = stand.0 as usize;
     if !readable_stand(east, north, score, grid, s) {
@@ -85,7 +85,7 @@ pub(crate) fn offer_places(
     len: usize,
 ) -> Kept
     requires { Searching grid diagonal asked held.old len × RunHeld order.now first.0 past.0 }
-    ensures { Keeps (stands_offered (stand_columns_in east north score) grid asked (slice first.0 past.0 (given order)) (take len (given held))) asked.k (after held) result }
+    ensures { Keeps (stands_offered (stand_columns_in east north score) grid asked (slice first.0 past.0 (given order)) (take len held.old)) asked.k held.new result }
 {
     let mut n = len;
     let mut i = first.0 as usize;

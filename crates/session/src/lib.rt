@@ -3,7 +3,7 @@
 #![tactic(auto)]
 
 ghost use Rattle.std.specs.Prelude.{◌≡◌};
-ghost use Rattle.base.specs.Lent.{given, after};
+ghost use Rattle.base.specs.Lent.{given};
 ghost use Rattle.rules.specs.Names.{folded};
 ghost use Rattle.session.specs.Promises.{TypePromise, RubPromise};
 ghost use Rattle.session.specs.Strokes.{refused_stroke, lost, next_on, led_on, typed_on, rubbed_out, reached};
@@ -143,7 +143,7 @@ pub fn reached(session: Session) -> Child
 
 // A letter typed into the session that is lent. The record is rewritten whole, so that the step by value has all the branches.
 pub fn type_byte(nodes: &[u32], session: &mut Session, byte: u8) -> Verdict
-    ensures { TypePromise (given nodes) byte (given session) (after session) result }
+    ensures { TypePromise (given nodes) byte session.old session.new result }
 {
     let out = with_letter(nodes, *session, byte);
     *session = out.session;
@@ -152,7 +152,7 @@ pub fn type_byte(nodes: &[u32], session: &mut Session, byte: u8) -> Verdict
 
 // The last letter of the session that is lent, rubbed out.
 pub fn rub_out(session: &mut Session) -> Verdict
-    ensures { RubPromise (given session) (after session) result }
+    ensures { RubPromise session.old session.new result }
 {
     let out = rubbed_out(*session);
     *session = out.session;
