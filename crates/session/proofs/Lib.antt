@@ -5,4 +5,3 @@ pub mod Texts
 pub mod Lawful
 pub mod Promises
 pub mod Sessions
-pub mod Thin

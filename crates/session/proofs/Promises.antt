@@ -1,12 +1,12 @@
 -- Keystrokes keep their promises: the steps by value, on any words and any session whose text has all its places.
 -- Assumes nothing.
-use mathlib.Core.Path.{◌≡◌, refl, sym, ap, ◌∙◌}
+use mathlib.Core.Path.{◌≡◌, refl, sym, subst, ap, ◌∙◌}
 use mathlib.Core.Logic.{◌⊎◌, inl, inr, ⊎_elim}
 use mathlib.Core.Bool.{true, false}
 use mathlib.Core.List.{List, [], ◌∷◌, ◌++◌}
-use Prim.Native.Nat.{ℕ, ◌≤◌, ◌<◌}
+use Prim.Native.Nat.{ℕ, ◌-◌, ◌≤◌, ◌<◌}
 use native.Mathlib.Omega.{arith}
-use lib.ListN.{length, get_or}
+use lib.ListN.{length, get_or, length-set}
 use borrow.Table.Steps.{cases}
 use Rattle.base.proofs.Tests.{le_or_lt}
 use Rattle.rules.specs.declared.Session.{Session}
@@ -18,7 +18,10 @@ use Rattle.rules.proofs.Bytes.{text_parts}
 use Rattle.walk.specs.declared.Child.{Child}
 use Rattle.walk.specs.declared.Child.TheVariants.{At, Nowhere, Broken}
 use Rattle.session.specs.declared.Stroke.{Stroke}
-use Rattle.session.specs.Strokes.{passed, next_on, shortened, arrived, typed_on, rubbed_out}
+use Rattle.session.specs.declared.Led.{Led}
+use Rattle.session.specs.declared.Led.TheVariants.{To}
+use Rattle.session.specs.declared.Led.TheVariants as leds
+use Rattle.session.specs.Strokes.{passed, next_on, lengthened, shortened, led_on, struck, arrived, typed_on, rubbed_out}
 use Rattle.session.specs.Promises.{TableOf, TypePromise, RubPromise}
 use Rattle.session.proofs.Steps.{typed_over, typed_full, typed_unallowed, typed_arrived, rubbed_over, rubbed_none, rubbed_last}
 use Rattle.session.proofs.Letters.{type_full, type_unallowed, type_taken, rub_none, rub_some, letters_count, letters_longer, letters_shorter}
@@ -139,3 +142,28 @@ rub_keeps s sized =
       harmless = rub_harmless s sized (rubbing s);
       kept = rub_kept s (rubbing s);
     }
+
+-- ---- a stroke that was written into the session lent
+
+-- a stroke keeps the places of the text, so what is known of those after it was so before it
+struck_long : (s : Session) (b : ℕ) (l : Led) → length (struck s b l).session.text ≡ length s.text
+unfolding lengthened
+struck_long s b (To n) = length-set s.text s.len b
+struck_long s b (leds.Refused why) = refl
+
+rubbed_long : (s : Session) → Rubbing s → length (rubbed_out s).session.text ≡ length s.text
+unfolding shortened
+rubbed_long s (over h) = rw (rubbed_over s h) refl
+rubbed_long s (none h) = rw (rubbed_none s h) refl
+rubbed_long s (some h k) = rw (last_out s h k) (length-set s.text (s.len - 1) 0)
+
+pub type_written : (nodes : List ℕ) (s : Session) (b : ℕ) (r : Stroke) → r ≡ typed_on nodes s (folded b) → length r.session.text ≡ 24 → TypePromise nodes b s r.session r.verdict
+unfolding typed_on
+type_written nodes s b r e sized =
+    let long = sym (struck_long s (folded b) (led_on nodes s.len (get_or s.path s.len 0) (folded b))) ∙ ap (λ (u : Stroke). length u.session.text) (sym e) ∙ sized in
+    subst (λ (u : Stroke). TypePromise nodes b s u.session u.verdict) (sym e) (type_keeps nodes s b long)
+
+pub rub_written : (s : Session) (r : Stroke) → r ≡ rubbed_out s → length r.session.text ≡ 24 → RubPromise s r.session r.verdict
+rub_written s r e sized =
+    subst (λ (u : Stroke). RubPromise s u.session u.verdict) (sym e)
+    (rub_keeps s (sym (rubbed_long s (rubbing s)) ∙ ap (λ (u : Stroke). length u.session.text) (sym e) ∙ sized))

@@ -10,7 +10,7 @@ use Rattle.base.proofs.Begins.{in_or_out}
 use Rattle.rules.specs.declared.Session.{Session}
 use Rattle.rules.specs.declared.Verdict.{Verdict}
 use Rattle.rules.specs.Numbers.{verdict_number}
-use Rattle.rules.specs.Names.{allowed, folded}
+use Rattle.rules.specs.Names.{folded}
 use Rattle.rules.specs.Tables.{Table}
 use Rattle.rules.specs.Indexes.{beginnings, but_last}
 use Rattle.rules.specs.Sessions.{node_or0, fresh_session, letters_of, LawfulSession, letters_typed}
