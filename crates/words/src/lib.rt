@@ -9,7 +9,7 @@ pub mod turn;
 ghost use Rattle.std.specs.Prelude.{◌≡◌, length};
 ghost use Rattle.node.specs.Columns.{columns_now, columns_in, Grows};
 ghost use Rattle.node.specs.Visits.{visits_from};
-ghost use Rattle.words.specs.Words.{rooms_now, rooms_given, rooms_after, CountAsks, Counted, WriteAsks, WroteAll, CheckAsks, ComparesAll};
+ghost use Rattle.words.specs.Words.{rooms_of, CountAsks, Counted, WriteAsks, WroteAll, CheckAsks, ComparesAll};
 
 use node::cursor::{root, step};
 use node::records::kept;
@@ -67,8 +67,8 @@ pub fn write(
     entries: &mut [u32],
     bits: &mut [u32],
 )
-    requires { WriteAsks (columns_now text starts lengths shared region score) all (rooms_now nodes entries bits) }
-    ensures { WroteAll (columns_in text starts lengths shared region score) (rooms_given nodes entries bits) (rooms_after nodes entries bits) }
+    requires { WriteAsks (columns_now text starts lengths shared region score) all (rooms_of nodes.old entries.old bits.old) }
+    ensures { WroteAll (columns_in text starts lengths shared region score) (rooms_of nodes.old entries.old bits.old) (rooms_of nodes.new entries.new bits.new) }
 {
     let mut next = places_of(region);
     let mut path = [0u32; Session::PATH];
@@ -115,7 +115,7 @@ pub fn check(
     bits: &[u32],
 ) -> Compared
     requires { CheckAsks (columns_now text starts lengths shared region score) all }
-    ensures { ComparesAll (columns_in text starts lengths shared region score) (rooms_given nodes entries bits) result }
+    ensures { ComparesAll (columns_in text starts lengths shared region score) (rooms_of nodes.now entries.now bits.now) result }
 {
     let mut next = places_of(region);
     let mut path = [0u32; Session::PATH];
