@@ -1,7 +1,5 @@
 -- The walk through the nodes in pre-order, from the columns alone: which nodes, what lies above each, and where regions' stands begin.
-use Rattle.std.specs.Borrow.{Bor}
 use Rattle.std.specs.Prelude.{◌≡◌, cond, List, [], ◌∷◌, ◌++◌, ℕ, suc, ◌+◌, ◌-◌, ◌/◌, ◌%◌, ◌≤◌, ◌<◌, eqb, ltb, length, set}
-use Rattle.base.specs.Lent.{Lent, given, after}
 use Rattle.base.specs.Lists.{from_on, up_to, keep, each, each_list}
 use Rattle.rules.specs.Places.{regions}
 use Rattle.node.specs.Columns.{at, grown_of, stands_in}
@@ -72,16 +70,6 @@ pub record Above : Type 0 where
 
 abbrev pub above_of : List ℕ → List ℕ → List ℕ → Above
 above_of numbers records regions = record { numbers = numbers; records = records; regions = regions }
-
--- what a call is lent of it: as its `requires` and its `ensures` see it, and as it leaves it
-abbrev pub above_now : (numbers records regions : Bor (List ℕ)) → Above
-above_now numbers records regions = above_of numbers.now records.now regions.now
-
-abbrev pub above_given : (numbers records regions : Lent (List ℕ)) → Above
-above_given numbers records regions = above_of (given numbers) (given records) (given regions)
-
-abbrev pub above_after : (numbers records regions : Lent (List ℕ)) → Above
-above_after numbers records regions = above_of (after numbers) (after records) (after regions)
 
 -- a place for each length
 pub record Long (a : Above) : Type 0 where

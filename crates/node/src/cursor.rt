@@ -1,8 +1,7 @@
 // The walk through the nodes in pre-order. A cursor is five numbers by value; what grows with it, the path of the nodes above it and
 // each region's next place in the stand order, is lent beside it, so that counting carries no more of it than it needs.
 ghost use Rattle.std.specs.Prelude.{◌≡◌};
-ghost use Rattle.base.specs.Lent.{given, after};
-ghost use Rattle.node.specs.Visits.{root_cursor, places_at, above_now, above_given, above_after, Stepped, Advanced};
+ghost use Rattle.node.specs.Visits.{root_cursor, places_at, above_of, Stepped, Advanced};
 ghost use Rattle.node.specs.Asks.{StepAsks, PassAsks, AdvanceAsks};
 
 use crate::records::Served;
@@ -35,7 +34,7 @@ pub fn root() -> Cursor
 // The next node after the cursor's, which has so many entries and keeps so many records.
 pub fn step(lengths: &[u8], shared: &[u8], cursor: Cursor, held: u32, kept: u32) -> Cursor
     requires { StepAsks lengths.now shared.now cursor held kept }
-    ensures { Stepped (given lengths) (given shared) cursor held kept result }
+    ensures { Stepped lengths.now shared.now cursor held kept result }
 {
     let number = Node(cursor.number.0 + 1);
     let entries = cursor.entries + held;
@@ -58,7 +57,7 @@ pub fn step(lengths: &[u8], shared: &[u8], cursor: Cursor, held: u32, kept: u32)
 // The next places moved on over the stands that were passed.
 fn pass(region: &[u8], next: &mut Slots, from: Stand, to: Stand)
     requires { PassAsks region.now next.old from.0 to.0 }
-    ensures { after next ≡ places_at (given region) to.0 }
+    ensures { next.new ≡ places_at region.now to.0 }
 {
     let first = from.0;
     let end = to.0;
@@ -83,8 +82,8 @@ pub fn advance(
     records: &mut Path,
     regions: &mut RegionPath,
 ) -> Cursor
-    requires { AdvanceAsks lengths.now shared.now region.now cursor gathered served next.old (above_now path records regions) }
-    ensures { Advanced (given lengths) (given shared) (given region) cursor gathered served (after next) (above_given path records regions) (above_after path records regions) result }
+    requires { AdvanceAsks lengths.now shared.now region.now cursor gathered served next.old (above_of path.old records.old regions.old) }
+    ensures { Advanced lengths.now shared.now region.now cursor gathered served next.new (above_of path.old records.old regions.old) (above_of path.new records.new regions.new) result }
 {
     let place = wide(cursor.length);
     path[place] = cursor.number.0;

@@ -8,7 +8,6 @@ pub mod records;
 pub mod tally;
 
 ghost use Rattle.std.specs.Prelude.{◌≡◌, ◌≤◌};
-ghost use Rattle.base.specs.Lent.{given, after};
 ghost use Rattle.node.specs.Rows.{last_of, past_number, Gathers, Rowed};
 ghost use Rattle.node.specs.Visits.{above_in};
 ghost use Rattle.node.specs.Asks.{GatherAsks, LastAsks, PastAsks, RowAsks};
@@ -49,7 +48,7 @@ pub fn gather(
     ranked: &mut Slots,
 ) -> Gathered
     requires { GatherAsks shared.now region.now score.now cursor.stand.0 next.now places.old best.old ranked.old }
-    ensures { Gathers (given shared) (given region) (given score) (given next) cursor.stand.0 cursor.length (after places) (after best) (after ranked) result }
+    ensures { Gathers shared.now region.now score.now next.now cursor.stand.0 cursor.length places.new best.new ranked.new result }
 {
     let stand = cursor.stand;
     let past = end_of(shared, stand, cursor.length);
@@ -61,7 +60,7 @@ pub fn gather(
 // The last byte of a node, 0 for the root.
 fn last_byte(text: &[u8], starts: &[u32], stand: Stand, length: u8) -> u32
     requires { LastAsks text.now starts.now stand.0 length }
-    ensures { result ≡ last_of (given text) (given starts) stand.0 length }
+    ensures { result ≡ last_of text.now starts.now stand.0 length }
 {
     if length == 0 {
         return 0;
@@ -73,7 +72,7 @@ fn last_byte(text: &[u8], starts: &[u32], stand: Stand, length: u8) -> u32
 // What the path has of a node's parent, 0 for the root.
 fn above(path: &Path, length: u8) -> u32
     requires { length ≤ 24 }
-    ensures { result ≡ above_in (given path) length }
+    ensures { result ≡ above_in path.now length }
 {
     if length == 0 {
         return 0;
@@ -91,7 +90,7 @@ fn past_number(
     number: Node,
 ) -> Node
     requires { PastAsks lengths.now shared.now stand.0 length past.0 number.0 }
-    ensures { result.0 ≡ past_number (given lengths) (given shared) stand.0 length past.0 number.0 }
+    ensures { result.0 ≡ past_number lengths.now shared.now stand.0 length past.0 number.0 }
 {
     let own = word(value_at(lengths, stand) - length);
     let behind = Stand(stand.0 + 1);
@@ -111,7 +110,7 @@ pub fn row(
     served: Served,
 ) -> [u32; NODE_WORDS]
     requires { RowAsks text.now starts.now lengths.now shared.now path.now cursor past.0 served }
-    ensures { Rowed (given text) (given starts) (given lengths) (given shared) (given path) cursor past.0 served result }
+    ensures { Rowed text.now starts.now lengths.now shared.now path.now cursor past.0 served result }
 {
     let stand = cursor.stand;
     let length = cursor.length;

@@ -1,6 +1,5 @@
 // Bit records: a node whose regions are those of the node above it keeps none of its own.
 ghost use Rattle.std.specs.Prelude.{◌≡◌, ◌≤◌};
-ghost use Rattle.base.specs.Lent.{given};
 ghost use Rattle.node.specs.Visits.{kept_in, served_in, halves_of};
 
 use crate::cursor::Cursor;
@@ -18,7 +17,7 @@ pub struct Served {
 // How many records a node with these regions keeps. The root, which has no node above it, keeps one.
 pub fn kept(regions: &RegionPath, length: u8, bits: u64) -> u32
     requires { length ≤ 24 }
-    ensures { result ≡ kept_in (given regions) length bits }
+    ensures { result ≡ kept_in regions.now length bits }
 {
     if length == 0 {
         return 1;
@@ -32,7 +31,7 @@ pub fn kept(regions: &RegionPath, length: u8, bits: u64) -> u32
 // The record that serves the cursor's node, which has these regions: the next one, or that of the node above it.
 pub fn serve(records: &Path, regions: &RegionPath, cursor: Cursor, bits: u64) -> Served
     requires { cursor.length ≤ 24 }
-    ensures { result ≡ served_in (given records) (given regions) cursor.length cursor.records bits }
+    ensures { result ≡ served_in records.now regions.now cursor.length cursor.records bits }
 {
     let kept = kept(regions, cursor.length, bits);
     if kept == 1 {

@@ -1,6 +1,5 @@
 // What lies under a node: where its stands end, how many nodes they make, and what each region holds of them.
 ghost use Rattle.std.specs.Prelude.{◌≡◌, cond, ◌≤◌, ◌<◌, ltb, length};
-ghost use Rattle.base.specs.Lent.{given, after};
 ghost use Rattle.node.specs.Columns.{at, Grows, Placed, Ends, span, stands_under, grown_of, bits_among, RegionAt, Tallied};
 ghost use Rattle.node.specs.Asks.{TallyAsks};
 
@@ -22,7 +21,7 @@ pub fn word(byte: u8) -> u32
 
 // What a column has of a stand, 0 past the end: the root of an empty table has no stand.
 pub fn value_at(column: &[u8], stand: Stand) -> u8
-    ensures { result ≡ at (given column) stand.0 }
+    ensures { result ≡ at column.now stand.0 }
 {
     let row = stand.0 as usize;
     if column.len() <= row {
@@ -34,7 +33,7 @@ pub fn value_at(column: &[u8], stand: Stand) -> u8
 // The region of a stand.
 pub fn region_at(region: &[u8], stand: Stand) -> usize
     requires { (Placed region.now) × (stand.0 < length region.now) }
-    ensures { RegionAt (given region) stand.0 result }
+    ensures { RegionAt region.now stand.0 result }
 {
     wide(region[stand.0 as usize])
 }
@@ -42,7 +41,7 @@ pub fn region_at(region: &[u8], stand: Stand) -> usize
 // The first stand past this one that shares less than so many bytes with the one before; this one itself past the end.
 pub fn end_of(shared: &[u8], stand: Stand, bytes: u8) -> Stand
     requires { (stand.0 ≤ length shared.now) × (length shared.now ≤ 1024) }
-    ensures { Ends (given shared) stand.0 bytes result.0 }
+    ensures { Ends shared.now stand.0 bytes result.0 }
 {
     let first = stand.0 as usize;
     if shared.len() <= first {
@@ -58,7 +57,7 @@ pub fn end_of(shared: &[u8], stand: Stand, bytes: u8) -> Stand
 // How many nodes the stands from first on make, past not among them; none where first is past it.
 pub fn grown(lengths: &[u8], shared: &[u8], first: Stand, past: Stand) -> u32
     requires { (Grows lengths.now shared.now) × (past.0 ≤ length lengths.now) }
-    ensures { result ≡ grown_of (given lengths) (given shared) first.0 past.0 }
+    ensures { result ≡ grown_of lengths.now shared.now first.0 past.0 }
 {
     let mut sum: u32 = 0;
     let end = past.0;
@@ -75,7 +74,7 @@ pub fn grown(lengths: &[u8], shared: &[u8], first: Stand, past: Stand) -> u32
 // so that the stands are gone through once.
 pub fn regions_under(shared: &[u8], region: &[u8], stand: Stand, bytes: u8) -> u64
     requires { (Placed region.now) × (length shared.now ≡ length region.now) }
-    ensures { result ≡ bits_among (given region) (stands_under (given shared) stand.0 bytes) }
+    ensures { result ≡ bits_among region.now (stands_under shared.now stand.0 bytes) }
 {
     let first = stand.0 as usize;
     if shared.len() <= first {
@@ -114,7 +113,7 @@ pub fn tally(
     best: &mut Slots,
 ) -> u64
     requires { TallyAsks region.now score.now first.0 past.0 next.now places.old best.old }
-    ensures { Tallied (given region) (given score) (given next) (span first.0 past.0) (after places) (after best) result }
+    ensures { Tallied region.now score.now next.now (span first.0 past.0) places.new best.new result }
 {
     let mut bits: u64 = 0;
     let end = past.0;

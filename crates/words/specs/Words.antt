@@ -1,7 +1,5 @@
 -- The words of all nodes, entries and bit records, from the columns alone, and what a turn of each loop leaves.
-use Rattle.std.specs.Borrow.{Bor}
 use Rattle.std.specs.Prelude.{◌≡◌, Bool, true, false, cond, List, [], ◌∷◌, ◌++◌, ℕ, suc, ◌+◌, ◌*◌, ◌≤◌, ◌<◌, eqb, length, drop, set, replicate}
-use Rattle.base.specs.Lent.{Lent, given, after}
 use Rattle.base.specs.Lists.{every, each, each_list, total, begins}
 use Rattle.rules.specs.Indexes.{Entry, entry_row}
 use Rattle.node.specs.declared.cursor.Cursor.{Cursor}
@@ -113,15 +111,6 @@ pub record Rooms : Type 0 where
 abbrev pub rooms_of : List ℕ → List ℕ → List ℕ → Rooms
 rooms_of nodes entries bits = record { nodes = nodes; entries = entries; bits = bits }
 
-abbrev pub rooms_now : (nodes entries bits : Bor (List ℕ)) → Rooms
-rooms_now nodes entries bits = rooms_of nodes.now entries.now bits.now
-
-abbrev pub rooms_given : (nodes entries bits : Lent (List ℕ)) → Rooms
-rooms_given nodes entries bits = rooms_of (given nodes) (given entries) (given bits)
-
-abbrev pub rooms_after : (nodes entries bits : Lent (List ℕ)) → Rooms
-rooms_after nodes entries bits = rooms_of (after nodes) (after entries) (after bits)
-
 -- ---- what counting, writing and checking ask, and what they leave
 
 pub record CountAsks (lengths shared region : List ℕ) (all : ℕ) : Type 0 where
@@ -180,18 +169,6 @@ pub record Work : Type 0 where
 abbrev pub work_of : (next path records regions places best ranked : List ℕ) → Work
 work_of next path records regions places best ranked =
     record { next = next; above = above_of path records regions; places = places; best = best; ranked = ranked }
-
--- what a turn is lent of it, as its `requires` and its `ensures` see it, and leaves
-abbrev pub work_now : (next path records regions places best ranked : Bor (List ℕ)) → Work
-work_now next path records regions places best ranked = work_of next.now path.now records.now regions.now places.now best.now ranked.now
-
-abbrev pub work_given : (next path records regions places best ranked : Lent (List ℕ)) → Work
-work_given next path records regions places best ranked =
-    work_of (given next) (given path) (given records) (given regions) (given places) (given best) (given ranked)
-
-abbrev pub work_after : (next path records regions places best ranked : Lent (List ℕ)) → Work
-work_after next path records regions places best ranked =
-    work_of (after next) (after path) (after records) (after regions) (after places) (after best) (after ranked)
 
 abbrev pub trail_of : Cursor → Work → Trail
 trail_of c w = record { number = c.number.0; entries = c.entries; records = c.records; above = w.above }
@@ -259,12 +236,3 @@ has_node t c w rooms = has_row t c w rooms ∷ has_entries t c rooms ∷ has_rec
 pub record Compares (t : IndexColumns) (c : Cursor) (w w' : Work) (rooms : Rooms) (v : Compared) : Type 0 where
   pub same : (r : Cursor) → v ≡ Same r → (every (has_node t c w rooms) ≡ true) × Moved t c w r w'
   pub different : v ≡ Different → every (has_node t c w rooms) ≡ false
-
--- the same of what a turn is lent
-abbrev pub WritesNode : IndexColumns → Cursor → (next path records regions places best ranked nodes entries bits : Lent (List ℕ)) → Cursor → Type 0
-WritesNode t c next path records regions places best ranked nodes entries bits r =
-    PutTurn t c (work_given next path records regions places best ranked) r (work_after next path records regions places best ranked) (rooms_given nodes entries bits) (rooms_after nodes entries bits)
-
-abbrev pub ChecksNode : IndexColumns → Cursor → (next path records regions places best ranked nodes entries bits : Lent (List ℕ)) → Compared → Type 0
-ChecksNode t c next path records regions places best ranked nodes entries bits v =
-    Compares t c (work_given next path records regions places best ranked) (work_after next path records regions places best ranked) (rooms_given nodes entries bits) v

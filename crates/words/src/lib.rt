@@ -7,10 +7,9 @@ pub mod rooms;
 pub mod turn;
 
 ghost use Rattle.std.specs.Prelude.{◌≡◌, length};
-ghost use Rattle.base.specs.Lent.{given};
 ghost use Rattle.node.specs.Columns.{columns_now, columns_in, Grows};
 ghost use Rattle.node.specs.Visits.{visits_from};
-ghost use Rattle.words.specs.Words.{rooms_now, rooms_given, rooms_after, CountAsks, Counted, WriteAsks, WroteAll, CheckAsks, ComparesAll};
+ghost use Rattle.words.specs.Words.{rooms_of, CountAsks, Counted, WriteAsks, WroteAll, CheckAsks, ComparesAll};
 
 use node::cursor::{root, step};
 use node::records::kept;
@@ -23,7 +22,7 @@ use turn::{Compared, check_node, write_node};
 // How many nodes.
 pub fn count_nodes(lengths: &[u8], shared: &[u8]) -> u32
     requires { Grows lengths.now shared.now }
-    ensures { result ≡ length (visits_from (given lengths) (given shared) 0 0) }
+    ensures { result ≡ length (visits_from lengths.now shared.now 0 0) }
 {
     grown(lengths, shared, Stand(0), Stand(lengths.len() as u32)) + 1
 }
@@ -38,7 +37,7 @@ pub struct Counts {
 // Those of all nodes.
 pub fn count(lengths: &[u8], shared: &[u8], region: &[u8], all: u32) -> Counts
     requires { CountAsks lengths.now shared.now region.now all }
-    ensures { Counted (given lengths) (given shared) (given region) result }
+    ensures { Counted lengths.now shared.now region.now result }
 {
     let mut regions = [0u64; Session::PATH];
     let mut cursor = root();
@@ -68,8 +67,8 @@ pub fn write(
     entries: &mut [u32],
     bits: &mut [u32],
 )
-    requires { WriteAsks (columns_now text starts lengths shared region score) all (rooms_now nodes entries bits) }
-    ensures { WroteAll (columns_in text starts lengths shared region score) (rooms_given nodes entries bits) (rooms_after nodes entries bits) }
+    requires { WriteAsks (columns_now text starts lengths shared region score) all (rooms_of nodes.old entries.old bits.old) }
+    ensures { WroteAll (columns_in text starts lengths shared region score) (rooms_of nodes.old entries.old bits.old) (rooms_of nodes.new entries.new bits.new) }
 {
     let mut next = places_of(region);
     let mut path = [0u32; Session::PATH];
@@ -116,7 +115,7 @@ pub fn check(
     bits: &[u32],
 ) -> Compared
     requires { CheckAsks (columns_now text starts lengths shared region score) all }
-    ensures { ComparesAll (columns_in text starts lengths shared region score) (rooms_given nodes entries bits) result }
+    ensures { ComparesAll (columns_in text starts lengths shared region score) (rooms_of nodes.now entries.now bits.now) result }
 {
     let mut next = places_of(region);
     let mut path = [0u32; Session::PATH];

@@ -1,6 +1,5 @@
 // Words put into a lent room, and compared with one: any words, a node's bit record, and its entries out of the slots of its regions.
 ghost use Rattle.std.specs.Prelude.{◌≡◌, ◌+◌, ◌*◌, ◌≤◌, ◌<◌, length, drop};
-ghost use Rattle.base.specs.Lent.{given, after};
 ghost use Rattle.base.specs.Lists.{begins};
 ghost use Rattle.rules.specs.Indexes.{entry_row};
 ghost use Rattle.node.specs.Columns.{entry_from, entries_from};
@@ -14,7 +13,7 @@ use rules::layout::ENTRY_WORDS;
 // Words from a place of the room on; and whether it has them there.
 pub fn put_words(room: &mut [u32], at: usize, words: &[u32])
     requires { at + length words.now ≤ length room.old }
-    ensures { after room ≡ over (given room) at (given words) }
+    ensures { room.new ≡ over room.old at words.now }
 {
     let mut done = 0;
     while done < words.len() {
@@ -25,7 +24,7 @@ pub fn put_words(room: &mut [u32], at: usize, words: &[u32])
 
 pub fn has_words(room: &[u32], at: usize, words: &[u32]) -> bool
     requires { (at < 4294967296) × (length words.now ≤ 8) }
-    ensures { result ≡ begins (given words) (drop at (given room)) }
+    ensures { result ≡ begins words.now (drop at room.now) }
 {
     let mut done = 0;
     while done < words.len() {
@@ -44,7 +43,7 @@ pub fn has_words(room: &[u32], at: usize, words: &[u32]) -> bool
 // The record of a node with these regions, from a place of the room on, if it keeps one; and whether the room has it there.
 pub fn put_record(room: &mut [u32], at: usize, kept: u32, bits: u64)
     requires { at + length (kept_words kept bits) ≤ length room.old }
-    ensures { after room ≡ over (given room) at (kept_words kept bits) }
+    ensures { room.new ≡ over room.old at (kept_words kept bits) }
 {
     if kept != 1 {
         return;
@@ -55,7 +54,7 @@ pub fn put_record(room: &mut [u32], at: usize, kept: u32, bits: u64)
 
 pub fn has_record(room: &[u32], at: usize, kept: u32, bits: u64) -> bool
     requires { at < 4294967296 }
-    ensures { result ≡ begins (kept_words kept bits) (drop at (given room)) }
+    ensures { result ≡ begins (kept_words kept bits) (drop at room.now) }
 {
     if kept != 1 {
         return true;
@@ -67,7 +66,7 @@ pub fn has_record(room: &[u32], at: usize, kept: u32, bits: u64) -> bool
 // A region's entry, in the order of rules::layout: the region, its largest score, its first place and the place past its last.
 fn entry_row(region: u32, best: &Slots, next: &Slots, places: &Slots) -> [u32; ENTRY_WORDS]
     requires { region < 64 }
-    ensures { result ≡ entry_row (entry_from (given best) (given next) (given places) region) }
+    ensures { result ≡ entry_row (entry_from best.now next.now places.now region) }
 {
     let slot = region as usize;
     [region, best[slot], next[slot], places[slot]]
@@ -84,7 +83,7 @@ pub fn put_entries(
     places: &Slots,
 )
     requires { (HeldAsks ranked.now held) × (at + held * 4 ≤ length room.old) }
-    ensures { after room ≡ over (given room) at (entry_rows (entries_from (given best) (given next) (given places) (given ranked) held)) }
+    ensures { room.new ≡ over room.old at (entry_rows (entries_from best.now next.now places.now ranked.now held)) }
 {
     let mut rank = 0;
     while rank < held {
@@ -105,7 +104,7 @@ pub fn has_entries(
     places: &Slots,
 ) -> bool
     requires { (HeldAsks ranked.now held) × (at < 4294967000) }
-    ensures { result ≡ begins (entry_rows (entries_from (given best) (given next) (given places) (given ranked) held)) (drop at (given room)) }
+    ensures { result ≡ begins (entry_rows (entries_from best.now next.now places.now ranked.now held)) (drop at room.now) }
 {
     let mut rank = 0;
     while rank < held {

@@ -1,7 +1,7 @@
 // One turn of building and of checking: the node at the cursor is gathered, its words put into the rooms or compared with them, and
 // the cursor moved on.
 ghost use Rattle.node.specs.Columns.{columns_now, columns_in};
-ghost use Rattle.words.specs.Words.{work_now, rooms_now, TurnAsks, PutAsks, WritesNode, ChecksNode};
+ghost use Rattle.words.specs.Words.{work_of, rooms_of, TurnAsks, PutAsks, PutTurn, Compares};
 
 use crate::rooms::{has_entries, has_record, has_words, put_entries, put_record, put_words};
 use node::cursor::{Cursor, advance};
@@ -29,8 +29,12 @@ pub fn write_node(
     entries: &mut [u32],
     bits: &mut [u32],
 ) -> Cursor
-    requires { PutAsks (columns_now text starts lengths shared region score) cursor (work_now next path records regions places best ranked) (rooms_now nodes entries bits) }
-    ensures { WritesNode (columns_in text starts lengths shared region score) cursor next path records regions places best ranked nodes entries bits result }
+    requires { PutAsks (columns_now text starts lengths shared region score)
+        cursor (work_of next.old path.old records.old regions.old places.old best.old ranked.old) (rooms_of nodes.old entries.old bits.old) }
+    ensures { PutTurn (columns_in text starts lengths shared region score)
+        cursor (work_of next.old path.old records.old regions.old places.old best.old ranked.old)
+        result (work_of next.new path.new records.new regions.new places.new best.new ranked.new)
+        (rooms_of nodes.old entries.old bits.old) (rooms_of nodes.new entries.new bits.new) }
 {
     let gathered = gather(shared, region, score, cursor, next, places, best, ranked);
     let served = serve(records, regions, cursor, gathered.bits);
@@ -79,8 +83,10 @@ pub fn check_node(
     entries: &[u32],
     bits: &[u32],
 ) -> Compared
-    requires { TurnAsks (columns_now text starts lengths shared region score) cursor (work_now next path records regions places best ranked) }
-    ensures { ChecksNode (columns_in text starts lengths shared region score) cursor next path records regions places best ranked nodes entries bits result }
+    requires { TurnAsks (columns_now text starts lengths shared region score) cursor (work_of next.old path.old records.old regions.old places.old best.old ranked.old) }
+    ensures { Compares (columns_in text starts lengths shared region score)
+        cursor (work_of next.old path.old records.old regions.old places.old best.old ranked.old) (work_of next.new path.new records.new regions.new places.new best.new ranked.new)
+        (rooms_of nodes.now entries.now bits.now) result }
 {
     let gathered = gather(shared, region, score, cursor, next, places, best, ranked);
     let served = serve(records, regions, cursor, gathered.bits);

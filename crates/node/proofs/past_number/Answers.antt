@@ -1,0 +1,36 @@
+-- `node::past_number` meets its contract: the longer nodes of the first stand, and what the stands behind it add. Assumes nothing.
+use mathlib.Core.Path.{ap, ◌∙◌}
+use native.Mathlib.Omega.{arith}
+use native.Mathlib.Numerals.{add-one}
+use Prim.Native.Nat.{ℕ, ◌+◌, ◌≤◌}
+use Rattle.node.specs.Columns.{grown_of}
+use Rattle.node.proofs.Ends.{length-short, grown_small}
+use Rattle.node.proofs.Gathering.{past_is}
+use Rattle.node.proofs.past_number.Goals as goal
+
+pub overflow_sub-value_at : goal.overflow_sub-value_at
+overflow_sub-value_at c = omega (arith, c.value_at.ensures, c.requires.long)
+
+pub overflow_add-behind : goal.overflow_add-behind
+overflow_add-behind c = omega (arith, c.requires.run, c.requires.grows.few)
+
+pub overflow_add-result-2 : goal.overflow_add-result-2
+overflow_add-result-2 c =
+    let sum_fits : (c.word-own.result ≤ 24) × (c.grown-grew.result ≤ 24576) = let own = length-short _ _ c.requires.grows c.args.stand.0 in
+    let grew = grown_small _ _ c.requires.grows (c.args.stand.0 + 1) c.args.past.0 c.requires.run.1 in
+    (omega (arith, c.word-own.ensures, c.value_at.ensures), omega (arith, c.grown-grew.ensures)) in
+    omega (arith, sum_fits, c.requires.low)
+
+pub overflow_add-result-3 : goal.overflow_add-result-3
+overflow_add-result-3 c =
+    let sum_fits : (c.word-own.result ≤ 24) × (c.grown-grew.result ≤ 24576) = let own = length-short _ _ c.requires.grows c.args.stand.0 in
+    let grew = grown_small _ _ c.requires.grows (c.args.stand.0 + 1) c.args.past.0 c.requires.run.1 in
+    (omega (arith, c.word-own.ensures, c.value_at.ensures), omega (arith, c.grown-grew.ensures)) in
+    omega (arith, sum_fits, c.requires.low)
+
+pub returns : goal.returns
+returns c =
+    let a = c.args in
+    let is = past_is _ _ c.requires.grows a.stand.0 a.length a.past.0 a.number.0 c.requires.long c.requires.some c.requires.run.1 in
+    let grew = c.grown-grew.ensures ∙ ap (λ (i : ℕ). grown_of a.lengths.now a.shared.now i a.past.0) (add-one a.stand.0) in
+    omega (arith, is, grew, c.word-own.ensures, c.value_at.ensures)

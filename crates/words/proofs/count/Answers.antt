@@ -1,0 +1,53 @@
+-- `words::count` meets its contract: the loop's invariant is `Counting`, whose laws are of proofs/Walks.antt. Assumes nothing.
+use native.Mathlib.Omega.{arith}
+use mathlib.Core.Path.{sym, ap, ◌∙◌}
+use Prim.Native.Nat.{ℕ, ◌≤◌}
+use lib.ListN.{set}
+use Rattle.node.proofs.Gathering.{length_fits}
+use Rattle.words.proofs.Walks.{counting, held_is, counting_fits, records_fit, counting_more, counting_end}
+use Rattle.words.proofs.count.Goals as goal
+
+pub loop-cursor-init : goal.loop-cursor-init
+loop-cursor-init c = let p = c.requires in counting c.root-cursor.ensures p.grows p.count
+
+pub regions_under-bits-requires : goal.regions_under-bits-requires
+regions_under-bits-requires c = let p = c.requires in (p.placed, p.grows.same ∙ sym p.same)
+
+pub kept-own-requires : goal.kept-own-requires
+kept-own-requires c =
+    let short : c.loop-cursor.cursor.length ≤ 24 = length_fits _ _ c.requires.grows c.loop-cursor.cursor (c.loop-cursor.invariant.way.on c.loop-cursor-test.true) in
+    short
+
+pub offset_bounds-regions-wide : goal.offset_bounds-regions-wide
+offset_bounds-regions-wide c =
+    let short : c.loop-cursor.cursor.length ≤ 24 = length_fits _ _ c.requires.grows c.loop-cursor.cursor (c.loop-cursor.invariant.way.on c.loop-cursor-test.true) in
+    omega (arith, c.wide.ensures, short)
+
+pub bounds-regions-wide : goal.bounds-regions-wide
+bounds-regions-wide c =
+    let short : c.loop-cursor.cursor.length ≤ 24 = length_fits _ _ c.requires.grows c.loop-cursor.cursor (c.loop-cursor.invariant.way.on c.loop-cursor-test.true) in
+    omega (arith, c.wide.ensures, short, c.loop-cursor.invariant.size)
+
+pub step-cursor-requires : goal.step-cursor-requires
+step-cursor-requires c =
+    let s = c.loop-cursor.invariant in
+    let lt = c.loop-cursor-test.true in
+    let bits = c.regions_under-bits.ensures in
+    record {
+      grows = c.requires.grows;
+      on = s.way.on lt;
+      low = omega (arith, s.way.few);
+      fits = counting_fits s lt bits c.kept-own.ensures;
+      records_fit = records_fit s lt bits c.kept-own.ensures;
+    }
+
+pub loop-cursor-preserved : goal.loop-cursor-preserved
+loop-cursor-preserved c =
+    let s = c.loop-cursor.invariant in
+    let lt = c.loop-cursor-test.true in
+    let bits = c.regions_under-bits.ensures in
+    let own = c.kept-own.ensures in
+    counting_more s lt bits own (held_is s lt bits own) (ap (λ (l : ℕ). set c.loop-cursor.regions l c.regions_under-bits.result) c.wide.ensures) c.step-cursor.ensures
+
+pub returns : goal.returns
+returns c = counting_end c.loop-cursor.invariant c.loop-cursor-test.false
