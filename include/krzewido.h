@@ -1,4 +1,4 @@
-/* Krzewido, the stand finder, for C. Link with libfinder_c.a: `rt staticlib finder_c` proves the library and writes it for x86-64 to
+/* Krzewido, the stand finder, for C. Link with libfinder_c.a: `tests/library` proves the library and writes it for x86-64 to
  * target/staticlib, `tools/library TARGET` for another processor to target/TARGET (README, "Linking it"). It needs memcpy and memset and
  * nothing else of a C library (on Arm by their names __aeabi_memcpy, __aeabi_memclr and so on); on a processor that cannot divide, as a
  * Cortex-M0, also the helpers that its compiler links by itself.

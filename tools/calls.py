@@ -98,7 +98,7 @@ def laid_out():
     counts = {"Stand::NAME_MOST": "KRZ_NAME_MOST", "Session::PATH": "KRZ_NAME_MOST + 1"}
     found = {}
     for path in (CALLS, RULES):
-        for name, inside in re.findall(r"#\[repr\(C\)\]\s*pub struct (\w+) \{([^}]*)\}", bare(path)):
+        for name, inside in re.findall(r"#\[repr\(C\)\]\s*(?:#\[[^\]]*\]\s*)*pub struct (\w+) \{([^}]*)\}", bare(path)):
             found[in_c(name)] = [(SCALARS[kind or array], called, counts.get(many, many)) for called, kind, array, many in
                                  re.findall(r"pub (\w+): (?:(\w+)|\[(\w+); ([^\]]+)\]),", inside)]
     return found

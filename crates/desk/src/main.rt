@@ -2,14 +2,32 @@
 // What is printed is settled in desk_answer; here stand its rooms, all zero at the start, one read and one write.
 #![tactic(auto)]
 
+ghost use Rattle.std.specs.Prelude.{◌≤◌, IfOk, length};
+
 use desk_answer::{BITS_ROOM, ENTRIES_ROOM, ORDER_ROOM, OUTPUT_MOST, answer};
 use desk_form::Reading;
-use libc::{STDIN_FILENO, STDOUT_FILENO};
+use std::io;
+use std::io::Read;
 
 // One byte more than an input may have, so that a longer one is known by its length.
 const INPUT_ROOM: usize = Reading::BYTES_MOST + 1;
 
-fn main() {
+// Reads until the room is full or the input ends, and answers how many bytes were read.
+fn read_full(reader: &mut impl Read, room: &mut [u8]) -> io::Result<usize>
+    ensures { IfOk result (λ n. n ≤ length room.new) }
+{
+    let mut done = 0;
+    while done < room.len() {
+        let count = reader.read(&mut room[done..])?;
+        if count == 0 {
+            break;
+        }
+        done += count;
+    }
+    Ok(done)
+}
+
+fn main(rt: HostRuntime) -> io::Result<()> {
     let mut input = [0u8; INPUT_ROOM];
     let mut text = [0u8; Reading::BYTES_MOST];
     let mut starts = [0u32; Reading::STARTS_ROOM];
@@ -21,7 +39,7 @@ fn main() {
     let mut entries = [0u32; ENTRIES_ROOM];
     let mut bits = [0u32; BITS_ROOM];
     let mut out = [0u8; OUTPUT_MOST];
-    let count = io::read_full(STDIN_FILENO, &mut input);
+    let count = read_full(&mut rt.stdin(), &mut input)?;
     let length = answer(
         &input[..count],
         &mut text,
@@ -35,5 +53,5 @@ fn main() {
         &mut bits,
         &mut out,
     );
-    io::write_all(STDOUT_FILENO, &out[..length]);
+    rt.write_all(&out[..length])
 }

@@ -4,20 +4,16 @@
 
 use desk_answer::{BITS_ROOM, ENTRIES_ROOM, NODES_ROOM, ORDER_ROOM, OUTPUT_MOST, answer};
 use desk_form::Reading;
-use libc::STDOUT_FILENO;
 use lines::put;
+use std::io;
 
 // One byte more than an input may have.
 const INPUT_ROOM: usize = Reading::BYTES_MOST + 1;
 
-fn print(text: &[u8]) {
-    io::write_all(STDOUT_FILENO, text);
-}
-
 // The answer to the first so many bytes.
-fn print_answer(room: &[u8], count: usize) {
+fn print_answer(rt: &impl Print, room: &[u8], count: usize) -> io::Result<()> {
     if room.len() < count {
-        return;
+        return Ok(());
     }
     let mut text = [0u8; Reading::BYTES_MOST];
     let mut starts = [0u32; Reading::STARTS_ROOM];
@@ -42,7 +38,7 @@ fn print_answer(room: &[u8], count: usize) {
         &mut bits,
         &mut out,
     );
-    print(&out[..length]);
+    rt.write_all(&out[..length])
 }
 
 // Puts bytes behind those before `at`, if there is room.
@@ -57,7 +53,14 @@ fn put_if_room(input: &mut [u8], at: usize, bytes: &[u8]) -> usize {
 }
 
 // The input is a head, some lines so many times, and a tail.
-fn print_case(name: &[u8], head: &[u8], lines: &[u8], times: usize, tail: &[u8]) {
+fn print_case(
+    rt: &impl Print,
+    name: &[u8],
+    head: &[u8],
+    lines: &[u8],
+    times: usize,
+    tail: &[u8],
+) -> io::Result<()> {
     let mut input = [0u8; INPUT_ROOM];
     let mut at = put_if_room(&mut input, 0, head);
     let mut i = 0;
@@ -66,231 +69,247 @@ fn print_case(name: &[u8], head: &[u8], lines: &[u8], times: usize, tail: &[u8])
         i += 1;
     }
     at = put_if_room(&mut input, at, tail);
-    print(name);
-    print(b"\n");
-    print_answer(&input, at);
+    rt.write_all(name)?;
+    rt.write_all(b"\n")?;
+    print_answer(rt, &input, at)
 }
 
 // An input with this line in its place; the line names the case.
-fn print_line(before: &[u8], line: &[u8], after: &[u8]) {
-    print_case(line, before, line, 1, after);
+fn print_line(rt: &impl Print, before: &[u8], line: &[u8], after: &[u8]) -> io::Result<()> {
+    print_case(rt, line, before, line, 1, after)
 }
 
-fn print_west(line: &[u8]) {
+fn print_west(rt: &impl Print, line: &[u8]) -> io::Result<()> {
     print_line(
+        rt,
         b"",
         line,
         b"\nsouth=0\ncell=10\nstands=0\ntext=\neast=5\nnorth=5\nweight=8\nk=2\n",
-    );
+    )
 }
 
-fn print_cell(line: &[u8]) {
+fn print_cell(rt: &impl Print, line: &[u8]) -> io::Result<()> {
     print_line(
+        rt,
         b"west=0\nsouth=0\n",
         line,
         b"\nstands=0\ntext=\neast=5\nnorth=5\nweight=8\nk=2\n",
-    );
+    )
 }
 
 // One stand follows.
-fn print_stands(line: &[u8]) {
+fn print_stands(rt: &impl Print, line: &[u8]) -> io::Result<()> {
     print_line(
+        rt,
         b"west=0\nsouth=0\ncell=10\n",
         line,
         b"\nname=kibo\neast=5\nnorth=5\nscore=100\ntext=\neast=5\nnorth=5\nweight=8\nk=2\n",
-    );
+    )
 }
 
 // The first of two stands; the other one's name is kito.
-fn print_name(line: &[u8]) {
+fn print_name(rt: &impl Print, line: &[u8]) -> io::Result<()> {
     print_line(
+        rt,
         b"west=0\nsouth=0\ncell=10\nstands=2\n",
         line,
         b"\neast=5\nnorth=5\nscore=100\nname=kito\neast=9\nnorth=9\nscore=400\ntext=ki\neast=5\nnorth=5\nweight=8\nk=2\n",
-    );
+    )
 }
 
-fn print_east(line: &[u8]) {
+fn print_east(rt: &impl Print, line: &[u8]) -> io::Result<()> {
     print_line(
+        rt,
         b"west=0\nsouth=0\ncell=10\nstands=1\nname=kibo\n",
         line,
         b"\nnorth=5\nscore=100\ntext=ki\neast=5\nnorth=5\nweight=8\nk=2\n",
-    );
+    )
 }
 
-fn print_score(line: &[u8]) {
+fn print_score(rt: &impl Print, line: &[u8]) -> io::Result<()> {
     print_line(
+        rt,
         b"west=0\nsouth=0\ncell=10\nstands=1\nname=kibo\neast=5\nnorth=5\n",
         line,
         b"\ntext=ki\neast=5\nnorth=5\nweight=16\nk=2\n",
-    );
+    )
 }
 
 // A question on a stand.
-fn print_text(line: &[u8]) {
+fn print_text(rt: &impl Print, line: &[u8]) -> io::Result<()> {
     print_line(
+        rt,
         b"west=0\nsouth=0\ncell=10\nstands=1\nname=kibo\neast=5\nnorth=5\nscore=100\n",
         line,
         b"\neast=5\nnorth=5\nweight=8\nk=2\n",
-    );
+    )
 }
 
 // The question's last lines.
-fn print_asked(lines: &[u8]) {
+fn print_asked(rt: &impl Print, lines: &[u8]) -> io::Result<()> {
     print_line(
+        rt,
         b"west=0\nsouth=0\ncell=10\nstands=1\nname=kibo\neast=5\nnorth=5\nscore=100\ntext=ki\n",
         lines,
         b"\n",
-    );
+    )
 }
 
 // Numbers, as they are written.
-fn print_numbers() {
-    print_west(b"west=-0");
-    print_west(b"west=00");
-    print_west(b"west=+1");
-    print_west(b"west=-");
-    print_west(b"west=");
-    print_west(b"west=0 ");
-    print_west(b"West=0");
+fn print_numbers(rt: &impl Print) -> io::Result<()> {
+    print_west(rt, b"west=-0")?;
+    print_west(rt, b"west=00")?;
+    print_west(rt, b"west=+1")?;
+    print_west(rt, b"west=-")?;
+    print_west(rt, b"west=")?;
+    print_west(rt, b"west=0 ")?;
+    print_west(rt, b"West=0")
 }
 
 // And their ranges, then the grid's.
-fn print_grids() {
-    print_west(b"west=2147483648");
-    print_west(b"west=-2147483649");
-    print_west(b"west=2147483647");
-    print_west(b"west=-1000001");
-    print_west(b"west=-1000000");
-    print_west(b"west=-1");
-    print_cell(b"cell=65536");
-    print_cell(b"cell=65535");
-    print_cell(b"cell=8193");
-    print_cell(b"cell=8192");
-    print_cell(b"cell=0");
+fn print_grids(rt: &impl Print) -> io::Result<()> {
+    print_west(rt, b"west=2147483648")?;
+    print_west(rt, b"west=-2147483649")?;
+    print_west(rt, b"west=2147483647")?;
+    print_west(rt, b"west=-1000001")?;
+    print_west(rt, b"west=-1000000")?;
+    print_west(rt, b"west=-1")?;
+    print_cell(rt, b"cell=65536")?;
+    print_cell(rt, b"cell=65535")?;
+    print_cell(rt, b"cell=8193")?;
+    print_cell(rt, b"cell=8192")?;
+    print_cell(rt, b"cell=0")
 }
 
-fn print_names() {
-    print_name(b"name=");
-    print_name(b"name=Kibo");
-    print_name(b"name=name=kibo");
-    print_name(b"name=kiaaaaaaaaaaaaaaaaaaaaaaa");
-    print_name(b"name=kiaaaaaaaaaaaaaaaaaaaaaa");
-    print_name(b"name=kito a");
-    print_name(b"name=kito");
+fn print_names(rt: &impl Print) -> io::Result<()> {
+    print_name(rt, b"name=")?;
+    print_name(rt, b"name=Kibo")?;
+    print_name(rt, b"name=name=kibo")?;
+    print_name(rt, b"name=kiaaaaaaaaaaaaaaaaaaaaaaa")?;
+    print_name(rt, b"name=kiaaaaaaaaaaaaaaaaaaaaaa")?;
+    print_name(rt, b"name=kito a")?;
+    print_name(rt, b"name=kito")
 }
 
-fn print_columns() {
-    print_stands(b"stands=0");
-    print_stands(b"stands=2");
-    print_stands(b"stands=1");
-    print_east(b"east=80");
-    print_east(b"east=-1");
-    print_east(b"east=79");
-    print_score(b"score=1001");
-    print_score(b"score=1000");
+fn print_columns(rt: &impl Print) -> io::Result<()> {
+    print_stands(rt, b"stands=0")?;
+    print_stands(rt, b"stands=2")?;
+    print_stands(rt, b"stands=1")?;
+    print_east(rt, b"east=80")?;
+    print_east(rt, b"east=-1")?;
+    print_east(rt, b"east=79")?;
+    print_score(rt, b"score=1001")?;
+    print_score(rt, b"score=1000")
 }
 
 // A typed text may have capitals, and a name may not.
-fn print_texts() {
-    print_text(b"text=Ki");
-    print_text(b"text=k@");
-    print_text(b"text=k[");
-    print_text(b"text=k!");
-    print_text(b"text=aaaaaaaaaaaaaaaaaaaaaaaa!");
-    print_text(b"text=aaaaaaaaaaaaaaaaaaaaaaaa");
-    print_text(b"text=");
+fn print_texts(rt: &impl Print) -> io::Result<()> {
+    print_text(rt, b"text=Ki")?;
+    print_text(rt, b"text=k@")?;
+    print_text(rt, b"text=k[")?;
+    print_text(rt, b"text=k!")?;
+    print_text(rt, b"text=aaaaaaaaaaaaaaaaaaaaaaaa!")?;
+    print_text(rt, b"text=aaaaaaaaaaaaaaaaaaaaaaaa")?;
+    print_text(rt, b"text=")
 }
 
-fn print_questions() {
-    print_asked(b"east=80\nnorth=79\nweight=8\nk=2");
-    print_asked(b"east=79\nnorth=79\nweight=0\nk=16");
-    print_asked(b"east=5\nnorth=5\nweight=17\nk=2");
-    print_asked(b"east=5\nnorth=5\nweight=8\nk=0");
-    print_asked(b"east=5\nnorth=5\nweight=8\nk=17");
-    print_asked(b"east=5\nnorth=5\nweight=8\nk=02");
-    print_asked(b"east=5\nnorth=5\nweight=8\nk=2\nk=2");
-    print_asked(b"north=5\neast=5\nweight=8\nk=2");
+fn print_questions(rt: &impl Print) -> io::Result<()> {
+    print_asked(rt, b"east=80\nnorth=79\nweight=8\nk=2")?;
+    print_asked(rt, b"east=79\nnorth=79\nweight=0\nk=16")?;
+    print_asked(rt, b"east=5\nnorth=5\nweight=17\nk=2")?;
+    print_asked(rt, b"east=5\nnorth=5\nweight=8\nk=0")?;
+    print_asked(rt, b"east=5\nnorth=5\nweight=8\nk=17")?;
+    print_asked(rt, b"east=5\nnorth=5\nweight=8\nk=02")?;
+    print_asked(rt, b"east=5\nnorth=5\nweight=8\nk=2\nk=2")?;
+    print_asked(rt, b"north=5\neast=5\nweight=8\nk=2")
 }
 
 // Inputs that two refusals fit.
-fn print_firsts() {
+fn print_firsts(rt: &impl Print) -> io::Result<()> {
     print_case(
+        rt,
         b"2 before 9",
         b"west=0\nsouth=0\ncell=0\nstands=0\ntext=",
         b"a",
         25,
         b"\neast=5\nnorth=5\nweight=8\nk=2\n",
-    );
+    )?;
     print_case(
+        rt,
         b"9 before 8",
         b"west=0\nsouth=0\ncell=10\nstands=0\ntext=",
         b"!",
         25,
         b"\neast=5\nnorth=5\nweight=8\nk=2\n",
-    );
+    )?;
     print_case(
+        rt,
         b"8 before 12",
         b"west=0\nsouth=0\ncell=10\nstands=0\ntext=",
         b"!",
         1,
         b"\neast=5\nnorth=5\nweight=8\nk=0\n",
-    );
+    )?;
     print_case(
+        rt,
         b"14, for want of the last line feed, before 2",
         b"west=0\nsouth=0\ncell=0\nstands=0\ntext=",
         b"a",
         1,
         b"\neast=5\nnorth=5\nweight=8\nk=2",
-    );
+    )
 }
 
 // How many bytes there may be: of 16,384 all but 65 are the text's.
-fn print_bytes() {
-    print_case(b"no byte", b"", b"", 0, b"");
-    print_case(b"bytes that are no line", b"\x00\xff", b"\x80", 3, b"");
+fn print_bytes(rt: &impl Print) -> io::Result<()> {
+    print_case(rt, b"no byte", b"", b"", 0, b"")?;
+    print_case(rt, b"bytes that are no line", b"\x00\xff", b"\x80", 3, b"")?;
     print_case(
+        rt,
         b"16384 bytes",
         b"west=0\nsouth=0\ncell=1\nstands=0\ntext=",
         b"a",
         16_319,
         b"\neast=0\nnorth=0\nweight=0\nk=1\n",
-    );
+    )?;
     print_case(
+        rt,
         b"16385 bytes",
         b"west=0\nsouth=0\ncell=1\nstands=0\ntext=",
         b"a",
         16_320,
         b"\neast=0\nnorth=0\nweight=0\nk=1\n",
-    );
+    )
 }
 
 // And how many stands.
-fn print_tables() {
+fn print_tables(rt: &impl Print) -> io::Result<()> {
     print_case(
+        rt,
         b"64 stands",
         b"west=0\nsouth=0\ncell=1\nstands=64\n",
         b"name=a\neast=7\nnorth=7\nscore=1000\n",
         64,
         b"text=a\neast=0\nnorth=0\nweight=1\nk=16\n",
-    );
+    )?;
     print_case(
+        rt,
         b"65 stands",
         b"west=0\nsouth=0\ncell=1\nstands=65\n",
         b"name=a\neast=7\nnorth=7\nscore=1000\n",
         65,
         b"text=a\neast=0\nnorth=0\nweight=1\nk=16\n",
-    );
+    )
 }
 
-fn main() {
-    print_numbers();
-    print_grids();
-    print_names();
-    print_columns();
-    print_texts();
-    print_questions();
-    print_firsts();
-    print_bytes();
-    print_tables();
+fn main(rt: HostRuntime) -> io::Result<()> {
+    print_numbers(&rt)?;
+    print_grids(&rt)?;
+    print_names(&rt)?;
+    print_columns(&rt)?;
+    print_texts(&rt)?;
+    print_questions(&rt)?;
+    print_firsts(&rt)?;
+    print_bytes(&rt)?;
+    print_tables(&rt)
 }

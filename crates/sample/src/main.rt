@@ -4,9 +4,9 @@
 
 ghost use Rattle.std.specs.Prelude.{◌<◌};
 
-use libc::STDOUT_FILENO;
 use rules::layout::{ENTRY_WORDS, NODE_WORDS, RECORD_WORDS};
 use rules::{Built, Grid};
+use std::io;
 
 // Three stands to a pair of letters, and room for their names.
 const LETTER_COUNT: usize = 5;
@@ -27,42 +27,44 @@ const BITS: usize = (2 * STANDS - 1) * RECORD_WORDS;
 
 const LETTERS: [u8; LETTER_COUNT] = [32, 48, 57, 97, 122];
 
-fn print(text: &[u8]) {
-    io::write_all(STDOUT_FILENO, text);
-}
-
 fn index_of(word: u32) -> usize {
     word as usize
 }
 
-fn print_number(n: usize) {
-    print(b" ");
-    io::print_decimal(STDOUT_FILENO, n as u64);
+fn print_number(rt: &impl Print, n: usize) -> io::Result<()> {
+    print!(rt; " {n}")
 }
 
 // Words on a line.
-fn print_words(words: &[u32]) {
+fn print_words(rt: &impl Print, words: &[u32]) -> io::Result<()> {
     let mut i = 0;
     while i < words.len() {
-        print_number(index_of(words[i]));
+        print_number(rt, index_of(words[i]))?;
         i += 1;
     }
-    print(b"\n");
+    rt.write_all(b"\n")
 }
 
 // So many rows of so many words, each on a line behind its kind.
-fn print_rows(kind: &[u8], words: &[u32], rows: usize, width: usize) {
+fn print_rows(
+    rt: &impl Print,
+    kind: &[u8],
+    words: &[u32],
+    rows: usize,
+    width: usize,
+) -> io::Result<()> {
     let mut at = 0;
     let mut left = rows;
     while 0 < left {
         if words.len() - at < width {
-            return;
+            return Ok(());
         }
-        print(kind);
-        print_words(&words[at..at + width]);
+        rt.write_all(kind)?;
+        print_words(rt, &words[at..at + width])?;
         at += width;
         left -= 1;
     }
+    Ok(())
 }
 
 // All names, one after the other. Of three stands that follow each other two have one name, of two letters, and the third's begins with it.
@@ -124,13 +126,14 @@ fn scores() -> [u32; STANDS] {
 
 // The index of a table that fits the rooms here.
 fn print_index(
+    rt: &impl Print,
     text: &[u8],
     starts: &[u32],
     east: &[i32],
     north: &[i32],
     score: &[u32],
     grid: Grid,
-) {
+) -> io::Result<()> {
     let mut order = [0u32; STANDS];
     let mut nodes = [0u32; NODES];
     let mut entries = [0u32; ENTRIES];
@@ -153,20 +156,20 @@ fn print_index(
         bits: record_count,
     } = answer
     else {
-        print(b"refused\n");
-        return;
+        return rt.write_all(b"refused\n");
     };
-    print(b"stands");
-    print_number(score.len());
-    print(b"\n");
-    print_rows(b"order", &order, score.len(), 1);
-    print_rows(b"node", &nodes, index_of(node_count), NODE_WORDS);
-    print_rows(b"entry", &entries, index_of(entry_count), ENTRY_WORDS);
-    print_rows(b"record", &bits, index_of(record_count), RECORD_WORDS);
+    rt.write_all(b"stands")?;
+    print_number(rt, score.len())?;
+    rt.write_all(b"\n")?;
+    print_rows(rt, b"order", &order, score.len(), 1)?;
+    print_rows(rt, b"node", &nodes, index_of(node_count), NODE_WORDS)?;
+    print_rows(rt, b"entry", &entries, index_of(entry_count), ENTRY_WORDS)?;
+    print_rows(rt, b"record", &bits, index_of(record_count), RECORD_WORDS)
 }
 
 // The first so many stands of a longer table.
 fn print_first(
+    rt: &impl Print,
     count: usize,
     text: &[u8],
     starts: &[u32],
@@ -174,26 +177,27 @@ fn print_first(
     north: &[i32],
     score: &[u32],
     grid: Grid,
-) {
+) -> io::Result<()> {
     if starts.len() <= count || east.len() < count || north.len() < count || score.len() < count {
-        return;
+        return Ok(());
     }
     let past = index_of(starts[count]);
     if text.len() < past {
-        return;
+        return Ok(());
     }
     print_index(
+        rt,
         &text[..past],
         &starts[..count + 1],
         &east[..count],
         &north[..count],
         &score[..count],
         grid,
-    );
+    )
 }
 
 // The first so many of the generated stands.
-fn print_sample(count: usize)
+fn print_sample(rt: &impl Print, count: usize) -> io::Result<()>
     requires { count < 100 }
 {
     let text = names();
@@ -206,10 +210,10 @@ fn print_sample(count: usize)
         south: -13,
         cell: 7,
     };
-    print_first(count, &text, &ends, &east, &north, &score, grid);
+    print_first(rt, count, &text, &ends, &east, &north, &score, grid)
 }
 
-fn main() {
+fn main(rt: HostRuntime) -> io::Result<()> {
     let text = b"kibokibokiborikitomto";
     let starts: [u32; 6] = [0, 4, 8, 14, 18, 21];
     let east: [i32; 5] = [5, 75, 12, 9, 10];
@@ -220,9 +224,9 @@ fn main() {
         south: 0,
         cell: 10,
     };
-    print_index(text, &starts, &east, &north, &score, grid);
-    print_sample(0);
-    print_sample(1);
-    print_sample(20);
-    print_sample(75);
+    print_index(&rt, text, &starts, &east, &north, &score, grid)?;
+    print_sample(&rt, 0)?;
+    print_sample(&rt, 1)?;
+    print_sample(&rt, 20)?;
+    print_sample(&rt, 75)
 }

@@ -4,50 +4,45 @@ use finder::{
     AnyAnswer, Built, Checked, Grid, Located, Place, RangeAnswer, RankedAnswer, Ranking, Rect,
     Refusal, Session, Verdict,
 };
-use libc::STDOUT_FILENO;
 use rules::layout::NODE_WORDS;
+use std::io;
 
 // Room for the most stands that may be asked for.
 const MOST: usize = Ranking::K_MOST as usize;
 
-pub(crate) fn print(text: &[u8]) {
-    io::write_all(STDOUT_FILENO, text);
+fn print_number(rt: &impl Print, n: u64) -> io::Result<()> {
+    print!(rt; " {n}")
 }
 
-fn print_number(n: u64) {
-    print(b" ");
-    io::print_decimal(STDOUT_FILENO, n);
+fn print_refusal(rt: &impl Print, why: Refusal) -> io::Result<()> {
+    rt.write_all(b"refused")?;
+    print_number(rt, why.number() as u64)
 }
 
-fn print_refusal(why: Refusal) {
-    print(b"refused");
-    print_number(why.number() as u64);
+pub(crate) fn print_verdict(rt: &impl Print, verdict: Verdict) -> io::Result<()> {
+    rt.write_all(b"verdict")?;
+    print_number(rt, verdict.number() as u64)?;
+    rt.write_all(b"\n")
 }
 
-pub(crate) fn print_verdict(verdict: Verdict) {
-    print(b"verdict");
-    print_number(verdict.number() as u64);
-    print(b"\n");
-}
-
-pub(crate) fn print_built(answer: Built) {
+pub(crate) fn print_built(rt: &impl Print, answer: Built) -> io::Result<()> {
     match answer {
         Built::Index {
             nodes,
             entries,
             bits,
         } => {
-            print(b"built");
-            print_number(nodes as u64);
-            print_number(entries as u64);
-            print_number(bits as u64);
+            rt.write_all(b"built")?;
+            print_number(rt, nodes as u64)?;
+            print_number(rt, entries as u64)?;
+            print_number(rt, bits as u64)?;
         }
-        Built::Refused(why) => print_refusal(why),
+        Built::Refused(why) => print_refusal(rt, why)?,
     }
-    print(b"\n");
+    rt.write_all(b"\n")
 }
 
-pub(crate) fn print_checked(index: Index) {
+pub(crate) fn print_checked(rt: &impl Print, index: Index) -> io::Result<()> {
     let text = TEXT;
     let starts = STARTS;
     let east = EAST;
@@ -65,75 +60,83 @@ pub(crate) fn print_checked(index: Index) {
             entries,
             bits,
         } => {
-            print(b"lawful");
-            print_number(nodes as u64);
-            print_number(entries as u64);
-            print_number(bits as u64);
+            rt.write_all(b"lawful")?;
+            print_number(rt, nodes as u64)?;
+            print_number(rt, entries as u64)?;
+            print_number(rt, bits as u64)?;
         }
-        Checked::Unlawful => print(b"unlawful"),
+        Checked::Unlawful => rt.write_all(b"unlawful")?,
     }
-    print(b"\n");
+    rt.write_all(b"\n")
 }
 
-pub(crate) fn print_region(grid: Grid, east: i32, north: i32) {
+pub(crate) fn print_region(rt: &impl Print, grid: Grid, east: i32, north: i32) -> io::Result<()> {
     match finder::locate(grid, Place { east, north }) {
         Located::In(region) => {
-            print(b"region");
-            print_number(region as u64);
+            rt.write_all(b"region")?;
+            print_number(rt, region as u64)?;
         }
-        Located::Refused(why) => print_refusal(why),
+        Located::Refused(why) => print_refusal(rt, why)?,
     }
-    print(b"\n");
+    rt.write_all(b"\n")
 }
 
-pub(crate) fn print_rest(rest: &[u8]) {
-    print(b"rest \"");
-    print(rest);
-    print(b"\"\n");
+pub(crate) fn print_rest(rt: &impl Print, rest: &[u8]) -> io::Result<()> {
+    rt.write_all(b"rest \"")?;
+    rt.write_all(rest)?;
+    rt.write_all(b"\"\n")
 }
 
-fn print_word(word: u32) {
-    print_number(word as u64);
+fn print_word(rt: &impl Print, word: u32) -> io::Result<()> {
+    print_number(rt, word as u64)
 }
 
 // The first so many words, behind their kind.
-fn print_words(kind: &[u8], words: &[u32], count: u32) {
-    print(kind);
+fn print_words(rt: &impl Print, kind: &[u8], words: &[u32], count: u32) -> io::Result<()> {
+    rt.write_all(kind)?;
     let mut i = 0;
     while i < words.len() && i < count as usize {
-        print_word(words[i]);
+        print_word(rt, words[i])?;
         i += 1;
     }
+    Ok(())
 }
 
 // The words of a node, if it is there.
-pub(crate) fn print_node(nodes: &[u32], node: usize) {
+pub(crate) fn print_node(rt: &impl Print, nodes: &[u32], node: usize) -> io::Result<()> {
     if nodes.len() / NODE_WORDS <= node {
-        return;
+        return Ok(());
     }
     let at = node * NODE_WORDS;
-    print_words(b"node", &nodes[at..at + NODE_WORDS], NODE_WORDS as u32);
-    print(b"\n");
+    print_words(rt, b"node", &nodes[at..at + NODE_WORDS], NODE_WORDS as u32)?;
+    rt.write_all(b"\n")
 }
 
 // The words of all bit records.
-pub(crate) fn print_records(index: Index) {
+pub(crate) fn print_records(rt: &impl Print, index: Index) -> io::Result<()> {
     let bits = index.bits;
-    print_words(b"records", &bits, 8);
-    print(b"\n");
+    print_words(rt, b"records", &bits, 8)?;
+    rt.write_all(b"\n")
 }
 
-fn print_values(values: &[u64], count: u32) {
-    print(b" values");
+fn print_values(rt: &impl Print, values: &[u64], count: u32) -> io::Result<()> {
+    rt.write_all(b" values")?;
     let mut i = 0;
     while i < values.len() && i < count as usize {
-        print_number(values[i]);
+        print_number(rt, values[i])?;
         i += 1;
     }
+    Ok(())
 }
 
 // A range question with as much room as is lent.
-pub(crate) fn print_range(index: Index, typed: &[u8], rect: Rect, found: &mut [u32]) {
+pub(crate) fn print_range(
+    rt: &impl Print,
+    index: Index,
+    typed: &[u8],
+    rect: Rect,
+    found: &mut [u32],
+) -> io::Result<()> {
     let text = TEXT;
     let starts = STARTS;
     let east = EAST;
@@ -148,30 +151,30 @@ pub(crate) fn print_range(index: Index, typed: &[u8], rect: Rect, found: &mut [u
         found,
     );
     match answer {
-        RangeAnswer::Found(count) => print_words(b"stands", found, count),
+        RangeAnswer::Found(count) => print_words(rt, b"stands", found, count)?,
         RangeAnswer::Refused { why, matches } => {
-            print_refusal(why);
-            print(b" matches");
-            print_number(matches as u64);
+            print_refusal(rt, why)?;
+            rt.write_all(b" matches")?;
+            print_number(rt, matches as u64)?;
         }
     }
-    print(b"\n");
+    rt.write_all(b"\n")
 }
 
-fn print_yes_or_no(answer: AnyAnswer) {
+fn print_yes_or_no(rt: &impl Print, answer: AnyAnswer) -> io::Result<()> {
     match answer {
         AnyAnswer::Yes(stand) => {
-            print(b"yes");
-            print_word(stand.0);
+            rt.write_all(b"yes")?;
+            print_word(rt, stand.0)?;
         }
-        AnyAnswer::No => print(b"no"),
-        AnyAnswer::Refused(why) => print_refusal(why),
+        AnyAnswer::No => rt.write_all(b"no")?,
+        AnyAnswer::Refused(why) => print_refusal(rt, why)?,
     }
-    print(b"\n");
+    rt.write_all(b"\n")
 }
 
 // Whether any stand is in a rectangle.
-pub(crate) fn print_any(index: Index, typed: &[u8], rect: Rect) {
+pub(crate) fn print_any(rt: &impl Print, index: Index, typed: &[u8], rect: Rect) -> io::Result<()> {
     let text = TEXT;
     let starts = STARTS;
     let east = EAST;
@@ -181,13 +184,22 @@ pub(crate) fn print_any(index: Index, typed: &[u8], rect: Rect) {
     let nodes = index.nodes;
     let entries = index.entries;
     let bits = index.bits;
-    print_yes_or_no(finder::any(
-        &text, &starts, &east, &north, &score, GRID, &order, &nodes, &entries, &bits, typed, rect,
-    ));
+    print_yes_or_no(
+        rt,
+        finder::any(
+            &text, &starts, &east, &north, &score, GRID, &order, &nodes, &entries, &bits, typed,
+            rect,
+        ),
+    )
 }
 
 // The same on the letters of a session.
-pub(crate) fn print_any_typed(index: Index, session: Session, rect: Rect) {
+pub(crate) fn print_any_typed(
+    rt: &impl Print,
+    index: Index,
+    session: Session,
+    rect: Rect,
+) -> io::Result<()> {
     let text = TEXT;
     let starts = STARTS;
     let east = EAST;
@@ -197,24 +209,38 @@ pub(crate) fn print_any_typed(index: Index, session: Session, rect: Rect) {
     let nodes = index.nodes;
     let entries = index.entries;
     let bits = index.bits;
-    print_yes_or_no(finder::any_typed(
-        &text, &starts, &east, &north, &score, GRID, &order, &nodes, &entries, &bits, session, rect,
-    ));
+    print_yes_or_no(
+        rt,
+        finder::any_typed(
+            &text, &starts, &east, &north, &score, GRID, &order, &nodes, &entries, &bits, session,
+            rect,
+        ),
+    )
 }
 
-fn print_best(answer: RankedAnswer, found: [u32; MOST], values: [u64; MOST]) {
+fn print_best(
+    rt: &impl Print,
+    answer: RankedAnswer,
+    found: [u32; MOST],
+    values: [u64; MOST],
+) -> io::Result<()> {
     match answer {
         RankedAnswer::Found(count) => {
-            print_words(b"stands", &found, count);
-            print_values(&values, count);
+            print_words(rt, b"stands", &found, count)?;
+            print_values(rt, &values, count)?;
         }
-        RankedAnswer::Refused(why) => print_refusal(why),
+        RankedAnswer::Refused(why) => print_refusal(rt, why)?,
     }
-    print(b"\n");
+    rt.write_all(b"\n")
 }
 
 // A ranked question with room for as many as may be asked for.
-pub(crate) fn print_ranked(index: Index, typed: &[u8], asked: Ranking) {
+pub(crate) fn print_ranked(
+    rt: &impl Print,
+    index: Index,
+    typed: &[u8],
+    asked: Ranking,
+) -> io::Result<()> {
     let text = TEXT;
     let starts = STARTS;
     let east = EAST;
@@ -242,11 +268,16 @@ pub(crate) fn print_ranked(index: Index, typed: &[u8], asked: Ranking) {
         &mut found,
         &mut values,
     );
-    print_best(answer, found, values);
+    print_best(rt, answer, found, values)
 }
 
 // The same on the letters of a session.
-pub(crate) fn print_ranked_typed(index: Index, session: Session, asked: Ranking) {
+pub(crate) fn print_ranked_typed(
+    rt: &impl Print,
+    index: Index,
+    session: Session,
+    asked: Ranking,
+) -> io::Result<()> {
     let text = TEXT;
     let starts = STARTS;
     let east = EAST;
@@ -274,12 +305,12 @@ pub(crate) fn print_ranked_typed(index: Index, session: Session, asked: Ranking)
         &mut found,
         &mut values,
     );
-    print_best(answer, found, values);
+    print_best(rt, answer, found, values)
 }
 
 // The path of a session, all its places.
-pub(crate) fn print_path(session: Session) {
+pub(crate) fn print_path(rt: &impl Print, session: Session) -> io::Result<()> {
     let path = session.path;
-    print_words(b"path", &path, Session::PATH as u32);
-    print(b"\n");
+    print_words(rt, b"path", &path, Session::PATH as u32)?;
+    rt.write_all(b"\n")
 }
