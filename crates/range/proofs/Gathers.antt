@@ -10,7 +10,7 @@ use lib.IntN.{ℤ}
 use lib.ListN.{length, drop, set, length-set}
 use lib.Seq.{sets, sets-eq}
 use borrow.Table.Steps.{cases}
-use Rattle.base.specs.Lists.{all, keep, written}
+use Rattle.base.specs.Lists.{keep, written}
 use Rattle.base.proofs.Tests.{never, and_parts}
 use Rattle.rules.specs.declared.Place.{Place}
 use Rattle.rules.specs.declared.Rect.{Rect}

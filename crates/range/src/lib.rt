@@ -47,7 +47,7 @@ fn fill(
     found: &mut [u32],
 ) -> RangeAnswer
     requires { Ready east.now north.now (noted_in east.now order.now entries.now first numbers.now) }
-    ensures { range_came_in result found ≡ looked (given east) (given north) rect (touched_stands (noted_in (given east) (given order) (given entries) first (given numbers)) (regions_in regions)) (given found) }
+    ensures { range_came_in result found ≡ looked (given east) (given north) rect (touched_stands (noted_in (given east) (given order) (given entries) first (given numbers)) (regions_in regions)) found.old }
 {
     let mut near = [0u32; NEAR];
     let Tally::Count(matches) = gather(
