@@ -22,7 +22,7 @@ use Rattle.meaning.specs.Adding as added
 use Rattle.meaning.specs.Adding.{shared_at}
 use Rattle.meaning.proofs.Tables.{under_all, under-run, past-root}
 use Rattle.meaning.proofs.Adding.{nodes_step, nodes_all, node_number, first_stand, past-stand, past-node, last_take}
-use Rattle.node.specs.Columns.{at, end_of, span, grown_of}
+use Rattle.node.specs.Columns.{end_of, span, grown_of}
 use Rattle.node.specs.Visits.{grown_before}
 use Rattle.node.specs.Rows.{last_of, past_number}
 use Rattle.node.proofs.Ends.{span_none, grown_last}
@@ -103,7 +103,7 @@ module _ (t : Table) (g : Grid) (l : LawfulTable t g) where
       let e : end_of (shared_of t) 0 0 ≡ stands t = end_all (shared_of t) ∙ shared_length_lem t in
       let z : stands t - 0 ≡ stands t = omega arith in
       let n : length (under t []) ≡ stands t = ap length (under_all t) ∙ length_from 0 (stands t) in
-      let f : first_of (under t []) ≡ 0 = ap first_of (under_all t) ∙ first_of (stands t) in
+      let f : first_of (under t []) ≡ 0 = ap first_of (under_all t) ∙ first_up_to (stands t) in
       record {
         size = refl;
         last = refl;
@@ -125,9 +125,9 @@ module _ (t : Table) (g : Grid) (l : LawfulTable t g) where
         within = omega (arith, e);
       }
     where
-      first_of : (n : ℕ) → first_of (up_to n) ≡ 0
-      first_of zero = refl
-      first_of (suc n) = refl
+      first_up_to : (n : ℕ) → first_of (up_to n) ≡ 0
+      first_up_to zero = refl
+      first_up_to (suc n) = refl
 
   pub meant_new : (i k : ℕ) → i < stands t → shared_at t i < k → k ≤ length (name_of t i) → Meant t i k (take k (name_of t i))
   meant_new i zero h c u = absurd (omega arith)

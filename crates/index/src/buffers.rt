@@ -2,7 +2,7 @@
 ghost use Rattle.std.specs.Prelude.{◌≡◌, ◌||◌, ◌*◌, ltb};
 ghost use Rattle.rules.specs.Indexes.{index_in};
 ghost use Rattle.node.specs.Columns.{columns_now, columns_in, LawfulColumns};
-ghost use Rattle.index.specs.Promises.{index_left};
+ghost use Rattle.index.specs.Promises.{index_given, index_left};
 ghost use Rattle.index.specs.Written.{BuiltFrom, CheckedFrom};
 
 use rules::layout::{ENTRY_WORDS, NODE_WORDS, RECORD_WORDS};
@@ -48,7 +48,7 @@ pub fn put_index(
     bits: &mut [u32],
 ) -> Built
     requires { LawfulColumns (columns_now text starts lengths shared region score) }
-    ensures { BuiltFrom (columns_in text starts lengths shared region score) (index_in order nodes entries bits) result (index_left order nodes entries bits) }
+    ensures { BuiltFrom (columns_in text starts lengths shared region score) (index_given order nodes entries bits) result (index_left order nodes entries bits) }
 {
     let all = count_nodes(lengths, shared);
     let counts = count(lengths, shared, region, all);

@@ -1,6 +1,5 @@
 // The columns that an index is reckoned from: of each stand the length of its name, how much of it the name before has too, its region.
 ghost use Rattle.std.specs.Prelude.{◌≡◌, ◌<◌, length, take};
-ghost use Rattle.base.specs.Lent.{given};
 ghost use Rattle.index.specs.Columns.{shared_in, lengths_in, shares_in, regions_over, Spelled, Located};
 
 use rules::{Grid, Place, Stand};
@@ -9,7 +8,7 @@ use table::names::{name_of, shared};
 // How many bytes a stand's name shares with the name before it; none before the first.
 fn shared_before(text: &[u8], starts: &[u32], stands: usize, stand: usize) -> u8
     requires { (Spelled text.now starts.now stands) × (stand < stands) }
-    ensures { result ≡ shared_in (given text) (given starts) stand }
+    ensures { result ≡ shared_in text.now starts.now stand }
 {
     if stand == 0 {
         return 0;
@@ -21,7 +20,7 @@ fn shared_before(text: &[u8], starts: &[u32], stands: usize, stand: usize) -> u8
 
 pub fn lengths(text: &[u8], starts: &[u32], stands: usize) -> [u8; Stand::MOST]
     requires { Spelled text.now starts.now stands }
-    ensures { take stands result ≡ lengths_in (given text) (given starts) stands }
+    ensures { take stands result ≡ lengths_in text.now starts.now stands }
 {
     let mut column = [0u8; Stand::MOST];
     let mut stand = 0;
@@ -35,7 +34,7 @@ pub fn lengths(text: &[u8], starts: &[u32], stands: usize) -> [u8; Stand::MOST]
 
 pub fn shares(text: &[u8], starts: &[u32], stands: usize) -> [u8; Stand::MOST]
     requires { Spelled text.now starts.now stands }
-    ensures { take stands result ≡ shares_in (given text) (given starts) stands }
+    ensures { take stands result ≡ shares_in text.now starts.now stands }
 {
     let mut column = [0u8; Stand::MOST];
     let mut stand = 0;
@@ -48,7 +47,7 @@ pub fn shares(text: &[u8], starts: &[u32], stands: usize) -> [u8; Stand::MOST]
 
 pub fn regions(east: &[i32], north: &[i32], grid: Grid) -> [u8; Stand::MOST]
     requires { Located east.now north.now grid }
-    ensures { take (length (given east)) result ≡ regions_over (given east) (given north) grid }
+    ensures { take (length east.now) result ≡ regions_over east.now north.now grid }
 {
     let mut column = [0u8; Stand::MOST];
     let mut stand = 0;

@@ -8,7 +8,7 @@ ghost use Rattle.std.specs.Prelude.{◌≡◌};
 ghost use Rattle.rules.specs.Numbers.{checked_numbers};
 ghost use Rattle.rules.specs.Tables.{table_in};
 ghost use Rattle.rules.specs.Indexes.{index_in, check_told};
-ghost use Rattle.index.specs.Promises.{BuildPromise, index_left};
+ghost use Rattle.index.specs.Promises.{BuildPromise, index_given, index_left};
 
 use buffers::{has_index, put_index};
 use columns::{lengths, regions, shares};
@@ -29,7 +29,7 @@ pub fn build(
     entries: &mut [u32],
     bits: &mut [u32],
 ) -> Built
-    ensures { BuildPromise (table_in text starts east north score) grid (index_in order nodes entries bits) result (index_left order nodes entries bits) }
+    ensures { BuildPromise (table_in text starts east north score) grid (index_given order nodes entries bits) result (index_left order nodes entries bits) }
 {
     let verdict = table_refusal(text, starts, east, north, score, grid);
     if let Verdict::Refused(why) = verdict {
