@@ -134,6 +134,7 @@ decimal_line =
   where
     no_feed : (d : ℕ) → OneLine ((48 + d) ∷ [])
     no_feed d (inl e) = omega arith
+    no_feed d (inr i) = elim i [ ]
 
 module _ (most : ℕ) where
   number_back : (n : ℕ) → n ≤ most → decimal_in most (decimal_of n) ≡ some n

@@ -97,9 +97,9 @@ read_back =
     record {
       decimal = decimal_law;
       signed = signed_law;
-      bytes_line_lem = bytes_law;
-      unsigned_line_lem = λ most key. value_law key (decimal_law most) decimal_line;
-      signed_line_lem = λ key. value_law key signed_law signed_line_lem;
+      bytes_line = bytes_law;
+      unsigned_line = λ most key. value_law key (decimal_law most) decimal_line;
+      signed_line = λ key. value_law key signed_law signed_line_lem;
     }
 
 -- what is behind a line goes on being read

@@ -71,11 +71,17 @@ module _ (most : ℕ) where
   leading_zero (b ∷ []) h e = absurd (omega arith)
   leading_zero (b ∷ c ∷ l) h e = rw (eq-eqb b 48 e)
 
-  pub no_leading_zero : (l : List ℕ) → (length l ≡ 0 → ⊥) → (1 < length l → get_or l 0 0 ≡ 48 → ⊥) → decimal_in most l ≡ grown_by most 0 l
+  pub one_digit : (l : List ℕ) → length l ≡ 1 → decimal_in most l ≡ grown_by most 0 l
   unfolding decimal_in well_led
-  no_leading_zero [] n e = absurd (n refl)
-  no_leading_zero (b ∷ []) n e = refl
-  no_leading_zero (b ∷ c ∷ l) n e = rw (ne_eqb b 48 (e (omega arith)))
+  one_digit [] e = absurd (omega arith)
+  one_digit (b ∷ []) e = refl
+  one_digit (b ∷ c ∷ l) e = absurd (omega arith)
+
+  pub no_leading_zero : (l : List ℕ) → 1 < length l → (get_or l 0 0 ≡ 48 → ⊥) → decimal_in most l ≡ grown_by most 0 l
+  unfolding decimal_in well_led
+  no_leading_zero [] h e = absurd (omega arith)
+  no_leading_zero (b ∷ []) h e = absurd (omega arith)
+  no_leading_zero (b ∷ c ∷ l) h e = rw (ne_eqb b 48 e)
 
 -- a line's value, where the line was got, and where it was not
 module _ {A : Type 0} (read : List ℕ → Option A) (key rest : List ℕ) where
