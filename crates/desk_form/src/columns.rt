@@ -1,7 +1,7 @@
 // The stands, laid out as the parts of a table: the names one after the other, where each begins, and a column for each number.
 // The parts are lent.
 ghost use Rattle.base.specs.Lent.{given};
-ghost use Rattle.rules.specs.Tables.{table_of, table_in};
+ghost use Rattle.rules.specs.Tables.{table_of};
 ghost use Rattle.desk_form.specs.Columns.{table_after};
 ghost use Rattle.desk_form.specs.Says.{RoomFor, SaysStands, NumbersRoom, NumbersLaid};
 

@@ -6,7 +6,7 @@ mod columns;
 mod group;
 
 ghost use Rattle.base.specs.Lent.{given};
-ghost use Rattle.rules.specs.Tables.{table_in};
+ghost use Rattle.rules.specs.Tables.{table_of};
 ghost use Rattle.desk_form.specs.Columns.{table_after};
 ghost use Rattle.desk_form.specs.Answers.{ReadsInput};
 
