@@ -207,6 +207,14 @@ pub with_first : (l : List ℕ) (at n : ℕ) (text starts : List ℕ) (east nort
 with_first l at n text starts east north score r =
     record { within = r.within; short = r.short; text = r.text; starts = rw (length-set starts 0 0) r.starts; east = r.east; north = r.north; score = r.score }
 
+-- so each part keeps its length while stands are laid behind that first start
+pub kept_long : (l : List ℕ) (at n : ℕ) (text starts : List ℕ) (east north : List ℤ) (score : List ℕ) (now : Table) (bytes next i : ℕ)
+    → RoomFor l at n (table_of text starts east north score) → Laying l at n (table_of text (set starts 0 0) east north score) now bytes next i
+    → SameLong now (table_of text starts east north score)
+kept_long l at n text starts east north score now bytes next i r s =
+    let h = lay_long l at n (table_of text (set starts 0 0) east north score) now bytes next i (with_first l at n text starts east north score r) s in
+    record { text = h.text; starts = h.starts ∙ length-set {A = ℕ} starts 0 0; east = h.east; north = h.north; score = h.score }
+
 -- and is part of what is laid
 over_first : (w s : List ℕ) → 0 < length w → laid_over w (set s 0 0) ≡ laid_over w s
 over_first w s h = ap (λ m. w ++ m) (drop-set-lt (length w) s 0 0 h)
