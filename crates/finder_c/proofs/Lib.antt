@@ -1,5 +1,4 @@
 -- What the proofs of several calls use; and that each call has one outcome.
-mod Lent
 mod Rests
 mod Told
 pub mod Settled
