@@ -1,5 +1,5 @@
 // The finder for C: a slice is a pointer and a length, an answer its numbers. The questions, building and checking hand on to the finder's
-// own calls; the keystrokes and the rest of a name to the steps by value under these, since a lent record is walked by hand.
+// own calls; the keystrokes and the rest of a name to the steps by value under these.
 // include/krzewido.h says the same to C. Nothing is asked of any argument: what the calls under these promise, these promise of the numbers.
 #![tactic(auto)]
 
@@ -12,7 +12,7 @@ ghost use Rattle.rules.specs.Outcomes.{room_in, rooms_in};
 ghost use Rattle.rules.specs.Indexes.{index_of, index_in, check_told};
 ghost use Rattle.rules.specs.Sessions.{fresh_session};
 ghost use Rattle.rules.specs.Promises.{RangePromise, AnyPromise, RankedPromise, TypedRangePromise, TypedAnyPromise, TypedRankedPromise};
-ghost use Rattle.index.specs.Promises.{BuildPromise, index_left};
+ghost use Rattle.index.specs.Promises.{BuildPromise, index_given, index_left};
 ghost use Rattle.session.specs.Promises.{TypePromise, RubPromise};
 ghost use Rattle.finder_c.specs.Told.{Tells, located_told, built_told, checked_told, found_told, any_told, found_in, founds_in, ranking_of, RestPart};
 
