@@ -2,7 +2,7 @@
 use mathlib.Core.Path.{ap, ◌∙◌}
 use native.Mathlib.Omega.{arith}
 use native.Mathlib.Numerals.{add-one}
-use Prim.Native.Nat.{ℕ, ◌+◌, ◌≤◌}
+use Prim.Native.Nat.{ℕ, ◌+◌}
 use Rattle.node.specs.Columns.{grown_of}
 use Rattle.node.proofs.Ends.{length-short, grown_small}
 use Rattle.node.proofs.Gathering.{past_is}
@@ -16,17 +16,15 @@ overflow_add-behind c = omega (arith, c.requires.run, c.requires.grows.few)
 
 pub overflow_add-result-2 : goal.overflow_add-result-2
 overflow_add-result-2 c =
-    let sum_fits : (c.word-own.result ≤ 24) × (c.grown-grew.result ≤ 24576) = let own = length-short _ _ c.requires.grows c.args.stand.0 in
+    let own = length-short _ _ c.requires.grows c.args.stand.0 in
     let grew = grown_small _ _ c.requires.grows (c.args.stand.0 + 1) c.args.past.0 c.requires.run.1 in
-    (omega (arith, c.word-own.ensures, c.value_at.ensures), omega (arith, c.grown-grew.ensures)) in
-    omega (arith, sum_fits, c.requires.low)
+    omega (arith, c.word-own.ensures, c.value_at.ensures, c.grown-grew.ensures, c.requires.low)
 
 pub overflow_add-result-3 : goal.overflow_add-result-3
 overflow_add-result-3 c =
-    let sum_fits : (c.word-own.result ≤ 24) × (c.grown-grew.result ≤ 24576) = let own = length-short _ _ c.requires.grows c.args.stand.0 in
+    let own = length-short _ _ c.requires.grows c.args.stand.0 in
     let grew = grown_small _ _ c.requires.grows (c.args.stand.0 + 1) c.args.past.0 c.requires.run.1 in
-    (omega (arith, c.word-own.ensures, c.value_at.ensures), omega (arith, c.grown-grew.ensures)) in
-    omega (arith, sum_fits, c.requires.low)
+    omega (arith, c.word-own.ensures, c.value_at.ensures, c.grown-grew.ensures, c.requires.low)
 
 pub returns : goal.returns
 returns c =

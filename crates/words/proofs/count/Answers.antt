@@ -14,9 +14,7 @@ pub regions_under-bits-requires : goal.regions_under-bits-requires
 regions_under-bits-requires c = let p = c.requires in (p.placed, p.grows.same ∙ sym p.same)
 
 pub kept-own-requires : goal.kept-own-requires
-kept-own-requires c =
-    let short : c.loop-cursor.cursor.length ≤ 24 = length_fits _ _ c.requires.grows c.loop-cursor.cursor (c.loop-cursor.invariant.way.on c.loop-cursor-test.true) in
-    short
+kept-own-requires c = length_fits _ _ c.requires.grows c.loop-cursor.cursor (c.loop-cursor.invariant.way.on c.loop-cursor-test.true)
 
 pub offset_bounds-regions-wide : goal.offset_bounds-regions-wide
 offset_bounds-regions-wide c =
