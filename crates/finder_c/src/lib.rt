@@ -9,7 +9,7 @@ ghost use Rattle.rules.specs.Numbers.{located_numbers, built_numbers, checked_nu
 ghost use Rattle.rules.specs.Places.{region_told};
 ghost use Rattle.rules.specs.Tables.{table_in};
 ghost use Rattle.rules.specs.Outcomes.{room_in, rooms_in};
-ghost use Rattle.rules.specs.Indexes.{index_of, index_in, check_told};
+ghost use Rattle.rules.specs.Indexes.{index_in, check_told};
 ghost use Rattle.rules.specs.Sessions.{fresh_session};
 ghost use Rattle.rules.specs.Promises.{RangePromise, AnyPromise, RankedPromise, TypedRangePromise, TypedAnyPromise, TypedRankedPromise};
 ghost use Rattle.index.specs.Promises.{BuildPromise, index_given, index_left};
@@ -205,7 +205,7 @@ pub extern "C" fn krz_build(
     entries: &mut [u32],
     bits: &mut [u32],
 ) -> Built
-    ensures { Tells built_numbers (λ a. BuildPromise (table_in text starts east north score) grid (index_of order.old nodes.old entries.old bits.old) a (index_left order nodes entries bits)) (built_told result) }
+    ensures { Tells built_numbers (λ a. BuildPromise (table_in text starts east north score) grid (index_given order nodes entries bits) a (index_left order nodes entries bits)) (built_told result) }
 {
     Built::of(finder::build(
         text, starts, east, north, score, grid, order, nodes, entries, bits,
