@@ -15,6 +15,8 @@ OTHERS = set("append take drop cons nil suc zero length set map reverse add mul 
 DEFINED = re.compile(r"^\s*((?:(?:abbrev|unfoldable|pub|data|record)\s+)*)([^\s:(){}.,;\[\]\"]+)((?:\s+[({].*?)?)\s*:\s(.*)$")
 # Lemmas whose name a definition gets now, and where they stand or are cited (None: everywhere).
 YIELDS = {"nearest_in": None, "has_words": ("index/proofs/Answers.antt",), "node_row": None, "place_at": None, "led_on": None, "passed_over": ("best/proofs/Streams.antt", "ranked/proofs/Offers.antt")}
+# Names of a law of the kit's getD, which is get_or today.
+SPELT = {"getD-in": "get_or_in", "get_d_rows": "get_or_rows"}
 TOKEN = re.compile(r"[^\s(){}\[\].,;:\"`«»∥|λ←∙⌜⌝]+")
 USE = re.compile(r"^\s*(?:ghost |pub )*use ([^\s{;]+?)(?:\.\{([^}]*)\})?(?: as (\S+?))?;?$")
 
@@ -41,8 +43,8 @@ def snake(word):
 
 def respelt(name, known):
     """The name as today's Rattle spells it."""
-    if name == "getD-in":
-        return "get_or_in"
+    if name in SPELT:
+        return SPELT[name]
     if name[0].isupper() and "-" not in name:
         return name
     parts = name.split("-")
