@@ -1,6 +1,6 @@
 -- `grid::strip` meets its contract: its loop's invariant is `Stepping`, whose laws are of proofs/Steps.antt. Seven steps are the most,
 -- as its measure tells. Assumes nothing.
-use Rattle.std.proofs.Common.{to_z-of_z, w64, to_z}
+use Rattle.std.proofs.Common.{arith, to_z-of_z, w64, to_z}
 use Rattle.grid.proofs.Signed.{widened, wide}
 use Rattle.grid.proofs.Steps.{Axis, Stepping, side_is, first_fits, first, next_fits, stepped, found_last, found_here}
 use Rattle.grid.proofs.strip.Goals as goal
@@ -11,9 +11,6 @@ axis c = record { edge_fits = c.ranges.edge; cell_fits = c.ranges.cell; x_fits =
 -- what the loop keeps, of the arguments and not of their bits
 stepping : (c : goal.After-loop-next) → Stepping c.args.edge c.args.cell c.args.x (to_z w64 c.loop-next.next-bits) c.loop-next.strip
 stepping c = rw (to_z-of_z c.ranges.edge, to_z-of_z c.ranges.x) at c.loop-next.invariant
-
-stepping_on : (c : goal.Then-strip-lt-LAST) → Stepping c.args.edge c.args.cell c.args.x (to_z w64 c.loop-next.next-bits) c.loop-next.strip
-stepping_on c = rw (to_z-of_z c.ranges.edge, to_z-of_z c.ranges.x) at c.loop-next.invariant
 
 pub overflow_cast-at : goal.overflow_cast-at
 overflow_cast-at c = widened c.args.x c.ranges.x
@@ -28,11 +25,14 @@ pub loop-next-init : goal.loop-next-init
 loop-next-init c = rw (wide c.args.edge c.ranges.edge, to_z-of_z c.ranges.edge, to_z-of_z c.ranges.x, side_is _ _ _ (axis c), to_z-of_z (first_fits _ _ _ (axis c))) (first _ _ _ (axis c))
 
 pub overflow_add-next-in-loop-next : goal.overflow_add-next-in-loop-next
-overflow_add-next-in-loop-next c = next_fits _ _ _ (axis c.before.before.before) _ _ (stepping_on c) c.if-strip-lt-LAST.true
+overflow_add-next-in-loop-next c =
+    let kept : Stepping c.args.edge c.args.cell c.args.x (to_z w64 c.loop-next.next-bits) c.loop-next.strip = rw (to_z-of_z c.ranges.edge, to_z-of_z c.ranges.x) at c.loop-next.invariant in
+    next_fits _ _ _ (axis c.before.before.before) _ _ kept (omega arith)
 
 pub loop-next-preserved : goal.loop-next-preserved
 loop-next-preserved c =
-    rw (to_z-of_z c.ranges.edge, to_z-of_z c.ranges.x) (stepped _ _ _ (axis c.before.before.before) _ _ (stepping_on c) c.if-strip-lt-LAST.true c.loop-next-test.true)
+    let kept : Stepping c.args.edge c.args.cell c.args.x (to_z w64 c.loop-next.next-bits) c.loop-next.strip = rw (to_z-of_z c.ranges.edge, to_z-of_z c.ranges.x) at c.loop-next.invariant in
+    rw (to_z-of_z c.ranges.edge, to_z-of_z c.ranges.x) (stepped _ _ _ (axis c.before.before.before) _ _ kept (omega arith) c.loop-next-test.true)
 
 pub returns-else-strip-lt-LAST : goal.returns-else-strip-lt-LAST
 returns-else-strip-lt-LAST c =

@@ -1,5 +1,6 @@
 -- `text::text_verdict` tests the length, then the bytes.
 -- Assumes nothing.
+use Rattle.std.proofs.Common.{◌≤◌, length, arith}
 use borrow.Author.Tests.{lt-ltb, le-ltb}
 use Rattle.base.proofs.Tests.{breaks, holds}
 use Rattle.base.proofs.Members.{length-each}
@@ -12,8 +13,12 @@ returns-then-typed-gt-NAME_MOST c = rw (length-each folded, lt-ltb _ _ c.if-type
 
 pub returns-then-not-typed_allowed : goal.returns-then-not-typed_allowed
 unfolding text_refusal
-returns-then-not-typed_allowed c = rw (length-each folded, le-ltb _ _ c.if-typed-gt-NAME_MOST.false, breaks _ _ c.typed_allowed.ensures c.if-not-typed_allowed.true-raw)
+returns-then-not-typed_allowed c =
+    let short : length c.args.typed.now ≤ 24 = omega arith in
+    rw (length-each folded, le-ltb _ _ short, breaks _ _ c.typed_allowed.ensures c.if-not-typed_allowed.true-raw)
 
 pub returns : goal.returns
 unfolding text_refusal
-returns c = rw (length-each folded, le-ltb _ _ c.if-typed-gt-NAME_MOST.false, holds _ _ c.typed_allowed.ensures c.if-not-typed_allowed.false-raw)
+returns c =
+    let short : length c.args.typed.now ≤ 24 = omega arith in
+    rw (length-each folded, le-ltb _ _ short, holds _ _ c.typed_allowed.ensures c.if-not-typed_allowed.false-raw)
