@@ -21,6 +21,7 @@ use table::text::text_verdict;
 use walk::listing::listing_at;
 
 // A session is refused 7 for a length that none has, else as its letters are.
+#[tactic(auto, using(crate::proofs::Ways::over))]
 fn letters_verdict(session: Session) -> Verdict
     ensures { verdict_number result ≡ letters_refusal session }
 {

@@ -113,6 +113,7 @@ pub fn decimal_in(digits: &[u8], most: u32) -> Decimal
 }
 
 // A signed number of 32 bits. 2,147,483,648 has only a negative, and 0 has none.
+#[tactic(auto, using(crate::proofs::Signs::minus_zero))]
 pub fn signed_in(digits: &[u8]) -> SignedDecimal
     ensures { result ≡ said_signed (signed_in (given digits)) }
 {

@@ -29,6 +29,7 @@ pub fn allowed(b: u8) -> bool
 }
 
 // A typed byte as it is read: a capital as its small letter, which stands 32 past it.
+#[tactic(auto, using(rules::proofs::Folds::read_capital, rules::proofs::Folds::read_below, rules::proofs::Folds::read_above))]
 pub fn folded(b: u8) -> u8
     ensures { result ≡ folded b }
 {

@@ -4,11 +4,8 @@ use native.Mathlib.Omega.{arith}
 use lib.ListN.{length}
 use lib.Seq.{length-take-le}
 use borrow.Author.Rules.{rules}
-use Rattle.letters.proofs.Ways.{over, within}
+use Rattle.letters.proofs.Ways.{within}
 use Rattle.letters.proofs.letters_verdict.Goals as goal
-
-pub returns-then-len-gt-NAME_MOST : goal.returns-then-len-gt-NAME_MOST
-returns-then-len-gt-NAME_MOST c = sym (over _ c.if-len-gt-NAME_MOST.true)
 
 pub slice_bounds-text-end : goal.slice_bounds-text-end
 slice_bounds-text-end c = let size : length c.args.session.text ≡ 24 = search rules in omega arith

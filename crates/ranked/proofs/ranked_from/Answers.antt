@@ -20,7 +20,7 @@ returns-then-not-lawful c = search (rules, from_unlawful, breaks)
 pub best_listed-requires : goal.best_listed-requires
 best_listed-requires c =
     let searchable : let a = c.args in Searchable a.grid a.asked a.found.now a.values.now = record {
-      asks = record { grid = holds _ _ c.lawful.ensures c.if-not-lawful.false-raw; ranking = holds _ _ c.rankable.ensures c.if-not-rankable.false-raw };
+      asks = record { grid = search rules; ranking = holds _ _ c.rankable.ensures c.if-not-rankable.false-raw };
       stands_fit = c.if-found-k.false;
       values_fit = c.if-values-k.false;
     } in
@@ -29,7 +29,7 @@ best_listed-requires c =
 pub returns-in-Entries : goal.returns-in-Entries
 returns-in-Entries c =
     let searchable : let a = c.args in Searchable a.grid a.asked a.found.now a.values.now = record {
-      asks = record { grid = holds _ _ c.lawful.ensures c.if-not-lawful.false-raw; ranking = holds _ _ c.rankable.ensures c.if-not-rankable.false-raw };
+      asks = record { grid = search rules; ranking = holds _ _ c.rankable.ensures c.if-not-rankable.false-raw };
       stands_fit = c.if-found-k.false;
       values_fit = c.if-values-k.false;
     } in
@@ -38,7 +38,7 @@ returns-in-Entries c =
 pub returns-in-Nowhere : goal.returns-in-Nowhere
 returns-in-Nowhere c =
     let searchable : let a = c.args in Searchable a.grid a.asked a.found.now a.values.now = record {
-      asks = record { grid = holds _ _ c.lawful.ensures c.if-not-lawful.false-raw; ranking = holds _ _ c.rankable.ensures c.if-not-rankable.false-raw };
+      asks = record { grid = search rules; ranking = holds _ _ c.rankable.ensures c.if-not-rankable.false-raw };
       stands_fit = c.if-found-k.false;
       values_fit = c.if-values-k.false;
     } in

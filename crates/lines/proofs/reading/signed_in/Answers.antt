@@ -1,7 +1,8 @@
 -- `signed_in` reads a signed number: with a sign, what is behind it is read, and is no 0.
 -- Assumes nothing.
 use mathlib.Core.Path.{sym}
-use Rattle.lines.proofs.Signs.{plain_none, plain_fits, plain_some, sign_there, minus_none, minus_zero, minus_fits, down_fits, minus_some}
+use borrow.Author.Rules.{rules}
+use Rattle.lines.proofs.Signs.{plain_none, plain_fits, plain_some, sign_there, minus_none, minus_fits, down_fits, minus_some}
 use Rattle.lines.proofs.reading.signed_in.Goals as goal
 
 pub returns-in_default : goal.returns-in_default
@@ -22,14 +23,11 @@ slice_bounds-decimal_in-count c = sign_there _ (sym c.if-not-begins.ensures)
 pub returns-in_default-decimal_in : goal.returns-in_default-decimal_in
 returns-in_default-decimal_in c = minus_none _ (sym c.if-not-begins.ensures) (sym c.in_default-decimal_in.ensures)
 
-pub returns-then-n-eq0 : goal.returns-then-n-eq0
-returns-then-n-eq0 c = minus_zero _ (sym c.if-not-begins.ensures) _ (sym c.in-Number-decimal_in.ensures) c.if-n-eq0.true
-
 pub overflow_cast-before : goal.overflow_cast-before
-overflow_cast-before c = minus_fits _ (sym c.if-not-begins.ensures) _ (sym c.in-Number-decimal_in.ensures) c.if-n-eq0.false
+overflow_cast-before c = minus_fits _ (sym c.if-not-begins.ensures) _ (sym c.in-Number-decimal_in.ensures) (search rules)
 
 pub overflow_sub-result : goal.overflow_sub-result
-overflow_sub-result c = down_fits _ (sym c.if-not-begins.ensures) _ (sym c.in-Number-decimal_in.ensures) c.if-n-eq0.false
+overflow_sub-result c = down_fits _ (sym c.if-not-begins.ensures) _ (sym c.in-Number-decimal_in.ensures) (search rules)
 
 pub returns : goal.returns
-returns c = minus_some _ (sym c.if-not-begins.ensures) _ (sym c.in-Number-decimal_in.ensures) c.if-n-eq0.false
+returns c = minus_some _ (sym c.if-not-begins.ensures) _ (sym c.in-Number-decimal_in.ensures) (search rules)
