@@ -66,15 +66,15 @@ module _ (s : Session) where
 
 module _ (t : Table) (g : Grid) (x : Index) (s : Session) where
   -- 7 for a length that no lawful session has, or as the letters are refused
-  refused_by : {Item Out : Type 0} (comesTo : ℕ → List Item → Out) (meant : List Item) (refused : ℕ → Out) (n : ℕ) → ((m : ℕ) (list : List Item) → (m ≡ 0 → ⊥) → comesTo m list ≡ refused m)
+  refused_by : {Item Out : Type 0} (comes_to : ℕ → List Item → Out) (meant : List Item) (refused : ℕ → Out) (n : ℕ) → ((m : ℕ) (list : List Item) → (m ≡ 0 → ⊥) → comes_to m list ≡ refused m)
       → (why : Refusal) → refusal_number why ≡ letters_refusal s
-      → Kept (LawfulBoth t g x s) (comesTo (first_given (text_refusal (folded_text (letters_of s))) n)) meant (refused 7) (refused (refusal_number why))
-  refused_by comesTo meant refused n whatever why e = step (refused_as s (refusal_number why) e)
+      → Kept (LawfulBoth t g x s) (comes_to (first_given (text_refusal (folded_text (letters_of s))) n)) meant (refused 7) (refused (refusal_number why))
+  refused_by comes_to meant refused n whatever why e = step (refused_as s (refusal_number why) e)
     where
       step : ((24 < s.len) × (refusal_number why ≡ 7)) ⊎ (refusal_number why ≡ text_refusal (folded_text (letters_of s)))
-          → Kept (LawfulBoth t g x s) (comesTo (first_given (text_refusal (folded_text (letters_of s))) n)) meant (refused 7) (refused (refusal_number why))
+          → Kept (LawfulBoth t g x s) (comes_to (first_given (text_refusal (folded_text (letters_of s))) n)) meant (refused 7) (refused (refusal_number why))
       step (inl (h, seven)) = record { exact = λ l. absurd (omega (arith, lawful-short t s l.session)); harmless = inl (ap refused seven) }
-      step (inr f) = text_refused (LawfulBoth t g x s) comesTo meant refused (folded_text (letters_of s)) n whatever why f
+      step (inr f) = text_refused (LawfulBoth t g x s) comes_to meant refused (folded_text (letters_of s)) n whatever why f
 
   -- where its path leads is the listing of its letters, which a lawful session has folded
   served : (at : Listing) (c : Child) → at ≡ listing_at x.nodes x.bits c → c ≡ reached s → LawfulBoth t g x s

@@ -38,9 +38,9 @@ any_refused zero list some = absurd (some refl)
 any_refused (suc n) list some = refl
 
 -- so its promise is kept
-pub refused-kept : {Item Out : Type 0} (Lawful : Type 0) (comesTo : List Item → Out) (meant : List Item) (seven o : Out)
-    → ((list : List Item) → comesTo list ≡ o) → Kept Lawful comesTo meant seven o
-refused-kept Lawful comesTo meant seven o h = record { exact = λ law. sym (h meant); harmless = inr (meant, sym (h meant)) }
+pub refused-kept : {Item Out : Type 0} (Lawful : Type 0) (comes_to : List Item → Out) (meant : List Item) (seven o : Out)
+    → ((list : List Item) → comes_to list ≡ o) → Kept Lawful comes_to meant seven o
+refused-kept Lawful comes_to meant seven o h = record { exact = λ law. sym (h meant); harmless = inr (meant, sym (h meant)) }
 
 -- ---- never 7
 
@@ -82,9 +82,9 @@ ranked_but_7 g p q hits rooms =
 -- ---- for the reader
 
 -- where its ground holds, no two outcomes keep a promise
-pub one_outcome : {Item Out : Type 0} (Lawful : Type 0) (comesTo : List Item → Out) (meant : List Item) (seven : Out) → Lawful → (o o' : Out)
-    → Kept Lawful comesTo meant seven o → Kept Lawful comesTo meant seven o' → o ≡ o'
-one_outcome Lawful comesTo meant seven law o o' k k' = k.exact law ∙ sym (k'.exact law)
+pub one_outcome : {Item Out : Type 0} (Lawful : Type 0) (comes_to : List Item → Out) (meant : List Item) (seven : Out) → Lawful → (o o' : Out)
+    → Kept Lawful comes_to meant seven o → Kept Lawful comes_to meant seven o' → o ≡ o'
+one_outcome Lawful comes_to meant seven law o o' k k' = k.exact law ∙ sym (k'.exact law)
 
 module _ (Lawful : Type 0) (law : Lawful) (t : Table) (g : Grid) (p : List ℕ) (rooms : List (List ℕ)) where
   -- and the outcome is the answer and the rooms; it is not refused 7

@@ -16,12 +16,12 @@ use Rattle.rules.specs.Sessions.{letters_of, LawfulSession}
 
 -- 7, or what some list comes to: so 9, 8, 11 and 12 are given as the rules say, and no more is written than is told
 abbrev pub Harmless : {Item Out : Type 0} → (List Item → Out) → (seven : Out) → Out → Type 0
-Harmless {Item} comesTo seven o = (o ≡ seven) ⊎ ((list : List Item) × (o ≡ comesTo list))
+Harmless {Item} comes_to seven o = (o ≡ seven) ⊎ ((list : List Item) × (o ≡ comes_to list))
 
 -- where Lawful holds, what the list that is meant comes to
-pub record Kept {Item Out : Type 0} (Lawful : Type 0) (comesTo : List Item → Out) (meant : List Item) (seven o : Out) : Type 0 where
-  pub exact : Lawful → o ≡ comesTo meant
-  pub harmless : Harmless comesTo seven o
+pub record Kept {Item Out : Type 0} (Lawful : Type 0) (comes_to : List Item → Out) (meant : List Item) (seven o : Out) : Type 0 where
+  pub exact : Lawful → o ≡ comes_to meant
+  pub harmless : Harmless comes_to seven o
 
 -- the questions on some letters
 abbrev pub RangeKept : Type 0 → Table → Grid → List ℕ → Rect → List (List ℕ) → Outcome → Type 0

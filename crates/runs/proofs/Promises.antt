@@ -62,14 +62,14 @@ record Places : Type 0 where
   east : List ℤ
   north : List ℤ
 
-module _ {Out : Type 0} (comesTo : ℕ → List ℕ → Out) (refused : ℕ → Out) (whatever : (n : ℕ) (list : List ℕ) → (n ≡ 0 → ⊥) → comesTo n list ≡ refused n)
+module _ {Out : Type 0} (comes_to : ℕ → List ℕ → Out) (refused : ℕ → Out) (whatever : (n : ℕ) (list : List ℕ) → (n ≡ 0 → ⊥) → comes_to n list ≡ refused n)
     (east north : List ℤ) (g : Grid) (order entries : List ℕ) (r : Rect) (o : Out) where
   abbrev answers : Look → Type 0
-  answers look = Answers comesTo refused east north order entries r look o
+  answers look = Answers comes_to refused east north order entries r look o
 
   -- ---- on any words: 7, or what some stands come to
 
-  harmless_by : (look : Look) → OnlySeven look → answers look → Harmless (comesTo 0) (refused 7) o
+  harmless_by : (look : Look) → OnlySeven look → answers look → Harmless (comes_to 0) (refused 7) o
   harmless_by (Look.regions wanted first numbers) only w = cases (agree east north order) (λ q. (w.agreed q).harmless) (λ q. inl (w.apart q))
   harmless_by Look.nothing only w = inr ([], w)
   harmless_by (Look.refused n) only w = inl (w ∙ ap refused only)
@@ -77,34 +77,34 @@ module _ {Out : Type 0} (comesTo : ℕ → List ℕ → Out) (refused : ℕ → 
   -- ---- on a lawful set what its range comes to
 
   module _ (edges : Edges r) (t : Table) (p : List ℕ) where
-    entries_exact : (cells : Cells) (first : ℕ) → Listed east north t.score g order entries (Entries cells first) t p → answers (listed_look g entries cells first r) → o ≡ comesTo 0 (range_list t g p r)
+    entries_exact : (cells : Cells) (first : ℕ) → Listed east north t.score g order entries (Entries cells first) t p → answers (listed_look g entries cells first r) → o ≡ comes_to 0 (range_list t g p r)
     entries_exact cells first l w =
         let x = index_of order l.nodes entries l.bits in
         let s = set_parts t g x l.lawful in
         let lists = entries_listed t g x s p cells first (sym l.listing) in
         let stands = seen t g x s p cells first lists r in
         let wanted = looked-at t g x s p cells first lists r in
-        let lent : Look → Type 0 = λ look. Answers comesTo refused t.east t.north order entries r look o in
+        let lent : Look → Type 0 = λ look. Answers comes_to refused t.east t.north order entries r look o in
         let same : ◌≡◌ {A = Places} (record { east = east; north = north }) (record { east = t.east; north = t.north }) = rw (l.easts, l.norths) in
-        let v : lent (listed_look g entries cells first r) = subst (λ (c : Places). Answers comesTo refused c.east c.north order entries r (listed_look g entries cells first r) o) same w in
+        let v : lent (listed_look g entries cells first r) = subst (λ (c : Places). Answers comes_to refused c.east c.north order entries r (listed_look g entries cells first r) o) same w in
         cases (is_empty wanted)
         (λ none.
         let is : listed_look g entries cells first r ≡ Look.nothing = look_is t g x s p cells first lists r ∙ rw none in
-        let u : o ≡ comesTo 0 [] = subst lent is v in
-        u ∙ ap (comesTo 0) (sym (meaning.none_ranged t g x s p cells first lists r edges none)))
+        let u : o ≡ comes_to 0 [] = subst lent is v in
+        u ∙ ap (comes_to 0) (sym (meaning.none_ranged t g x s p cells first lists r edges none)))
         (λ some.
         let is : listed_look g entries cells first r ≡ Look.regions wanted first (numbers t g x s p cells first lists) = look_is t g x s p cells first lists r ∙ rw some in
         let u = subst lent is v in
         let are = seen_are t g x s p cells first lists r in
         (u.agreed (agreed t g x s p cells first lists)).exact (ap (known t.east) are ∙ seen_known t g x s p cells first lists r)
-        ∙ ap (comesTo 0) (ap (keep (inside t.east t.north r)) are ∙ range_is t g x s p cells first lists r edges))
+        ∙ ap (comes_to 0) (ap (keep (inside t.east t.north r)) are ∙ range_is t g x s p cells first lists r edges))
 
-    at_exact : (at : Listing) → Listed east north t.score g order entries at t p → answers (straight_look g entries at r) → o ≡ comesTo 0 (range_list t g p r)
+    at_exact : (at : Listing) → Listed east north t.score g order entries at t p → answers (straight_look g entries at r) → o ≡ comes_to 0 (range_list t g p r)
     at_exact (Entries cells first) l w = entries_exact cells first l w
-    at_exact Nowhere l w = w ∙ ap (comesTo 0) (sym (none_ranged t g p r (nowhere_none t g p (sym l.listing))))
+    at_exact Nowhere l w = w ∙ ap (comes_to 0) (sym (none_ranged t g p r (nowhere_none t g p (sym l.listing))))
     at_exact Broken l w = absurd (never_broken t g p (sym l.listing))
 
-  pub look-kept : Edges r → (at : Listing) (look : Look) → look ≡ look_at g entries at r → answers look → RectFrom comesTo (refused 7) east north g order entries at r o
+  pub look-kept : Edges r → (at : Listing) (look : Look) → look ≡ look_at g entries at r → answers look → RectFrom comes_to (refused 7) east north g order entries at r o
   look-kept edges at look e w =
       cases (rect_lawful r)
       (λ straight.
@@ -114,5 +114,5 @@ module _ {Out : Type 0} (comesTo : ℕ → List ℕ → Out) (refused : ℕ → 
       (λ reversed.
       let is : look ≡ Look.refused 11 = e ∙ rw reversed in
       let a : o ≡ refused 11 = subst answers is w in
-      let all : (list : List ℕ) → o ≡ comesTo 11 list = λ list. a ∙ sym (whatever 11 list (λ z. omega arith)) in
+      let all : (list : List ℕ) → o ≡ comes_to 11 list = λ list. a ∙ sym (whatever 11 list (λ z. omega arith)) in
       rw reversed (record { exact = λ t p l. all (range_list t g p r); harmless = inr ([], all []) }))

@@ -1,5 +1,5 @@
 -- What a question about a rectangle promises that starts from a listing, and what it has to make of the stands that there are to look at.
--- comesTo is what a refusal and a list of stands come to.
+-- comes_to is what a refusal and a list of stands come to.
 use Rattle.std.specs.Prelude.{◌≡◌, true, false, List, [], ℕ, ℤ}
 use Rattle.base.specs.Lists.{keep}
 use Rattle.rules.specs.declared.Grid.{Grid}
@@ -12,21 +12,21 @@ use Rattle.runs.specs.Sights.{inside, known, noted_in, touched_stands, agree, Lo
 
 -- of a set it is lent the stands' places, the order and the entries; their scores may be any
 abbrev pub RectFrom : {Out : Type 0} → (ℕ → List ℕ → Out) → (seven : Out) → List ℤ → List ℤ → Grid → List ℕ → List ℕ → Listing → Rect → Out → Type 0
-RectFrom comesTo seven east north g order entries at r o =
-    FromPromise (λ t p. Listed east north t.score g order entries at t p) (comesTo (rect_refusal r)) (λ t p. range_list t g p r) seven o
+RectFrom comes_to seven east north g order entries at r o =
+    FromPromise (λ t p. Listed east north t.score g order entries at t p) (comes_to (rect_refusal r)) (λ t p. range_list t g p r) seven o
 
 -- what those in the rectangle come to, if all that were seen are of the table; of any others nothing that does harm
-pub record Sees {Out : Type 0} (comesTo : List ℕ → Out) (seven : Out) (east north : List ℤ) (rect : Rect) (seen : List ℕ) (o : Out) : Type 0 where
-  pub exact : known east seen ≡ true → o ≡ comesTo (keep (inside east north rect) seen)
-  pub harmless : Harmless comesTo seven o
+pub record Sees {Out : Type 0} (comes_to : List ℕ → Out) (seven : Out) (east north : List ℤ) (rect : Rect) (seen : List ℕ) (o : Out) : Type 0 where
+  pub exact : known east seen ≡ true → o ≡ comes_to (keep (inside east north rect) seen)
+  pub harmless : Harmless comes_to seven o
 
 -- columns that do not agree are refused 7
-pub record SeesRuns {Out : Type 0} (comesTo : List ℕ → Out) (seven : Out) (east north : List ℤ) (order : List ℕ) (rect : Rect) (seen : List ℕ) (o : Out) : Type 0 where
-  pub agreed : agree east north order ≡ true → Sees comesTo seven east north rect seen o
+pub record SeesRuns {Out : Type 0} (comes_to : List ℕ → Out) (seven : Out) (east north : List ℤ) (order : List ℕ) (rect : Rect) (seen : List ℕ) (o : Out) : Type 0 where
+  pub agreed : agree east north order ≡ true → Sees comes_to seven east north rect seen o
   pub apart : agree east north order ≡ false → o ≡ seven
 
 abbrev pub Answers : {Out : Type 0} → (ℕ → List ℕ → Out) → (ℕ → Out) → List ℤ → List ℤ → List ℕ → List ℕ → Rect → Look → Out → Type 0
-Answers comesTo refused east north order entries rect (Look.regions wanted first numbers) o =
-    SeesRuns (comesTo 0) (refused 7) east north order rect (touched_stands (noted_in east order entries first numbers) wanted) o
-Answers comesTo refused east north order entries rect Look.nothing o = o ≡ comesTo 0 []
-Answers comesTo refused east north order entries rect (Look.refused n) o = o ≡ refused n
+Answers comes_to refused east north order entries rect (Look.regions wanted first numbers) o =
+    SeesRuns (comes_to 0) (refused 7) east north order rect (touched_stands (noted_in east order entries first numbers) wanted) o
+Answers comes_to refused east north order entries rect Look.nothing o = o ≡ comes_to 0 []
+Answers comes_to refused east north order entries rect (Look.refused n) o = o ≡ refused n

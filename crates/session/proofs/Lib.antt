@@ -1,4 +1,4 @@
--- Laws of keystrokes: the steps by their tests, the session of a text, the promises kept; and what the walks of the thin calls share.
+-- Laws of keystrokes: the steps by their tests, the session of a text, the promises kept.
 pub mod Steps
 pub mod Letters
 pub mod Texts

@@ -18,6 +18,6 @@ pub record Listed (east north : List ℤ) (score : List ℕ) (g : Grid) (order e
   pub listing : at ≡ listing_of t g p
 
 -- Serves t p says that the question was lent the parts of a lawful set of table t, and the listing of the text p
-pub record FromPromise {Item Out : Type 0} (Serves : Table → List ℕ → Type 0) (comesTo : List Item → Out) (meant : Table → List ℕ → List Item) (seven o : Out) : Type 0 where
-  pub exact : (t : Table) (p : List ℕ) → Serves t p → o ≡ comesTo (meant t p)
-  pub harmless : Harmless comesTo seven o
+pub record FromPromise {Item Out : Type 0} (Serves : Table → List ℕ → Type 0) (comes_to : List Item → Out) (meant : Table → List ℕ → List Item) (seven o : Out) : Type 0 where
+  pub exact : (t : Table) (p : List ℕ) → Serves t p → o ≡ comes_to (meant t p)
+  pub harmless : Harmless comes_to seven o

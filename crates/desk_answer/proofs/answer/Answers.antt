@@ -1,4 +1,4 @@
--- `answer` reads, and hands the fronts of the columns and a part of the input to the finder; each helper says what was read.
+-- `answer` reads, and hands the fronts of the columns and a part of the input to the finder; each answer says what was read.
 -- Assumes nothing.
 use mathlib.Core.Path.{refl}
 use native.Mathlib.Omega.{arith}

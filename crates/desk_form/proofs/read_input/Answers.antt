@@ -1,4 +1,4 @@
--- `read_input` reads group after group, and nothing may stand behind the last; each helper says what one group left.
+-- `read_input` reads group after group, and nothing may stand behind the last; each answer says what one group left.
 -- Assumes nothing.
 use native.Mathlib.Omega.{arith}
 use borrow.Author.Rules.{rules}

@@ -1,4 +1,4 @@
--- `group::read_by` reads a stand's four lines in a row: each helper says what one line left.
+-- `group::read_by` reads a stand's four lines in a row: each answer says what one line left.
 -- Assumes nothing.
 use native.Mathlib.Omega.{arith}
 use mir.Syntax.{w32}

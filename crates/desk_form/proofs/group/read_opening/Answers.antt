@@ -1,4 +1,4 @@
--- `group::read_opening` reads the four lines of the grid in a row: each helper says what one of them left.
+-- `group::read_opening` reads the four lines of the grid in a row: each answer says what one of them left.
 -- Assumes nothing.
 use mir.Syntax.{w32}
 use mir.Facts.{to_z-of_z}

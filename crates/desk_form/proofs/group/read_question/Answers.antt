@@ -1,4 +1,4 @@
--- `group::read_question` reads four lines as a stand's, and k: each helper says what they left.
+-- `group::read_question` reads four lines as a stand's, and k: each answer says what they left.
 -- Assumes nothing.
 use mir.Syntax.{w32}
 use mir.Facts.{to_z-of_z}
