@@ -1,4 +1,4 @@
--- What the loop of `full` keeps.
+-- What the loop of `full` keeps: one letter fewer is left each time.
 use Prim.Native.Nat.{◌≤◌}
 use Rattle.scheme.proofs.full.Given as goal
 

@@ -1,4 +1,4 @@
--- What the loop of `answers::print_values` keeps.
+-- What the loop of `answers::print_values` keeps: it stays within the values.
 use Prim.Native.Nat.{◌-◌, ◌≤◌}
 use lib.ListN.{length}
 use Rattle.scheme.proofs.answers.print_values.Given as goal

@@ -1,4 +1,4 @@
--- What the loop of `answers::print_words` keeps.
+-- What the loop of `answers::print_words` keeps: it stays within the words.
 use Prim.Native.Nat.{◌-◌, ◌≤◌}
 use lib.ListN.{length}
 use Rattle.scheme.proofs.answers.print_words.Given as goal
