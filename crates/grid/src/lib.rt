@@ -3,7 +3,7 @@
 #![tactic(auto)]
 
 ghost use Rattle.std.specs.Prelude.{◌≡◌, ◌<◌, true};
-ghost use Rattle.rules.specs.Numbers.{located_numbers};
+ghost use Rattle.rules.specs.Numbers.{told_numbers};
 ghost use Rattle.rules.specs.Places.{edge_lawful, grid_lawful, within, in_grid, strip, region_of, region_told, rect_lawful, in_rect};
 
 pub mod cells;
@@ -12,7 +12,7 @@ mod roots;
 pub mod worth;
 
 use metres::lift;
-use rules::{Grid, Located, Place, Rect, Refusal};
+use rules::{Grid, Place, Rect, Refusal};
 use std::num::wrapping_sub_u64;
 
 // The grid's last column, and its last row.
@@ -59,16 +59,16 @@ pub fn region_of(grid: Grid, place: Place) -> u32
 }
 
 // The region of any place in any grid, or why there is none.
-pub fn locate(grid: Grid, place: Place) -> Located
-    ensures { located_numbers result ≡ region_told grid place }
+pub fn locate(grid: Grid, place: Place) -> Result<u32, Refusal>
+    ensures { told_numbers result ≡ region_told grid place }
 {
     if !lawful(grid) {
-        return Located::Refused(Refusal::GridOutsideLimits);
+        return Err(Refusal::GridOutsideLimits);
     }
     if !holds(grid, place) {
-        return Located::Refused(Refusal::QuestionOutsideLimits);
+        return Err(Refusal::QuestionOutsideLimits);
     }
-    Located::In(region_of(grid, place))
+    Ok(region_of(grid, place))
 }
 
 // Refusal 11 is for a rectangle that is not lawful: west over east, or south over north.

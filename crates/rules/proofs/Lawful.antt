@@ -13,8 +13,8 @@ use Rattle.base.specs.Lists.{begins}
 use Rattle.base.proofs.Tests.{missed, and_left, and_right, every-at, every_of}
 use Rattle.base.proofs.Scans.{all-at, all_of}
 use Rattle.rules.specs.declared.Grid.{Grid}
-use Rattle.rules.specs.declared.Verdict.{Verdict}
-use Rattle.rules.specs.declared.Verdict.TheVariants as verdict
+use Rattle.rules.specs.declared.Refusal.{Refusal}
+use Rattle.std.specs.Prelude.{Result, Ok}
 use Rattle.rules.specs.Numbers.{verdict_number}
 use Rattle.rules.specs.Places.{grid_lawful, in_grid}
 use Rattle.rules.specs.Names.{name_allowed, in_order, spanned, name}
@@ -121,8 +121,8 @@ module _ (t : Table) (g : Grid) where
         scored = λ i h. leb-true _ _ (and_right (in_grid g (place_of t i)) _ (all-at _ _ i p.places h));
       }
 
-  -- so for a caller whose verdict is Passed
-  pub granted : (v : Verdict) → verdict_number v ≡ table_refusal t g → v ≡ verdict.Passed → LawfulTable t g
+  -- so for a caller to whom Ok was answered
+  pub granted : (v : Result Unit Refusal) → verdict_number v ≡ table_refusal t g → v ≡ Ok tt → LawfulTable t g
   granted v e l = lawful (sym e ∙ ap verdict_number l)
 
   -- and such a table is not refused

@@ -10,21 +10,11 @@ use lib.ListN.{get_or}
 use borrow.Author.Tests.{eqb-false}
 use Rattle.rules.specs.declared.Refusal.{Refusal}
 use Rattle.rules.specs.declared.Refusal.TheVariants.{TableMisshapen, GridOutsideLimits, NameNotAllowed, NamesOutOfOrder, StandNotAllowed, BufferTooSmall, NotLawful, TextByteNotAllowed, TextTooLong, NothingToRubOut, RectReversed, QuestionOutsideLimits, RoomTooSmall, InputMalformed}
-use Rattle.rules.specs.declared.Verdict.{Verdict}
-use Rattle.rules.specs.declared.Verdict.TheVariants as verdict
-use Rattle.rules.specs.declared.Located.{Located}
-use Rattle.rules.specs.declared.Located.TheVariants as located
-use Rattle.rules.specs.declared.Built.{Built}
-use Rattle.rules.specs.declared.Built.TheVariants as built
-use Rattle.rules.specs.declared.Checked.{Checked}
-use Rattle.rules.specs.declared.Checked.TheVariants as checked
-use Rattle.rules.specs.declared.RangeAnswer.{RangeAnswer}
-use Rattle.rules.specs.declared.RangeAnswer.TheVariants as range
-use Rattle.rules.specs.declared.AnyAnswer.{AnyAnswer}
-use Rattle.rules.specs.declared.AnyAnswer.TheVariants as any
-use Rattle.rules.specs.declared.RankedAnswer.{RankedAnswer}
-use Rattle.rules.specs.declared.RankedAnswer.TheVariants as ranked
-use Rattle.rules.specs.Numbers.{refusal_number, Told, BuildTold, CheckTold, AnyTold, verdict_number, located_numbers, built_numbers, checked_numbers, range_numbers, any_numbers, ranked_numbers}
+use Rattle.rules.specs.declared.RangeRefusal.{RangeRefusal}
+use Rattle.rules.specs.declared.Sizes.{Sizes}
+use Rattle.rules.specs.declared.Stand.{Stand}
+use Rattle.std.specs.Prelude.{Option, Some, None, Result, Ok, Err}
+use Rattle.rules.specs.Numbers.{refusal_number, Told, BuildTold, CheckTold, AnyTold, verdict_number, told_numbers, built_numbers, checked_numbers, range_numbers, any_numbers}
 
 -- the refusals in the order of their numbers
 in_turn : List Refusal
@@ -72,49 +62,44 @@ refusal_some r e = eqb-false (refusal_number r) 0 (refusal_back r).1 e
 pub one_refusal : (a b : Refusal) → refusal_number a ≡ refusal_number b → a ≡ b
 one_refusal a b e = sym (refusal_back a).0 ∙ ap refusal_of e ∙ (refusal_back b).0
 
-pub one_verdict : (v w : Verdict) → verdict_number v ≡ verdict_number w → v ≡ w
-one_verdict verdict.Passed verdict.Passed e = refl
-one_verdict verdict.Passed (verdict.Refused r) e = absurd (refusal_some r (sym e))
-one_verdict (verdict.Refused r) verdict.Passed e = absurd (refusal_some r e)
-one_verdict (verdict.Refused r) (verdict.Refused s) e = ap verdict.Refused (one_refusal r s e)
+pub one_verdict : (v w : Result Unit Refusal) → verdict_number v ≡ verdict_number w → v ≡ w
+one_verdict (Ok u) (Ok v) e = refl
+one_verdict (Ok u) (Err r) e = absurd (refusal_some r (sym e))
+one_verdict (Err r) (Ok u) e = absurd (refusal_some r e)
+one_verdict (Err r) (Err s) e = ap Err (one_refusal r s e)
 
-pub one_located : (l m : Located) → located_numbers l ≡ located_numbers m → l ≡ m
-one_located (located.In a) (located.In b) e = ap (λ (n : Told). located.In n.number) e
-one_located (located.In a) (located.Refused r) e = absurd (refusal_some r (sym (ap (λ (n : Told). n.refusal) e)))
-one_located (located.Refused r) (located.In a) e = absurd (refusal_some r (ap (λ (n : Told). n.refusal) e))
-one_located (located.Refused r) (located.Refused s) e = ap located.Refused (one_refusal r s (ap (λ (n : Told). n.refusal) e))
+pub one_told : (a b : Result ℕ Refusal) → told_numbers a ≡ told_numbers b → a ≡ b
+one_told (Ok n) (Ok m) e = ap (λ (n : Told). Ok n.number) e
+one_told (Ok n) (Err r) e = absurd (refusal_some r (sym (ap (λ (n : Told). n.refusal) e)))
+one_told (Err r) (Ok n) e = absurd (refusal_some r (ap (λ (n : Told). n.refusal) e))
+one_told (Err r) (Err s) e = ap Err (one_refusal r s (ap (λ (n : Told). n.refusal) e))
 
-pub one_built : (a b : Built) → built_numbers a ≡ built_numbers b → a ≡ b
-one_built (built.Index n e b) (built.Index m f c) s = ap (λ (n : BuildTold). built.Index n.nodes n.entries n.bits) s
-one_built (built.Index n e b) (built.Refused r) s = absurd (refusal_some r (sym (ap (λ (n : BuildTold). n.refusal) s)))
-one_built (built.Refused r) (built.Index n e b) s = absurd (refusal_some r (ap (λ (n : BuildTold). n.refusal) s))
-one_built (built.Refused r) (built.Refused q) s = ap built.Refused (one_refusal r q (ap (λ (n : BuildTold). n.refusal) s))
+pub one_built : (a b : Result Sizes Refusal) → built_numbers a ≡ built_numbers b → a ≡ b
+one_built (Ok s) (Ok u) e = ap (λ (n : BuildTold). Ok (record { nodes = n.nodes; entries = n.entries; bits = n.bits })) e
+one_built (Ok s) (Err r) e = absurd (refusal_some r (sym (ap (λ (n : BuildTold). n.refusal) e)))
+one_built (Err r) (Ok s) e = absurd (refusal_some r (ap (λ (n : BuildTold). n.refusal) e))
+one_built (Err r) (Err q) e = ap Err (one_refusal r q (ap (λ (n : BuildTold). n.refusal) e))
 
-pub one_checked : (c d : Checked) → checked_numbers c ≡ checked_numbers d → c ≡ d
-one_checked (checked.Lawful n e b) (checked.Lawful m f k) s = ap (λ (n : CheckTold). checked.Lawful n.nodes n.entries n.bits) s
-one_checked (checked.Lawful n e b) checked.Unlawful s = absurd (omega (arith, ap (λ (n : CheckTold). n.lawful) s))
-one_checked checked.Unlawful (checked.Lawful n e b) s = absurd (omega (arith, ap (λ (n : CheckTold). n.lawful) s))
-one_checked checked.Unlawful checked.Unlawful s = refl
+pub one_checked : (c d : Option Sizes) → checked_numbers c ≡ checked_numbers d → c ≡ d
+one_checked (Some s) (Some u) e = ap (λ (n : CheckTold). Some (record { nodes = n.nodes; entries = n.entries; bits = n.bits })) e
+one_checked (Some s) None e = absurd (omega (arith, ap (λ (n : CheckTold). n.lawful) e))
+one_checked None (Some s) e = absurd (omega (arith, ap (λ (n : CheckTold). n.lawful) e))
+one_checked None None e = refl
 
-pub one_range : (a b : RangeAnswer) → range_numbers a ≡ range_numbers b → a ≡ b
-one_range (range.Found n) (range.Found m) e = ap (λ (n : Told). range.Found n.number) e
-one_range (range.Found n) (range.Refused r m) e = absurd (refusal_some r (sym (ap (λ (n : Told). n.refusal) e)))
-one_range (range.Refused r m) (range.Found n) e = absurd (refusal_some r (ap (λ (n : Told). n.refusal) e))
-one_range (range.Refused r m) (range.Refused s n) e = ap₂ range.Refused (one_refusal r s (ap (λ (n : Told). n.refusal) e)) (ap (λ (n : Told). n.number) e)
+pub one_range : (a b : Result ℕ RangeRefusal) → range_numbers a ≡ range_numbers b → a ≡ b
+one_range (Ok n) (Ok m) e = ap (λ (n : Told). Ok n.number) e
+one_range (Ok n) (Err r) e = absurd (refusal_some r.why (sym (ap (λ (n : Told). n.refusal) e)))
+one_range (Err r) (Ok n) e = absurd (refusal_some r.why (ap (λ (n : Told). n.refusal) e))
+one_range (Err r) (Err s) e =
+    ap₂ (λ why matches. Err (record { why = why; matches = matches })) (one_refusal r.why s.why (ap (λ (n : Told). n.refusal) e)) (ap (λ (n : Told). n.number) e)
 
-pub one_any : (a b : AnyAnswer) → any_numbers a ≡ any_numbers b → a ≡ b
-one_any (any.Yes s) (any.Yes u) e = ap (λ (n : AnyTold). any.Yes (record { 0 = n.stand })) e
-one_any (any.Yes s) any.No e = absurd (omega (arith, ap (λ (n : AnyTold). n.yes) e))
-one_any (any.Yes s) (any.Refused r) e = absurd (refusal_some r (sym (ap (λ (n : AnyTold). n.refusal) e)))
-one_any any.No (any.Yes u) e = absurd (omega (arith, ap (λ (n : AnyTold). n.yes) e))
-one_any any.No any.No e = refl
-one_any any.No (any.Refused r) e = absurd (refusal_some r (sym (ap (λ (n : AnyTold). n.refusal) e)))
-one_any (any.Refused r) (any.Yes s) e = absurd (refusal_some r (ap (λ (n : AnyTold). n.refusal) e))
-one_any (any.Refused r) any.No e = absurd (refusal_some r (ap (λ (n : AnyTold). n.refusal) e))
-one_any (any.Refused r) (any.Refused s) e = ap any.Refused (one_refusal r s (ap (λ (n : AnyTold). n.refusal) e))
-
-pub one_ranked : (a b : RankedAnswer) → ranked_numbers a ≡ ranked_numbers b → a ≡ b
-one_ranked (ranked.Found n) (ranked.Found m) e = ap (λ (n : Told). ranked.Found n.number) e
-one_ranked (ranked.Found n) (ranked.Refused r) e = absurd (refusal_some r (sym (ap (λ (n : Told). n.refusal) e)))
-one_ranked (ranked.Refused r) (ranked.Found n) e = absurd (refusal_some r (ap (λ (n : Told). n.refusal) e))
-one_ranked (ranked.Refused r) (ranked.Refused s) e = ap ranked.Refused (one_refusal r s (ap (λ (n : Told). n.refusal) e))
+pub one_any : (a b : Result (Option Stand) Refusal) → any_numbers a ≡ any_numbers b → a ≡ b
+one_any (Ok (Some s)) (Ok (Some u)) e = ap (λ (n : AnyTold). Ok (Some (record { 0 = n.stand }))) e
+one_any (Ok (Some s)) (Ok None) e = absurd (omega (arith, ap (λ (n : AnyTold). n.yes) e))
+one_any (Ok (Some s)) (Err r) e = absurd (refusal_some r (sym (ap (λ (n : AnyTold). n.refusal) e)))
+one_any (Ok None) (Ok (Some u)) e = absurd (omega (arith, ap (λ (n : AnyTold). n.yes) e))
+one_any (Ok None) (Ok None) e = refl
+one_any (Ok None) (Err r) e = absurd (refusal_some r (sym (ap (λ (n : AnyTold). n.refusal) e)))
+one_any (Err r) (Ok (Some s)) e = absurd (refusal_some r (ap (λ (n : AnyTold). n.refusal) e))
+one_any (Err r) (Ok None) e = absurd (refusal_some r (ap (λ (n : AnyTold). n.refusal) e))
+one_any (Err r) (Err s) e = ap Err (one_refusal r s (ap (λ (n : AnyTold). n.refusal) e))

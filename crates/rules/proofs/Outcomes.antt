@@ -14,17 +14,18 @@ use Rattle.rules.specs.declared.Grid.{Grid}
 use Rattle.rules.specs.declared.Rect.{Rect}
 use Rattle.rules.specs.declared.Ranking.{Ranking}
 use Rattle.rules.specs.declared.Hit.{Hit}
-use Rattle.rules.specs.declared.RangeAnswer.{RangeAnswer}
-use Rattle.rules.specs.declared.AnyAnswer.{AnyAnswer}
-use Rattle.rules.specs.declared.RankedAnswer.{RankedAnswer}
-use Rattle.rules.specs.Numbers.{Told, AnyTold, refusing_any, first_given, range_numbers, any_numbers, ranked_numbers}
+use Rattle.rules.specs.declared.Refusal.{Refusal}
+use Rattle.rules.specs.declared.RangeRefusal.{RangeRefusal}
+use Rattle.rules.specs.declared.Stand.{Stand}
+use Rattle.std.specs.Prelude.{Option, Result}
+use Rattle.rules.specs.Numbers.{Told, AnyTold, refusing_any, first_given, range_numbers, any_numbers, told_numbers}
 use Rattle.rules.specs.Names.{allowed, text_refusal}
 use Rattle.rules.specs.Places.{rect_lawful}
 use Rattle.rules.specs.Tables.{Table}
 use Rattle.rules.specs.Questions.{range_list, ranking, ranking_lawful, range_refusal, ranked_refusal}
 use Rattle.rules.specs.Outcomes.{Outcome, refused, room_for, settled, range_outcome, any_outcome, ranked_outcome, range_came, ranked_came}
 use Rattle.rules.specs.Promises.{Kept, RangeKept, AnyKept, RankedKept}
-use Rattle.rules.proofs.Numbers.{one_range, one_any, one_ranked}
+use Rattle.rules.proofs.Numbers.{one_range, one_any, one_told}
 
 -- ---- a refusal
 
@@ -89,31 +90,31 @@ one_outcome Lawful comes_to meant seven law o o' k k' = k.exact law ∙ sym (k'.
 module _ (Lawful : Type 0) (law : Lawful) (t : Table) (g : Grid) (p : List ℕ) (rooms : List (List ℕ)) where
   -- and the outcome is the answer and the rooms; it is not refused 7
   module _ (r : Rect) where
-    pub range_one_outcome : (a a' : RangeAnswer) (found found' : List ℕ) → RangeKept Lawful t g p r rooms (range_came a found) → RangeKept Lawful t g p r rooms (range_came a' found')
+    pub range_one_outcome : (a a' : Result ℕ RangeRefusal) (found found' : List ℕ) → RangeKept Lawful t g p r rooms (range_came a found) → RangeKept Lawful t g p r rooms (range_came a' found')
         → (a ≡ a') × (found ≡ found')
     range_one_outcome a a' found found' k k' =
         let same = one_outcome Lawful _ _ _ law _ _ k k' in
         (one_range a a' (ap (λ (o : Outcome). o.told) same), ap (λ (o : Outcome). get_or o.rooms 0 []) same)
 
-    pub range_never_7 : (a : RangeAnswer) (found : List ℕ) → RangeKept Lawful t g p r rooms (range_came a found) → (range_numbers a).refusal ≡ 7 → ⊥
+    pub range_never_7 : (a : Result ℕ RangeRefusal) (found : List ℕ) → RangeKept Lawful t g p r rooms (range_came a found) → (range_numbers a).refusal ≡ 7 → ⊥
     range_never_7 a found k e = range_but_7 p r (range_list t g p r) rooms (sym (ap (λ (o : Outcome). o.told.refusal) (k.exact law)) ∙ e)
 
-    pub any_one_outcome : (a a' : AnyAnswer) → AnyKept Lawful t g p r (any_numbers a) → AnyKept Lawful t g p r (any_numbers a') → a ≡ a'
+    pub any_one_outcome : (a a' : Result (Option Stand) Refusal) → AnyKept Lawful t g p r (any_numbers a) → AnyKept Lawful t g p r (any_numbers a') → a ≡ a'
     any_one_outcome a a' k k' = one_any a a' (one_outcome Lawful _ _ _ law _ _ k k')
 
-    pub any_never_7 : (a : AnyAnswer) → AnyKept Lawful t g p r (any_numbers a) → (any_numbers a).refusal ≡ 7 → ⊥
+    pub any_never_7 : (a : Result (Option Stand) Refusal) → AnyKept Lawful t g p r (any_numbers a) → (any_numbers a).refusal ≡ 7 → ⊥
     any_never_7 a k e = any_but_7 p r (range_list t g p r) (sym (ap (λ (o : AnyTold). o.refusal) (k.exact law)) ∙ e)
 
   module _ (q : Ranking) where
-    pub ranked_one_outcome : (a a' : RankedAnswer) (found values found' values' : List ℕ)
+    pub ranked_one_outcome : (a a' : Result ℕ Refusal) (found values found' values' : List ℕ)
         → RankedKept Lawful t g p q rooms (ranked_came a found values) → RankedKept Lawful t g p q rooms (ranked_came a' found' values')
         → (a ≡ a') × (found ≡ found') × (values ≡ values')
     ranked_one_outcome a a' found values found' values' k k' =
         let same = one_outcome Lawful _ _ _ law _ _ k k' in (
-          one_ranked a a' (ap (λ (o : Outcome). o.told) same),
+          one_told a a' (ap (λ (o : Outcome). o.told) same),
           ap (λ (o : Outcome). get_or o.rooms 0 []) same,
           ap (λ (o : Outcome). get_or o.rooms 1 []) same,
         )
 
-    pub ranked_never_7 : (a : RankedAnswer) (found values : List ℕ) → RankedKept Lawful t g p q rooms (ranked_came a found values) → (ranked_numbers a).refusal ≡ 7 → ⊥
+    pub ranked_never_7 : (a : Result ℕ Refusal) (found values : List ℕ) → RankedKept Lawful t g p q rooms (ranked_came a found values) → (told_numbers a).refusal ≡ 7 → ⊥
     ranked_never_7 a found values k e = ranked_but_7 g p q (ranking t g p q) rooms (sym (ap (λ (o : Outcome). o.told.refusal) (k.exact law)) ∙ e)

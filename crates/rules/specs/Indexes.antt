@@ -4,6 +4,7 @@ use Rattle.std.specs.Prelude.{Bool, false, cond, not, ◌||◌, List, [], ◌∷
 use Rattle.base.specs.Lists.{every, from_on, up_to, keep, each, each_list, total, largest, first_of, is_empty, same_list, sort_by, begins, position_in, written, leads}
 use Rattle.base.specs.Bits.{word_of}
 use Rattle.base.specs.Lent.{Lent, given}
+use Rattle.rules.specs.declared.Index as lent
 use Rattle.rules.specs.declared.Grid.{Grid}
 use Rattle.rules.specs.Numbers.{first_given, BuildTold, CheckTold}
 use Rattle.rules.specs.Places.{regions}
@@ -138,9 +139,13 @@ pub record Index : Type 0 where
 abbrev pub index_of : List ℕ → List ℕ → List ℕ → List ℕ → Index
 index_of order nodes entries bits = record { order = order; nodes = nodes; entries = entries; bits = bits }
 
--- the index that a call is lent
+-- the index that a call is lent, buffer by buffer
 abbrev pub index_in : Lent (List ℕ) → Lent (List ℕ) → Lent (List ℕ) → Lent (List ℕ) → Index
 index_in order nodes entries bits = index_of (given order) (given nodes) (given entries) (given bits)
+
+-- or lent as one
+abbrev pub lent_index : lent.Index → Index
+lent_index x = index_of x.order.now x.nodes.now x.entries.now x.bits.now
 
 -- 6: a buffer is too small
 unfoldable pub too_small : Table → Grid → Index → Bool

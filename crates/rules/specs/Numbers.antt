@@ -1,22 +1,11 @@
 -- The number of each refusal, and the numbers that each answer stands for.
 -- A refusal's number is 0 where nothing is refused; with a refusal every other number is 0, but for a range's room.
-use Rattle.std.specs.Prelude.{ℕ, zero, suc}
+use Rattle.std.specs.Prelude.{ℕ, zero, suc, Option, Some, None, Result, Ok, Err}
 use Rattle.rules.specs.declared.Refusal.{Refusal}
 use Rattle.rules.specs.declared.Refusal.TheVariants.{TableMisshapen, GridOutsideLimits, NameNotAllowed, NamesOutOfOrder, StandNotAllowed, BufferTooSmall, NotLawful, TextByteNotAllowed, TextTooLong, NothingToRubOut, RectReversed, QuestionOutsideLimits, RoomTooSmall, InputMalformed}
-use Rattle.rules.specs.declared.Verdict.{Verdict}
-use Rattle.rules.specs.declared.Verdict.TheVariants as verdict
-use Rattle.rules.specs.declared.Located.{Located}
-use Rattle.rules.specs.declared.Located.TheVariants as located
-use Rattle.rules.specs.declared.Built.{Built}
-use Rattle.rules.specs.declared.Built.TheVariants as built
-use Rattle.rules.specs.declared.Checked.{Checked}
-use Rattle.rules.specs.declared.Checked.TheVariants as checked
-use Rattle.rules.specs.declared.RangeAnswer.{RangeAnswer}
-use Rattle.rules.specs.declared.RangeAnswer.TheVariants as range
-use Rattle.rules.specs.declared.AnyAnswer.{AnyAnswer}
-use Rattle.rules.specs.declared.AnyAnswer.TheVariants as any
-use Rattle.rules.specs.declared.RankedAnswer.{RankedAnswer}
-use Rattle.rules.specs.declared.RankedAnswer.TheVariants as ranked
+use Rattle.rules.specs.declared.RangeRefusal.{RangeRefusal}
+use Rattle.rules.specs.declared.Sizes.{Sizes}
+use Rattle.rules.specs.declared.Stand.{Stand}
 
 abbrev pub refusal_number : Refusal → ℕ
 refusal_number TableMisshapen = 1
@@ -79,31 +68,33 @@ telling_yes stand = record { refusal = 0; yes = 1; stand = stand }
 abbrev pub telling_no : AnyTold
 telling_no = record { refusal = 0; yes = 0; stand = 0 }
 
-abbrev pub verdict_number : Verdict → ℕ
-verdict_number verdict.Passed = 0
-verdict_number (verdict.Refused r) = refusal_number r
+-- a range's refusal that tells of no matches
+abbrev pub range_refused : Refusal → RangeRefusal
+range_refused r = record { why = r; matches = 0 }
 
-abbrev pub located_numbers : Located → Told
-located_numbers (located.In region) = telling region
-located_numbers (located.Refused r) = refusing (refusal_number r)
+-- what each call's result stands for
+abbrev pub verdict_number : Result Unit Refusal → ℕ
+verdict_number (Ok u) = 0
+verdict_number (Err r) = refusal_number r
 
-abbrev pub built_numbers : Built → BuildTold
-built_numbers (built.Index nodes entries bits) = record { refusal = 0; nodes = nodes; entries = entries; bits = bits }
-built_numbers (built.Refused r) = record { refusal = refusal_number r; nodes = 0; entries = 0; bits = 0 }
+-- of a place its region, and of a ranked question how many stands it found
+abbrev pub told_numbers : Result ℕ Refusal → Told
+told_numbers (Ok n) = telling n
+told_numbers (Err r) = refusing (refusal_number r)
 
-abbrev pub checked_numbers : Checked → CheckTold
-checked_numbers (checked.Lawful nodes entries bits) = record { lawful = 1; nodes = nodes; entries = entries; bits = bits }
-checked_numbers checked.Unlawful = record { lawful = 0; nodes = 0; entries = 0; bits = 0 }
+abbrev pub built_numbers : Result Sizes Refusal → BuildTold
+built_numbers (Ok s) = record { refusal = 0; nodes = s.nodes; entries = s.entries; bits = s.bits }
+built_numbers (Err r) = record { refusal = refusal_number r; nodes = 0; entries = 0; bits = 0 }
 
-abbrev pub range_numbers : RangeAnswer → Told
-range_numbers (range.Found n) = telling n
-range_numbers (range.Refused r matches) = record { refusal = refusal_number r; number = matches }
+abbrev pub checked_numbers : Option Sizes → CheckTold
+checked_numbers (Some s) = record { lawful = 1; nodes = s.nodes; entries = s.entries; bits = s.bits }
+checked_numbers None = record { lawful = 0; nodes = 0; entries = 0; bits = 0 }
 
-abbrev pub any_numbers : AnyAnswer → AnyTold
-any_numbers (any.Yes s) = telling_yes s.0
-any_numbers any.No = telling_no
-any_numbers (any.Refused r) = refusing_any (refusal_number r)
+abbrev pub range_numbers : Result ℕ RangeRefusal → Told
+range_numbers (Ok n) = telling n
+range_numbers (Err r) = record { refusal = refusal_number r.why; number = r.matches }
 
-abbrev pub ranked_numbers : RankedAnswer → Told
-ranked_numbers (ranked.Found n) = telling n
-ranked_numbers (ranked.Refused r) = refusing (refusal_number r)
+abbrev pub any_numbers : Result (Option Stand) Refusal → AnyTold
+any_numbers (Ok (Some s)) = telling_yes s.0
+any_numbers (Ok None) = telling_no
+any_numbers (Err r) = refusing_any (refusal_number r)

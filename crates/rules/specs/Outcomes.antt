@@ -1,12 +1,12 @@
 -- What a question comes to once its list is known: what is told, and what its rooms hold afterwards.
 -- Questions has the list that is meant; here it may be any.
-use Rattle.std.specs.Prelude.{Bool, cond, List, [], ◌∷◌, ℕ, zero, suc, leb, length, take}
+use Rattle.std.specs.Prelude.{Bool, Result, cond, List, [], ◌∷◌, ℕ, zero, suc, leb, length, take}
 use Rattle.base.specs.Lists.{all, each, written}
 use Rattle.base.specs.Lent.{LentMut, given_mut, after}
 use Rattle.rules.specs.declared.Hit.{Hit}
-use Rattle.rules.specs.declared.RangeAnswer.{RangeAnswer}
-use Rattle.rules.specs.declared.RankedAnswer.{RankedAnswer}
-use Rattle.rules.specs.Numbers.{Told, telling, refusing, AnyTold, refusing_any, telling_yes, telling_no, range_numbers, ranked_numbers}
+use Rattle.rules.specs.declared.Refusal.{Refusal}
+use Rattle.rules.specs.declared.RangeRefusal.{RangeRefusal}
+use Rattle.rules.specs.Numbers.{Told, telling, refusing, AnyTold, refusing_any, telling_yes, telling_no, range_numbers, told_numbers}
 
 -- what a call told, and each of its rooms after it
 pub record Outcome : Type 0 where
@@ -17,11 +17,11 @@ abbrev pub outcome : Told → List (List ℕ) → Outcome
 outcome told rooms = record { told = told; rooms = rooms }
 
 -- of a range with its one room, and of a ranked question with its rooms for stands and for values
-abbrev pub range_came : RangeAnswer → List ℕ → Outcome
+abbrev pub range_came : Result ℕ RangeRefusal → List ℕ → Outcome
 range_came a found = outcome (range_numbers a) (found ∷ [])
 
-abbrev pub ranked_came : RankedAnswer → List ℕ → List ℕ → Outcome
-ranked_came a found values = outcome (ranked_numbers a) (found ∷ values ∷ [])
+abbrev pub ranked_came : Result ℕ Refusal → List ℕ → List ℕ → Outcome
+ranked_came a found values = outcome (told_numbers a) (found ∷ values ∷ [])
 
 -- the rooms that a call is lent, and what came of the call
 abbrev pub room_in : LentMut (List ℕ) → List (List ℕ)
@@ -30,10 +30,10 @@ room_in found = given_mut found ∷ []
 abbrev pub rooms_in : LentMut (List ℕ) → LentMut (List ℕ) → List (List ℕ)
 rooms_in found values = given_mut found ∷ given_mut values ∷ []
 
-abbrev pub range_came_in : RangeAnswer → LentMut (List ℕ) → Outcome
+abbrev pub range_came_in : Result ℕ RangeRefusal → LentMut (List ℕ) → Outcome
 range_came_in a found = range_came a (after found)
 
-abbrev pub ranked_came_in : RankedAnswer → LentMut (List ℕ) → LentMut (List ℕ) → Outcome
+abbrev pub ranked_came_in : Result ℕ Refusal → LentMut (List ℕ) → LentMut (List ℕ) → Outcome
 ranked_came_in a found values = ranked_came a (after found) (after values)
 
 -- a refusal leaves every room as it was

@@ -4,6 +4,7 @@ use Rattle.std.specs.Prelude.{◌≡◌, Bool, true, cond, not, ◌&&◌, List, 
 use Rattle.base.specs.Lists.{all, every, up_to}
 use Rattle.base.specs.Lent.{Lent, given}
 use Rattle.rules.specs.declared.Grid.{Grid}
+use Rattle.rules.specs.declared.Table as lent
 use Rattle.rules.specs.declared.Place.{Place}
 use Rattle.rules.specs.Places.{grid_lawful, in_grid}
 use Rattle.rules.specs.Names.{allowed, name_allowed, in_order, name}
@@ -18,9 +19,13 @@ pub record Table : Type 0 where
 abbrev pub table_of : List ℕ → List ℕ → List ℤ → List ℤ → List ℕ → Table
 table_of text starts east north score = record { text = text; starts = starts; east = east; north = north; score = score }
 
--- the table that a call is lent
+-- the table that a call is lent, part by part
 abbrev pub table_in : Lent (List ℕ) → Lent (List ℕ) → Lent (List ℤ) → Lent (List ℤ) → Lent (List ℕ) → Table
 table_in text starts east north score = table_of (given text) (given starts) (given east) (given north) (given score)
+
+-- or lent as one
+abbrev pub lent_table : lent.Table → Table
+lent_table t = table_of t.text.now t.starts.now t.east.now t.north.now t.score.now
 
 -- N
 abbrev pub stands : Table → ℕ

@@ -1,10 +1,12 @@
-// What the finder's calls are given and what they answer: places, numberings, questions, the session, refusals.
+// What the finder's calls are given and what they answer: the table and its index, places, numberings, questions, the session, refusals.
 // Code reads a limit here, at the type that it belongs to; specs/ has the rules, with their numbers written out.
 #![tactic(auto)]
 
 ghost use Rattle.std.specs.Prelude.{◌≡◌};
-ghost use Rattle.rules.specs.Numbers.{refusal_number, verdict_number};
+ghost use Rattle.rules.specs.Numbers.{refusal_number, range_refused};
 ghost use Rattle.rules.specs.Sessions.{fresh_session};
+ghost use Rattle.rules.specs.declared.Refusal.{Refusal};
+ghost use Rattle.rules.specs.declared.Refusal.TheVariants.{NotLawful};
 
 pub mod layout;
 
@@ -49,6 +51,33 @@ impl Grid {
     pub const SIDE: u32 = 8;
 
     pub const REGIONS: usize = (Grid::SIDE * Grid::SIDE) as usize;
+}
+
+// A table of stands, as it is lent: all names one after the other, where each begins and the last one ends, and a column for each number.
+#[derive(Clone, Copy)]
+pub struct Table<'a> {
+    pub text: &'a [u8],
+    pub starts: &'a [u32],
+    pub east: &'a [i32],
+    pub north: &'a [i32],
+    pub score: &'a [u32],
+}
+
+// The four buffers of an index, lent to be read.
+#[derive(Clone, Copy)]
+pub struct Index<'a> {
+    pub order: &'a [u32],
+    pub nodes: &'a [u32],
+    pub entries: &'a [u32],
+    pub bits: &'a [u32],
+}
+
+// What a question is put to.
+#[derive(Clone, Copy)]
+pub struct Set<'a> {
+    pub table: Table<'a>,
+    pub grid: Grid,
+    pub index: Index<'a>,
 }
 
 #[repr(C)]
@@ -114,10 +143,10 @@ impl Session {
     }
 }
 
-// Why a call refuses, in the order of their numbers, from 1.
-#[derive(Clone, Copy)]
+// Why a call refuses, by the numbers that it is known by.
+#[derive(Clone, Copy, Debug, PartialEq, Eq)]
 pub enum Refusal {
-    TableMisshapen,
+    TableMisshapen = 1,
     GridOutsideLimits,
     NameNotAllowed,
     NamesOutOfOrder,
@@ -133,87 +162,53 @@ pub enum Refusal {
     InputMalformed,
 }
 
-impl Refusal {
-    pub fn number(self) -> u32
-        ensures { result ≡ refusal_number self }
-    {
-        match self {
-            Refusal::TableMisshapen => 1,
-            Refusal::GridOutsideLimits => 2,
-            Refusal::NameNotAllowed => 3,
-            Refusal::NamesOutOfOrder => 4,
-            Refusal::StandNotAllowed => 5,
-            Refusal::BufferTooSmall => 6,
-            Refusal::NotLawful => 7,
-            Refusal::TextByteNotAllowed => 8,
-            Refusal::TextTooLong => 9,
-            Refusal::NothingToRubOut => 10,
-            Refusal::RectReversed => 11,
-            Refusal::QuestionOutsideLimits => 12,
-            Refusal::RoomTooSmall => 13,
-            Refusal::InputMalformed => 14,
-        }
+impl From<Refusal> for u32 {
+    ghost from_gives = { λ why n. n ≡ refusal_number why };
+
+    fn from(why: Refusal) -> u32 {
+        why as u32
     }
 }
 
-// Whether a table is taken, or a keystroke.
-#[derive(Clone, Copy)]
-pub enum Verdict {
-    Passed,
-    Refused(Refusal),
-}
+// Some words are not those of an index. Wherever that shows, the set is refused as not lawful.
+#[derive(Clone, Copy, Debug, PartialEq, Eq)]
+pub struct Broken;
 
-impl Verdict {
-    // The refusal's number, or 0.
-    pub fn number(self) -> u32
-        ensures { result ≡ verdict_number self }
-    {
-        match self {
-            Verdict::Passed => 0,
-            Verdict::Refused(why) => why.number(),
-        }
+impl From<Broken> for Refusal {
+    ghost from_gives = { λ _ why. why ≡ NotLawful };
+
+    fn from(_: Broken) -> Refusal {
+        Refusal::NotLawful
     }
 }
 
-// The region of a place.
-#[derive(Clone, Copy)]
-pub enum Located {
-    In(u32),
-    Refused(Refusal),
+// Why a range question is refused; for want of room, also how many stands match.
+#[derive(Clone, Copy, Debug, PartialEq, Eq)]
+pub struct RangeRefusal {
+    pub why: Refusal,
+    pub matches: u32,
 }
 
-// What building wrote: how many nodes, entries and bit records.
-#[derive(Clone, Copy)]
-pub enum Built {
-    Index { nodes: u32, entries: u32, bits: u32 },
-    Refused(Refusal),
+impl From<Refusal> for RangeRefusal {
+    ghost from_gives = { λ why refused. refused ≡ range_refused why };
+
+    fn from(why: Refusal) -> RangeRefusal {
+        RangeRefusal { why, matches: 0 }
+    }
 }
 
-// Whether a set is lawful, and what its index has.
-#[derive(Clone, Copy)]
-pub enum Checked {
-    Lawful { nodes: u32, entries: u32, bits: u32 },
-    Unlawful,
+impl From<Broken> for RangeRefusal {
+    ghost from_gives = { λ _ refused. refused ≡ range_refused NotLawful };
+
+    fn from(_: Broken) -> RangeRefusal {
+        RangeRefusal::from(Refusal::NotLawful)
+    }
 }
 
-// How many stands a range question wrote to its room; a refusal for want of room tells how many match.
-#[derive(Clone, Copy)]
-pub enum RangeAnswer {
-    Found(u32),
-    Refused { why: Refusal, matches: u32 },
-}
-
-// Whether any stand is in a range: yes, with the first of the range's list, or no.
-#[derive(Clone, Copy)]
-pub enum AnyAnswer {
-    Yes(Stand),
-    No,
-    Refused(Refusal),
-}
-
-// How many stands a ranked question wrote to its rooms.
-#[derive(Clone, Copy)]
-pub enum RankedAnswer {
-    Found(u32),
-    Refused(Refusal),
+// How many nodes, entries and bit records an index has.
+#[derive(Clone, Copy, Debug, PartialEq, Eq)]
+pub struct Sizes {
+    pub nodes: u32,
+    pub entries: u32,
+    pub bits: u32,
 }

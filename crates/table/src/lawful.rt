@@ -2,10 +2,10 @@
 // Only the last asks something of its parts, that they are as long as each other; the first tests that.
 ghost use Rattle.std.specs.Prelude.{◌≡◌, length};
 ghost use Rattle.base.specs.Lent.{given};
-ghost use Rattle.rules.specs.Tables.{table_in, rising, shape_lawful, names_allowed, names_in_order, stands_lawful};
+ghost use Rattle.rules.specs.Tables.{lent_table, rising, shape_lawful, names_allowed, names_in_order, stands_lawful};
 
 use crate::names::{in_order, name_allowed, name_of};
-use rules::{Grid, Place, Stand};
+use rules::{Grid, Place, Stand, Table};
 
 // Whether no start is below the one before it.
 fn rising(starts: &[u32]) -> bool
@@ -22,9 +22,16 @@ fn rising(starts: &[u32]) -> bool
 }
 
 // Refusal 1. That there is one start more than stands comes first, so that the first and the last can be read.
-pub fn shape_lawful(text: &[u8], starts: &[u32], east: &[i32], north: &[i32], score: &[u32]) -> bool
-    ensures { result ≡ shape_lawful (table_in text starts east north score) }
+pub fn shape_lawful(table: Table) -> bool
+    ensures { result ≡ shape_lawful (lent_table table.entry) }
 {
+    let Table {
+        text,
+        starts,
+        east,
+        north,
+        score,
+    } = table;
     let stands = score.len();
     if Stand::MOST < stands {
         return false;

@@ -7,7 +7,7 @@ ghost use Rattle.rules.specs.Numbers.{verdict_number};
 ghost use Rattle.rules.specs.Names.{allowed, folded_text, text_refusal};
 
 use crate::names::{allowed, folded};
-use rules::{Refusal, Stand, Verdict};
+use rules::{Refusal, Stand};
 
 // What is judged is the byte folded. One that is allowed as it stands is itself when folded, which spares the fold.
 fn typed_allowed(typed: &[u8]) -> bool
@@ -28,14 +28,14 @@ fn typed_allowed(typed: &[u8]) -> bool
 }
 
 // The first of refusals 9 and 8 that holds.
-pub fn text_verdict(typed: &[u8]) -> Verdict
+pub fn text_verdict(typed: &[u8]) -> Result<(), Refusal>
     ensures { verdict_number result ≡ text_refusal (folded_text (given typed)) }
 {
     if Stand::NAME_MOST < typed.len() {
-        return Verdict::Refused(Refusal::TextTooLong);
+        return Err(Refusal::TextTooLong);
     }
     if !typed_allowed(typed) {
-        return Verdict::Refused(Refusal::TextByteNotAllowed);
+        return Err(Refusal::TextByteNotAllowed);
     }
-    Verdict::Passed
+    Ok(())
 }

@@ -35,7 +35,7 @@ unfolding shape_lawful
 returns-then-not-rising c = sym (every_not _ 5 (breaks _ _ c.rising.ensures c.if-not-rising.true-raw))
 
 pub overflow_cast-starts : goal.overflow_cast-starts
-overflow_cast-starts c = omega (arith, c.shared_slice_known-5-1.given (length c.args.score.now))
+overflow_cast-starts c = omega (arith, c.shared_slice_known-2-1.given (length c.args.table.score.now))
 
 pub returns-then-starts-stands-2 : goal.returns-then-starts-stands-2
 unfolding shape_lawful
