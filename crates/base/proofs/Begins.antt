@@ -4,7 +4,7 @@ use mathlib.Core.Path.{◌≡◌, refl, sym, ap, ◌∙◌}
 use mathlib.Core.Logic.{◌⊎◌, inl, inr, ⊎_elim}
 use mathlib.Core.Bool.{Bool, true, false, ◌&&◌, false≢true}
 use mathlib.Core.List.{List, [], ◌∷◌, ◌++◌}
-use Prim.Native.Nat.{ℕ, zero, suc, ◌+◌, ◌≤◌, ◌<◌}
+use Prim.Native.Nat.{ℕ, zero, suc, ◌+◌, ◌≤◌, ◌<◌, min}
 use native.Mathlib.Numerals.{add-one}
 use native.Mathlib.Omega.{arith}
 use lib.Dec.{eqb, eqb-zero-suc, eqb-suc-suc}
@@ -13,7 +13,7 @@ use lib.Seq.{drop-cons, take-take, take_all, take-length, get_or-take, length-ta
 use borrow.Table.Steps.{cases}
 use borrow.Author.Tests.{eqb-true, eqb-false, eq-eqb, ne_eqb}
 use Rattle.base.specs.Lists.{begins, same_list, shared_length, In}
-use Rattle.base.proofs.Tests.{never, and_parts}
+use Rattle.base.proofs.Tests.{never, and_parts, le_or_lt}
 
 pub begins_cases : (a b : ℕ) (p n : List ℕ) → begins (a ∷ p) (b ∷ n) ≡ true → (a ≡ b) × (begins p n ≡ true)
 begins_cases a b p n e = let t = and_parts (eqb a b) (begins p n) e in (eqb-true a b t.0, t.1)
@@ -119,11 +119,21 @@ module _ (a b : List ℕ) where
   pub differ : (i : ℕ) → i < length a → i < length b → (get_or a i 0 ≡ get_or b i 0 → ⊥) → Sharing a b i → i ≡ shared_length a b
   differ i h k e s = ends i s (rw (drop-cons a i 0 h, drop-cons b i 0 k, ne_eqb _ _ e))
 
-  pub ended : (i : ℕ) → length a ≤ i → Sharing a b i → i ≡ shared_length a b
+  ended : (i : ℕ) → length a ≤ i → Sharing a b i → i ≡ shared_length a b
   ended i h s = ends i s (rw (drop_of_length-le a h))
 
-  pub ended_other : (i : ℕ) → i < length a → length b ≤ i → Sharing a b i → i ≡ shared_length a b
+  ended_other : (i : ℕ) → i < length a → length b ≤ i → Sharing a b i → i ≡ shared_length a b
   ended_other i h k s = ends i s (rw (drop-cons a i 0 h, drop_of_length-le b k))
+
+  -- past the end of the shorter one
+  pub ended_shorter : (i most : ℕ) → most ≡ min (length a) (length b) → most ≤ i → Sharing a b i → most ≡ shared_length a b
+  ended_shorter i most m h s =
+      let same : most ≡ i = grind (arith, m, h, s.within, s.within_other) in
+      same
+      ∙ ⊎_elim
+        (λ (long : length a ≤ i). ended i long s)
+        (λ (short : i < length a). let k : length b ≤ i = grind (arith, m, h, short) in ended_other i short k s)
+        (le_or_lt (length a) i)
 
 -- a list begins with p where all of p is shared
 pub begins_shared : (p n : List ℕ) → begins p n ≡ eqb (shared_length p n) (length p)

@@ -14,3 +14,4 @@ pub mod Machine
 pub mod Rows
 pub mod Sums
 pub mod Rooms
+pub mod Chains

@@ -1,5 +1,8 @@
 -- Lists, as the finder's definitions use them: runs of numbers, tests, filters, sums, sorts.
--- `cond`, `&&`, `||`, `length`, `take`, `drop` and `get_or` are the library's.
+-- `cond`, `&&`, `||`, `length`, `take`, `drop` and `get_or` are the library's; where the library has a list function by another name, ours is
+-- that one, so that a chain of iterators is proved to compute it.
+use Rattle.std.specs.List.{list_all, filter}
+use mathlib.Core.List.{map}
 use Rattle.std.specs.Prelude.{◌≡◌, ◌⊎◌, Bool, true, false, cond, ◌&&◌, ◌||◌, List, [], ◌∷◌, ◌++◌, ℕ, zero, suc, ◌+◌, eqb, ltb, length, drop}
 
 -- n numbers from a on: a, a + 1, ..
@@ -23,13 +26,11 @@ Pairwise {A} R (x ∷ l) = ((y : A) → In y l → R x y) × Pairwise R l
 
 -- those that pass the test, in their order
 abbrev pub keep : {A : Type 0} → (A → Bool) → List A → List A
-keep p [] = []
-keep p (x ∷ xs) = cond (p x) (x ∷ keep p xs) (keep p xs)
+keep p xs = filter p xs
 
 -- whether every element passes the test
 abbrev pub all : {A : Type 0} → (A → Bool) → List A → Bool
-all p [] = true
-all p (x ∷ xs) = p x && all p xs
+all p xs = list_all p xs
 
 -- whether each of these tests holds
 unfoldable pub every : List Bool → Bool
@@ -38,8 +39,7 @@ every (b ∷ bs) = b && every bs
 
 -- f of each element
 abbrev pub each : {A B : Type 0} → (A → B) → List A → List B
-each f [] = []
-each f (x ∷ xs) = f x ∷ each f xs
+each f xs = map f xs
 
 -- the lists that f gives, one after the other
 abbrev pub each_list : {A B : Type 0} → (A → List B) → List A → List B

@@ -7,7 +7,9 @@ use Prim.Native.Nat.{ℕ, ◌+◌, ◌/◌, ◌%◌, ◌≤◌, ◌<◌}
 use native.Mathlib.Omega.{arith}
 use lib.Dec.{leb}
 use borrow.Table.Steps.{cases}
-use borrow.Author.Tests.{leb-true, le-leb, lt-leb}
+use borrow.Author.Tests.{leb-true, ltb-true, ltb-false, le-leb, lt-leb}
+use Rattle.std.specs.Prelude.{nat_lt}
+use Rattle.std.specs.Char.{to_ascii_lowercase}
 use Rattle.base.specs.Lists.{all}
 use Rattle.base.proofs.Tests.{never, refuted, and_parts}
 use Rattle.base.proofs.Members.{length-each}
@@ -47,15 +49,19 @@ module _ (b : ℕ) where
   fold_other e = rw e
 
   -- range by range
-  pub read_capital : 65 ≤ b → b < 91 → b + 32 ≡ folded b
+  read_capital : 65 ≤ b → b < 91 → b + 32 ≡ folded b
   unfolding capital
   read_capital h k = sym (fold_capital (rw (le-leb 65 b h, le-leb b 90 (omega arith))))
 
-  pub read_below : b < 65 → b ≡ folded b
+  read_below : b < 65 → b ≡ folded b
   read_below h = sym (fold_other (below_capitals h))
 
-  pub read_above : 91 ≤ b → b ≡ folded b
+  read_above : 91 ≤ b → b ≡ folded b
   read_above h = sym (fold_other (above_capitals h))
+
+  -- as the library makes a small letter
+  pub read_lowercase : to_ascii_lowercase b ≡ folded b
+  read_lowercase = cases (nat_lt b 65) (λ e. rw e (read_below (ltb-true b 65 e))) (λ e. cases (nat_lt b 91) (λ d. rw (e, d) (read_capital (ltb-false b 65 e) (ltb-true b 91 d))) (λ d. rw (e, d) (read_above (ltb-false b 91 d))))
 
   -- or by the bit 32, which no capital has
   pub read_plain : b / 32 % 2 ≡ 1 → b ≡ folded b

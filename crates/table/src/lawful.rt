@@ -11,14 +11,7 @@ use rules::{Grid, Place, Stand, Table};
 fn rising(starts: &[u32]) -> bool
     ensures { result ≡ rising (given starts) }
 {
-    let mut i = 0;
-    while i + 1 < starts.len() {
-        if starts[i + 1] < starts[i] {
-            return false;
-        }
-        i += 1;
-    }
-    true
+    (1..starts.len()).all(|i| starts[i - 1] <= starts[i])
 }
 
 // Refusal 1. That there is one start more than stands comes first, so that the first and the last can be read.
@@ -61,30 +54,17 @@ pub fn shape_lawful(table: Table) -> bool
 pub fn names_allowed(text: &[u8], starts: &[u32], stands: u32) -> bool
     ensures { result ≡ names_allowed (given text) (given starts) stands }
 {
-    let mut i = 0;
-    while i < stands {
-        if !name_allowed(name_of(text, starts, Stand(i))) {
-            return false;
-        }
-        i += 1;
-    }
-    true
+    (0..stands).all(|i| name_allowed(name_of(text, starts, Stand(i))))
 }
 
 // Refusal 4. Neighbours are enough, since the byte order carries over a name between.
 pub fn names_in_order(text: &[u8], starts: &[u32], stands: u32) -> bool
     ensures { result ≡ names_in_order (given text) (given starts) stands }
 {
-    let mut i = 0;
-    while i + 1 < stands {
-        let a = name_of(text, starts, Stand(i));
-        let b = name_of(text, starts, Stand(i + 1));
-        if !in_order(a, b) {
-            return false;
-        }
-        i += 1;
-    }
-    true
+    (1..stands).all(|i| {
+        let before = name_of(text, starts, Stand(i - 1));
+        in_order(before, name_of(text, starts, Stand(i)))
+    })
 }
 
 // Refusal 5.
@@ -92,19 +72,11 @@ pub fn stands_lawful(east: &[i32], north: &[i32], score: &[u32], grid: Grid) -> 
     requires { (length east.now ≡ length score.now) × (length north.now ≡ length score.now) }
     ensures { result ≡ stands_lawful (given east) (given north) (given score) grid }
 {
-    let mut i = 0;
-    while i < score.len() {
+    (0..score.len()).all(|i| {
         let place = Place {
             east: east[i],
             north: north[i],
         };
-        if !grid::holds(grid, place) {
-            return false;
-        }
-        if Stand::SCORE_MOST < score[i] {
-            return false;
-        }
-        i += 1;
-    }
-    true
+        grid::holds(grid, place) && score[i] <= Stand::SCORE_MOST
+    })
 }

@@ -17,26 +17,18 @@ pub struct Span {
 }
 
 // Whether a byte is a to z, 0 to 9 or space.
+#[tactic(auto, using(rules::proofs::Bytes::space, rules::proofs::Bytes::digit, rules::proofs::Bytes::letter, rules::proofs::Bytes::below, rules::proofs::Bytes::between, rules::proofs::Bytes::above))]
 pub fn allowed(b: u8) -> bool
     ensures { result ≡ allowed b }
 {
-    match b {
-        b'a'..=b'z' => true,
-        b'0'..=b'9' => true,
-        b' ' => true,
-        _ => false,
-    }
+    matches!(b, b'a'..=b'z' | b'0'..=b'9' | b' ')
 }
 
-// A typed byte as it is read: a capital as its small letter, which stands 32 past it.
-#[tactic(auto, using(rules::proofs::Folds::read_capital, rules::proofs::Folds::read_below, rules::proofs::Folds::read_above))]
+// A typed byte as it is read: a capital as its small letter.
 pub fn folded(b: u8) -> u8
     ensures { result ≡ folded b }
 {
-    match b {
-        b'A'..=b'Z' => b + 32,
-        _ => b,
-    }
+    b.to_ascii_lowercase()
 }
 
 // Whether a byte is known to be no capital by one bit: every allowed byte has the bit 32, and no capital has it. So a small letter costs
@@ -50,14 +42,7 @@ pub fn plain(b: u8) -> bool
 pub fn bytes_allowed(bytes: &[u8]) -> bool
     ensures { result ≡ all allowed (given bytes) }
 {
-    let mut i = 0;
-    while i < bytes.len() {
-        if !allowed(bytes[i]) {
-            return false;
-        }
-        i += 1;
-    }
-    true
+    bytes.iter().all(|byte| allowed(*byte))
 }
 
 pub fn name_allowed(name: &[u8]) -> bool
@@ -76,17 +61,13 @@ pub fn name_allowed(name: &[u8]) -> bool
 pub fn shared(a: &[u8], b: &[u8]) -> usize
     ensures { result ≡ shared_length (given a) (given b) }
 {
-    let mut i = 0;
-    while i < a.len() {
-        if b.len() <= i {
-            return i;
-        }
+    let most = a.len().min(b.len());
+    for i in 0..most {
         if a[i] != b[i] {
             return i;
         }
-        i += 1;
     }
-    i
+    most
 }
 
 // Whether the letter of a name at i is the typed one, as that is read. The two ways spare a small letter the fold.
@@ -140,14 +121,7 @@ fn begins(name: &[u8], typed: &[u8]) -> bool
 pub fn in_order(a: &[u8], b: &[u8]) -> bool
     ensures { result ≡ in_order (given a) (given b) }
 {
-    let at = shared(a, b);
-    if at == a.len() {
-        true
-    } else if at == b.len() {
-        false
-    } else {
-        a[at] < b[at]
-    }
+    a <= b
 }
 
 // Where a stand's name lies.

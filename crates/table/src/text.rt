@@ -4,27 +4,22 @@ ghost use Rattle.std.specs.Prelude.{◌≡◌};
 ghost use Rattle.base.specs.Lent.{given};
 ghost use Rattle.base.specs.Lists.{all};
 ghost use Rattle.rules.specs.Numbers.{verdict_number};
-ghost use Rattle.rules.specs.Names.{allowed, folded_text, text_refusal};
+ghost use Rattle.rules.specs.Names.{allowed, folded, folded_text, text_refusal};
 
 use crate::names::{allowed, folded};
 use rules::{Refusal, Stand};
 
-// What is judged is the byte folded. One that is allowed as it stands is itself when folded, which spares the fold.
+// What is judged is the byte as it is read. One that is allowed as it stands is read so, which spares the fold.
+fn read_allowed(byte: u8) -> bool
+    ensures { result ≡ allowed (folded byte) }
+{
+    allowed(byte) || allowed(folded(byte))
+}
+
 fn typed_allowed(typed: &[u8]) -> bool
     ensures { result ≡ all allowed (folded_text (given typed)) }
 {
-    let mut i = 0;
-    while i < typed.len() {
-        let byte = typed[i];
-        if !allowed(byte) {
-            let letter = folded(byte);
-            if !allowed(letter) {
-                return false;
-            }
-        }
-        i += 1;
-    }
-    true
+    typed.iter().all(|byte| read_allowed(*byte))
 }
 
 // The first of refusals 9 and 8 that holds.

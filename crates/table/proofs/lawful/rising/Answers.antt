@@ -1,24 +1,13 @@
--- `lawful::rising` tests each start against the next: the invariant is Scanning.
+-- `lawful::rising` tests each start against the one before it, in one chain.
 -- Assumes nothing.
-use mathlib.Core.Path.{sym}
-use borrow.Author.Rules.{rules}
-use borrow.Author.Tests.{lt-leb, le-leb}
-use Rattle.base.proofs.Scans.{begin, pass, fail, finish}
+use Rattle.std.proofs.Common.{rules, leb, length}
+use Rattle.std.specs.Prelude.{get_or}
+use Rattle.base.proofs.Chains.{all_neighbours}
 use Rattle.rules.specs.Tables.{rising}
 use Rattle.table.proofs.lawful.rising.Goals as goal
 
-pub loop-i-init : goal.loop-i-init
-unfolding rising
-loop-i-init c = search (rules, begin)
-
-pub returns-then-starts-i : goal.returns-then-starts-i
-unfolding rising
-returns-then-starts-i c = sym (fail _ _ _ (search rules) (lt-leb _ _ c.if-starts-i.true) c.loop-i.invariant)
-
-pub loop-i-preserved : goal.loop-i-preserved
-unfolding rising
-loop-i-preserved c = pass _ _ _ (search rules) (le-leb _ _ c.if-starts-i.false) (search rules)
-
 pub returns : goal.returns
 unfolding rising
-returns c = sym (finish _ _ _ (search rules) c.loop-i.invariant)
+returns c =
+    let starts = c.args.starts.now in
+    all_neighbours (λ i k. leb (get_or starts i 0) (get_or starts k 0)) (length starts) c.all.ensures.ran (λ x t q k. search rules)
