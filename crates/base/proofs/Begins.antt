@@ -131,9 +131,9 @@ module _ (a b : List ℕ) where
       let same : most ≡ i = grind (arith, m, h, s.within, s.within_other) in
       same
       ∙ ⊎_elim
-        (λ (long : length a ≤ i). ended i long s)
-        (λ (short : i < length a). let k : length b ≤ i = grind (arith, m, h, short) in ended_other i short k s)
-        (le_or_lt (length a) i)
+      (λ (long : length a ≤ i). ended i long s)
+      (λ (short : i < length a). let k : length b ≤ i = grind (arith, m, h, short) in ended_other i short k s)
+      (le_or_lt (length a) i)
 
 -- a list begins with p where all of p is shared
 pub begins_shared : (p n : List ℕ) → begins p n ≡ eqb (shared_length p n) (length p)

@@ -1,9 +1,11 @@
 -- The steps along an axis that find a strip: cell sides are added, at most seven times, until they reach past the coordinate.
 -- Assumes nothing.
-use Rattle.std.proofs.Common.{◌≡◌, ℕ, suc, ◌+◌, ◌-◌, ◌*◌, ◌/◌, ◌<◌, ◌≤◌, Bool, true, false, leb, ℤ, pos, negsuc, ◌+ℤ◌, sym, ap, ◌∙◌, ⊎_elim, mul-le-mul_right, suc-mul, arith, to_z-of_z, w32, w64, Fits, SFits, to_z, of_z, leb-false, leb-true}
+use Rattle.std.proofs.Common.{◌≡◌, ℕ, suc, ◌+◌, ◌-◌, ◌*◌, ◌/◌, ◌<◌, ◌≤◌, Bool, true, false, not, leb, ltb, ℤ, pos, negsuc, ◌+ℤ◌, sym, ap, ◌∙◌, ⊎_elim, mul-le-mul_right, suc-mul, arith, to_z-of_z, w32, w64, Fits, SFits, to_z, of_z, leb-false, leb-true, ltb-true, ltb-false, refl}
 use lib.Arith.{digits_div}
 use lib.IntN.{+ℤ_assoc}
-use lib.Signed.{le_z}
+use lib.Signed.{le_z, lt_z}
+use borrow.Table.Steps.{cases}
+use borrow.Author.Tests.{lt-leb, le-leb}
 use mir.Facts.{to_z_pos}
 use Rattle.base.proofs.Tests.{le_or_lt}
 use Rattle.rules.specs.Places.{lifted, within, strip}
@@ -32,9 +34,15 @@ pub record Stepping (edge : ℤ) (c : ℕ) (x next : ℤ) (passed : ℕ) : Type 
   pub begins : next ≡ edge +ℤ pos (suc passed * c)
   pub behind : lifted edge + passed * c ≤ lifted x
 
--- whether the next strip has begun at x, as the code tests it
-abbrev begun : ℤ → ℤ → Bool
-begun next x = le_z next (to_z w64 (of_z w64 (to_z w32 (of_z w32 x))))
+-- whether the next strip begins past x, as the code tests it
+abbrev past : ℤ → ℤ → Bool
+past next x = lt_z (to_z w64 (of_z w64 (to_z w32 (of_z w32 x)))) next
+
+turned : (a b : ℤ) → le_z b a ≡ not (lt_z a b)
+turned (pos a) (pos b) = cases (ltb a b) (λ e. rw (e, lt-leb b a (ltb-true a b e))) (λ e. rw (e, le-leb b a (ltb-false a b e)))
+turned (pos a) (negsuc b) = refl
+turned (negsuc a) (pos b) = refl
+turned (negsuc a) (negsuc b) = cases (ltb b a) (λ e. rw (e, lt-leb a b (ltb-true b a e))) (λ e. rw (e, le-leb a b (ltb-false b a e)))
 
 -- a coordinate of the grid, and the numbers that it is found by
 pub record Axis (edge : ℤ) (c : ℕ) (x : ℤ) : Type 0 where
@@ -61,13 +69,13 @@ module _ (edge : ℤ) (c : ℕ) (x : ℤ) (a : Axis edge c x) where
   first = record { few = omega arith; begins = ap (λ (k : ℕ). edge +ℤ pos k) (omega arith); behind = omega (arith, from_edge edge c x a.inside) }
 
   module _ (next : ℤ) (passed : ℕ) (s : Stepping edge c x next passed) where
-    reached : {t : Bool} → begun next x ≡ t → leb (lifted edge + suc passed * c) (lifted x) ≡ t
-    reached e = sym (reach_order edge (suc passed * c) x a.edge_fits a.x_fits) ∙ (rw (s.begins, wide x a.x_fits) at e)
+    reached : {t : Bool} → past next x ≡ t → leb (lifted edge + suc passed * c) (lifted x) ≡ not t
+    reached e = sym (reach_order edge (suc passed * c) x a.edge_fits a.x_fits) ∙ turned x _ ∙ ap not (rw (s.begins, wide x a.x_fits) at e)
 
     pub next_fits : passed < 7 → SFits w64 (next +ℤ to_z w64 c)
     next_fits h = rw (s.begins, side_is, further (suc passed)) (begin_fits (suc (suc passed)) (omega arith))
 
-    pub stepped : passed < 7 → begun next x ≡ true → Stepping edge c x (to_z w64 (of_z w64 (next +ℤ to_z w64 c))) (passed + 1)
+    pub stepped : passed < 7 → past next x ≡ false → Stepping edge c x (to_z w64 (of_z w64 (next +ℤ to_z w64 c))) (passed + 1)
     stepped h e =
         record {
           few = omega arith;
@@ -85,5 +93,5 @@ module _ (edge : ℤ) (c : ℕ) (x : ℤ) (a : Axis edge c x) where
     pub found_last : 7 ≤ passed → passed ≡ strip edge c x
     found_last h = found (omega (arith, before_end edge c x a.inside, mul-le-mul_right c h, suc-mul passed c))
 
-    pub found_here : begun next x ≡ false → passed ≡ strip edge c x
+    pub found_here : past next x ≡ true → passed ≡ strip edge c x
     found_here e = found (leb-false _ _ (reached e))

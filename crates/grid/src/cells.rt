@@ -40,7 +40,7 @@ impl Cells {
     pub fn count(self) -> u32
         ensures { result ≡ length (regions_in self) }
     {
-        u32::count_ones(self.low) + u32::count_ones(self.high)
+        self.low.count_ones() + self.high.count_ones()
     }
 
     // The smallest region.
@@ -50,9 +50,9 @@ impl Cells {
     {
         let low = self.low;
         if low != 0 {
-            return u32::trailing_zeros(low);
+            return low.trailing_zeros();
         }
-        32 + u32::trailing_zeros(self.high)
+        32 + self.high.trailing_zeros()
     }
 
     // All but the smallest.
@@ -125,23 +125,14 @@ impl Span {
 fn clipped(strip: i64) -> u32
     ensures { result ≡ clip strip }
 {
-    if strip < 0 {
-        return 0;
-    }
-    if LAST < strip {
-        return LAST as u32;
-    }
-    strip as u32
+    strip.clamp(0, LAST) as u32
 }
 
 // The columns of the grid from one floored edge to the other.
 fn span_between(from: i64, to: i64) -> Span
     ensures { result ≡ span_of from to }
 {
-    if to < 0 {
-        return Span { first: 0, past: 0 };
-    }
-    if LAST < from {
+    if to < 0 || LAST < from {
         return Span { first: 0, past: 0 };
     }
     let first = clipped(from);

@@ -124,10 +124,11 @@ fn strip(edge: i32, cell: u32, x: i32) -> u32
     let at = x as i64;
     let side = cell as i64;
     let mut next = (edge as i64) + side;
-    let mut strip = 0;
-    while next <= at && strip < LAST {
+    for strip in 0..LAST {
+        if at < next {
+            return strip;
+        }
         next += side;
-        strip += 1;
     }
-    strip
+    LAST
 }

@@ -17,13 +17,13 @@ pub(crate) fn lift(x: i32) -> u64
 pub(crate) fn apart(a: u64, b: u64) -> u64
     ensures { result ≡ apart a b }
 {
-    if a < b { b - a } else { a - b }
+    a.abs_diff(b)
 }
 
 pub(crate) fn metres_between(a: i32, b: i32) -> u32
     ensures { result ≡ apart (lifted a) (lifted b) }
 {
-    apart(lift(a), lift(b)) as u32
+    a.abs_diff(b)
 }
 
 fn difference(x: i32, origin: i32) -> i64
@@ -39,8 +39,7 @@ fn floor_div(x: i64, side: u32) -> i64
     requires { 0 < side }
     ensures { result ≡ floor_div x side }
 {
-    let by = side as i64;
-    if x < 0 { (x + 1) / by - 1 } else { x / by }
+    x.div_euclid(side as i64)
 }
 
 // The column or row of an edge, which may lie on either side of the grid.

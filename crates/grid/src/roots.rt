@@ -8,10 +8,8 @@ pub(crate) fn root(n: u64) -> u32
     ensures { result ≡ root n }
 {
     let mut found = 0;
-    let mut bits: u32 = 17;
-    while 0 < bits {
-        bits -= 1;
-        let next = found + (1 << bits);
+    for bit in (0..17u32).rev() {
+        let next = found + (1 << bit);
         if (next as u64) * (next as u64) <= n {
             found = next;
         }

@@ -51,10 +51,7 @@ pub fn way_to_region(grid: Grid, region: u32, place: Place) -> Way
 pub fn longer_leg(way: Way) -> u32
     ensures { result ≡ longer_leg way }
 {
-    if way.across < way.along {
-        return way.along;
-    }
-    way.across
+    way.across.max(way.along)
 }
 
 // How long a way is, in whole metres.

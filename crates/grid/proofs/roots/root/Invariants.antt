@@ -2,10 +2,6 @@
 use Rattle.grid.proofs.Rooting.{Rooting}
 use Rattle.grid.proofs.roots.root.Given as goal
 
-abbrev pub invariant-loop-bits : goal.invariant-loop-bits
-invariant-loop-bits l =
-    Rooting l.n l.found l.bits
-
-abbrev pub decreases-loop-bits : goal.decreases-loop-bits
-decreases-loop-bits l =
-    l.bits
+abbrev pub invariant-loop-bit : goal.invariant-loop-bit
+invariant-loop-bit l =
+    Rooting l.n l.found l.bit

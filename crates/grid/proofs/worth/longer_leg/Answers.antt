@@ -1,10 +1,9 @@
--- `grid::worth::longer_leg` meets its contract. Assumes nothing.
+-- `worth::longer_leg` is the larger of the two.
+-- Assumes nothing.
 use Rattle.std.proofs.Common.{rules}
-use Rattle.grid.proofs.Ways.{leg_along, leg_across}
+use Rattle.grid.specs.Ways.{longer_leg}
 use Rattle.grid.proofs.worth.longer_leg.Goals as goal
 
-pub returns-then-way : goal.returns-then-way
-returns-then-way c = search (rules, leg_along)
-
 pub returns : goal.returns
-returns c = search (rules, leg_across)
+unfolding longer_leg
+returns c = search rules
