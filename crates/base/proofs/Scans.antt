@@ -11,7 +11,9 @@ use native.Mathlib.Omega.{arith}
 use lib.ListN.{length, get_or, drop, drop_of_length-le}
 use lib.Seq.{drop-cons}
 use borrow.Table.Steps.{cases}
-use Rattle.base.specs.Lists.{all, each, from_on, up_to}
+use lib.Dec.{eqb}
+use Rattle.base.specs.Lists.{all, each, from_on, up_to, begins}
+use Rattle.base.proofs.Runs.{from_shift}
 use Rattle.base.proofs.Tests.{and_left, and_right}
 
 module _ (p : ℕ → Bool) where
@@ -54,6 +56,19 @@ module _ {A : Type 0} (p : A → Bool) where
 pub all-each : {A B : Type 0} (p : B → Bool) (f : A → B) (l : List A) → all p (each f l) ≡ all (λ x. p (f x)) l
 all-each p f [] = refl
 all-each p f (x ∷ l) = ap (λ b. p (f x) && b) (all-each p f l)
+
+-- by another test that tells the same
+pub all_same : {A : Type 0} (p q : A → Bool) → ((x : A) → p x ≡ q x) → (l : List A) → all p l ≡ all q l
+all_same p q same [] = refl
+all_same p q same (x ∷ l) = rw (same x, all_same p q same l)
+
+-- a list begins with another where it has each of its elements
+pub begins_all : (p n : List ℕ) → length p ≤ length n → all (λ i. eqb (get_or p i 0) (get_or n i 0)) (up_to (length p)) ≡ begins p n
+begins_all [] n h = refl
+begins_all (a ∷ p) [] h = absurd (omega arith)
+begins_all (a ∷ p) (b ∷ n) h =
+    let test : ℕ → Bool = λ i. eqb (get_or (a ∷ p) i 0) (get_or (b ∷ n) i 0) in
+    ap (λ r. eqb a b && r) (ap (all test) (from_shift 0 (length p)) ∙ all-each test suc (up_to (length p)) ∙ begins_all p n (omega arith))
 
 pub record Scanning (p : ℕ → Bool) (n i : ℕ) : Type 0 where
   pub within : i ≤ n

@@ -10,14 +10,14 @@ use Rattle.base.specs.Lists.{all}
 use Rattle.base.proofs.Tests.{and_parts}
 use Rattle.base.proofs.Scans.{all_right}
 use Rattle.rules.specs.declared.Grid.{Grid}
-use Rattle.rules.specs.declared.Verdict.TheVariants.{Passed}
+use Rattle.std.specs.Prelude.{Ok}
 use Rattle.rules.specs.Names.{allowed, folded, folded_text, text_refusal}
 use Rattle.rules.specs.Tables.{Table}
 use Rattle.rules.specs.Indexes.{Index, set_lawful}
 use Rattle.rules.specs.Sessions.{session_of, letters_typed}
 use Rattle.rules.proofs.Bytes.{text_parts, text_taken}
 use Rattle.rules.proofs.Folds.{text_same}
-use Rattle.session.specs.declared.Stroke.{Stroke}
+use Rattle.session.specs.Strokes.{Stroke, verdict, stands}
 use Rattle.session.specs.Promises.{TypePromise}
 use Rattle.session.proofs.Letters.{type_taken, typed_allowed, rubbed_allowed}
 use Rattle.session.proofs.Lawful.{typed_served}
@@ -62,9 +62,9 @@ text_full t p h = simp (length-append, length-replicate) (omega arith)
 
 -- one letter that is allowed as it is read is accepted, and leaves the session of the letters with it
 letter_accepted : (S : State) → Lawful S → (p : List ℕ) (b : ℕ) → length p < 24 → allowed (folded b) ≡ true
-    → TypePromise S.index.nodes b (session_of S.table p) (session_of S.table (p ++ (folded b ∷ []))) Passed
+    → TypePromise S.index.nodes b (session_of S.table p) (session_of S.table (p ++ (folded b ∷ []))) (Ok tt)
 letter_accepted S law p b h a =
-    subst (λ (k : Stroke). TypePromise S.index.nodes b (session_of S.table p) k.session k.verdict)
+    subst (λ (k : Stroke). TypePromise S.index.nodes b (session_of S.table p) (stands (session_of S.table p) k) (verdict k))
     (typed_served S.index.nodes S.table (S.grid, S.index, law, refl) p (folded b) h a)
     (type_keeps S.index.nodes (session_of S.table p) b (text_full S.table p h))
 

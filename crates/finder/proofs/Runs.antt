@@ -11,7 +11,7 @@ use lib.Seq.{take_at, take-take, take_all}
 use Rattle.rules.specs.declared.Grid.{Grid}
 use Rattle.rules.specs.declared.Session.{Session}
 use Rattle.rules.specs.declared.Refusal.{Refusal}
-use Rattle.rules.specs.declared.Verdict.TheVariants.{Passed, Refused}
+use Rattle.std.specs.Prelude.{Ok, Err}
 use Rattle.rules.specs.Numbers.{refusal_number}
 use Rattle.rules.specs.Names.{folded, folded_text, text_refusal}
 use Rattle.rules.specs.Tables.{Table}
@@ -148,10 +148,10 @@ types_stand S (d ∷ run) none p m = step d.deed none m.0 (λ z. types_stand d.s
 
     step : (e : Deed) → with_rub e (rubs_in run) ≡ 0 → Meant S p e → (rubs_in run ≡ 0 → standing (letters_after p e) run ≡ behind (letters_after p e))
         → standing (letters_after p e) run ≡ p ++ with_letter e (letters_in run)
-    step (Deed.types b Passed) z k below = below z ∙ ap behind (taken_typing p b k) ∙ append_assoc p (folded b ∷ []) (letters_in run)
-    step (Deed.types b (Refused why)) z k below = below z ∙ ap behind (refused-typing p b why k)
-    step (Deed.rubs Passed) z k below = absurd (omega arith)
-    step (Deed.rubs (Refused why)) z k below = below z ∙ ap behind (refused_rubbing p why k)
+    step (Deed.types b (Ok u)) z k below = below z ∙ ap behind (taken_typing p b k) ∙ append_assoc p (folded b ∷ []) (letters_in run)
+    step (Deed.types b (Err why)) z k below = below z ∙ ap behind (refused-typing p b why k)
+    step (Deed.rubs (Ok u)) z k below = absurd (omega arith)
+    step (Deed.rubs (Err why)) z k below = below z ∙ ap behind (refused_rubbing p why k)
     step (Deed.asks_range r rooms o) z k below = below z
     step (Deed.asks_any r o) z k below = below z
     step (Deed.asks_ranked q rooms o) z k below = below z
@@ -166,12 +166,12 @@ rubs_stand S (d ∷ run) none p m = step d.deed none m.0 (λ z. rubs_stand d.sta
 
     step : (e : Deed) → with_letter e (letters_in run) ≡ [] → Meant S p e → (letters_in run ≡ [] → standing (letters_after p e) run ≡ left (rubs_in run) (letters_after p e))
         → standing (letters_after p e) run ≡ left (with_rub e (rubs_in run)) p
-    step (Deed.types b Passed) z k below = absurd (omega (arith, ap length z))
-    step (Deed.types b (Refused why)) z k below = below z ∙ ap (left (rubs_in run)) (refused-typing p b why k)
-    step (Deed.rubs Passed) z k below =
+    step (Deed.types b (Ok u)) z k below = absurd (omega (arith, ap length z))
+    step (Deed.types b (Err why)) z k below = below z ∙ ap (left (rubs_in run)) (refused-typing p b why k)
+    step (Deed.rubs (Ok u)) z k below =
         let fewer : length (but_last p) - rubs_in run ≡ length p - suc (rubs_in run) = simp length-take (omega arith) in
         below z ∙ take-take (length (but_last p) - rubs_in run) (length p - 1) p (omega (arith, fewer)) ∙ ap (λ (n : ℕ). take n p) fewer
-    step (Deed.rubs (Refused why)) z k below = below z ∙ ap (left (rubs_in run)) (refused_rubbing p why k)
+    step (Deed.rubs (Err why)) z k below = below z ∙ ap (left (rubs_in run)) (refused_rubbing p why k)
     step (Deed.asks_range r rooms o) z k below = below z
     step (Deed.asks_any r o) z k below = below z
     step (Deed.asks_ranked q rooms o) z k below = below z

@@ -3,7 +3,8 @@
 use mathlib.Core.Path.{◌≡◌, ap, ◌∙◌}
 use mathlib.Core.Bool.{true}
 use mathlib.Core.List.{List, [], ◌∷◌}
-use Rattle.rules.specs.declared.Verdict.{Verdict}
+use Rattle.rules.specs.declared.Refusal.{Refusal}
+use Rattle.std.specs.Prelude.{Result}
 use Rattle.rules.specs.Indexes.{Index, set_lawful}
 use Rattle.rules.specs.Sessions.{session_of}
 use Rattle.rules.specs.Scheme.{table, grid, ki}
@@ -15,11 +16,11 @@ use Rattle.finder.proofs.Runs.{run_ends, run-set}
 abbrev pub after : Deed → State → Done
 after deed state = record { deed = deed; state = state }
 
-abbrev pub kiz_and_back : Verdict → Verdict → Verdict → Verdict → State → State → State → State → List Done
+abbrev pub kiz_and_back : (v₁ v₂ v₃ v₄ : Result Unit Refusal) → State → State → State → State → List Done
 kiz_and_back v₁ v₂ v₃ v₄ S₁ S₂ S₃ S₄ =
     after (Deed.types 107 v₁) S₁ ∷ after (Deed.types 105 v₂) S₂ ∷ after (Deed.types 122 v₃) S₃ ∷ after (Deed.rubs v₄) S₄ ∷ []
 
-pub line_11 : (x : Index) → set_lawful table grid x ≡ true → (v₁ v₂ v₃ v₄ : Verdict) (S₁ S₂ S₃ S₄ : State)
+pub line_11 : (x : Index) → set_lawful table grid x ≡ true → (v₁ v₂ v₃ v₄ : Result Unit Refusal) (S₁ S₂ S₃ S₄ : State)
     → Run (fresh_state table grid x) (kiz_and_back v₁ v₂ v₃ v₄ S₁ S₂ S₃ S₄) → S₄.session ≡ session_of table ki
 line_11 x law v₁ v₂ v₃ v₄ S₁ S₂ S₃ S₄ r =
     let run : List Done = kiz_and_back v₁ v₂ v₃ v₄ S₁ S₂ S₃ S₄ in

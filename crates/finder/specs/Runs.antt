@@ -1,12 +1,11 @@
 -- Any sequence of calls on a set and a session: letters typed, rubbed out, and questions of every kind, refused ones among them.
 -- Run holds, call by call, the very promise that the call makes; AsMeant is what the rules say, with no call in sight.
-use Rattle.std.specs.Prelude.{◌≡◌, true, List, [], ◌∷◌, ℕ, suc}
+use Rattle.std.specs.Prelude.{◌≡◌, true, List, [], ◌∷◌, ℕ, suc, Result, Ok, Err}
 use Rattle.rules.specs.declared.Grid.{Grid}
 use Rattle.rules.specs.declared.Rect.{Rect}
 use Rattle.rules.specs.declared.Ranking.{Ranking}
 use Rattle.rules.specs.declared.Session.{Session}
-use Rattle.rules.specs.declared.Verdict.{Verdict}
-use Rattle.rules.specs.declared.Verdict.TheVariants.{Passed, Refused}
+use Rattle.rules.specs.declared.Refusal.{Refusal}
 use Rattle.rules.specs.Numbers.{AnyTold, verdict_number}
 use Rattle.rules.specs.Names.{folded}
 use Rattle.rules.specs.Tables.{Table}
@@ -33,8 +32,8 @@ with_session S s = record { table = S.table; grid = S.grid; index = S.index; ses
 
 -- a call with what it was given, and what came of it
 pub data Deed : Type 0 where
-  types : (byte : ℕ) (v : Verdict) → Deed
-  rubs : (v : Verdict) → Deed
+  types : (byte : ℕ) (v : Result Unit Refusal) → Deed
+  rubs : (v : Result Unit Refusal) → Deed
   asks_range : (r : Rect) (rooms : List (List ℕ)) (o : Outcome) → Deed
   asks_any : (r : Rect) (o : AnyTold) → Deed
   asks_ranked : (q : Ranking) (rooms : List (List ℕ)) (o : Outcome) → Deed
@@ -105,8 +104,8 @@ AsMeant S p (d ∷ run) = Meant S p d.deed × Stands d.state (letters_after p d.
 
 -- the accepted letters in their order, each as it is read
 abbrev pub with_letter : Deed → List ℕ → List ℕ
-with_letter (Deed.types b Passed) l = folded b ∷ l
-with_letter (Deed.types b (Refused why)) l = l
+with_letter (Deed.types b (Ok u)) l = folded b ∷ l
+with_letter (Deed.types b (Err why)) l = l
 with_letter (Deed.rubs v) l = l
 with_letter (Deed.asks_range r rooms o) l = l
 with_letter (Deed.asks_any r o) l = l
@@ -119,8 +118,8 @@ letters_in (d ∷ run) = with_letter d.deed (letters_in run)
 -- how many rub-outs were accepted
 abbrev pub with_rub : Deed → ℕ → ℕ
 with_rub (Deed.types b v) n = n
-with_rub (Deed.rubs Passed) n = suc n
-with_rub (Deed.rubs (Refused why)) n = n
+with_rub (Deed.rubs (Ok u)) n = suc n
+with_rub (Deed.rubs (Err why)) n = n
 with_rub (Deed.asks_range r rooms o) n = n
 with_rub (Deed.asks_any r o) n = n
 with_rub (Deed.asks_ranked q rooms o) n = n
@@ -139,4 +138,4 @@ abbrev pub typing : State → List ℕ → List ℕ → List Done
 typing S p [] = []
 typing S p (b ∷ l) =
     let S' : State = with_session S (session_of S.table (letters_typed p b)) in
-    record { deed = Deed.types b Passed; state = S' } ∷ typing S' (letters_typed p b) l
+    record { deed = Deed.types b (Ok tt); state = S' } ∷ typing S' (letters_typed p b) l

@@ -9,8 +9,7 @@ pub use letters::{any_typed, range_typed, ranked_typed};
 pub use range::range;
 pub use ranked::ranked;
 pub use rules::{
-    AnyAnswer, Built, Checked, Grid, Located, Place, RangeAnswer, RankedAnswer, Ranking, Rect,
-    Refusal, Session, Stand, Verdict,
+    Grid, Index, Place, RangeRefusal, Ranking, Rect, Refusal, Session, Set, Sizes, Stand, Table,
 };
 pub use session::{rub_out, type_byte};
 pub use table::names::rest_of_name;

@@ -1,11 +1,15 @@
 -- What a C record tells, as the rules' numbers; and a promise read through those numbers.
 -- A question's promise speaks of numbers alone, and is the same for C. Of the other calls the record holds the numbers of an answer that keeps
 -- the promise of the call under it; no two answers have the same numbers (`rules/proofs/Numbers`), so nothing is lost on the way.
-use Rattle.std.specs.Prelude.{◌≡◌, List, [], ◌∷◌, ℕ, length}
-use Rattle.base.specs.Lent.{LentMut, after}
+use Rattle.std.specs.Prelude.{◌≡◌, List, [], ◌∷◌, ℕ, ℤ, length}
+use Rattle.base.specs.Lent.{Lent, LentMut, after}
+use Rattle.rules.specs.declared.Grid.{Grid}
+use Rattle.rules.specs.declared.Set.{Set}
 use Rattle.rules.specs.declared.Place.{Place}
 use Rattle.rules.specs.declared.Ranking.{Ranking}
 use Rattle.rules.specs.Names.{rest_of, rest_at}
+use Rattle.rules.specs.Tables.{lent_table, table_in}
+use Rattle.rules.specs.Indexes.{lent_index, index_in}
 use Rattle.rules.specs.Outcomes.{Outcome, outcome}
 use Rattle.rules.specs.Numbers.{Told, BuildTold, CheckTold, AnyTold}
 use Rattle.finder_c.specs.declared.Located.{Located}
@@ -29,6 +33,12 @@ found_told r = record { refusal = r.refusal; number = r.count }
 
 abbrev pub any_told : AnyFound → AnyTold
 any_told r = record { refusal = r.refusal; yes = r.yes; stand = r.stand }
+
+-- a set whose parts are lent one by one
+pub record Together (text starts : Lent (List ℕ)) (east north : Lent (List ℤ)) (score : Lent (List ℕ)) (g : Grid) (order nodes entries bits : Lent (List ℕ)) (s : Set) : Type 0 where
+  pub table : lent_table s.table ≡ table_in text starts east north score
+  pub grid : s.grid ≡ g
+  pub index : lent_index s.index ≡ index_in order nodes entries bits
 
 -- what came of a question with one room, and with two
 abbrev pub found_in : Found → LentMut (List ℕ) → Outcome

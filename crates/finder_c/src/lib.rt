@@ -1,11 +1,10 @@
-// The finder for C: a slice is a pointer and a length, an answer its numbers. The questions, building and checking hand on to the finder's
-// own calls; the keystrokes and the rest of a name to the steps by value under these.
+// The finder for C: a slice is a pointer and a length, an answer its numbers. Each call hands on to the finder's own.
 // include/krzewido.h says the same to C. Nothing is asked of any argument: what the calls under these promise, these promise of the numbers.
 #![tactic(auto)]
 
 ghost use Rattle.std.specs.Prelude.{◌≡◌};
 ghost use Rattle.base.specs.Lent.{given};
-ghost use Rattle.rules.specs.Numbers.{located_numbers, built_numbers, checked_numbers, range_numbers, any_numbers, ranked_numbers, verdict_number};
+ghost use Rattle.rules.specs.Numbers.{told_numbers, built_numbers, checked_numbers, range_numbers, any_numbers, verdict_number};
 ghost use Rattle.rules.specs.Places.{region_told};
 ghost use Rattle.rules.specs.Tables.{table_in};
 ghost use Rattle.rules.specs.Outcomes.{room_in, rooms_in};
@@ -14,10 +13,11 @@ ghost use Rattle.rules.specs.Sessions.{fresh_session};
 ghost use Rattle.rules.specs.Promises.{RangePromise, AnyPromise, RankedPromise, TypedRangePromise, TypedAnyPromise, TypedRankedPromise};
 ghost use Rattle.index.specs.Promises.{BuildPromise, index_given, index_left};
 ghost use Rattle.session.specs.Promises.{TypePromise, RubPromise};
-ghost use Rattle.finder_c.specs.Told.{Tells, located_told, built_told, checked_told, found_told, any_told, found_in, founds_in, ranking_of, RestPart};
+ghost use Rattle.finder_c.specs.Told.{Tells, located_told, built_told, checked_told, found_told, any_told, found_in, founds_in, ranking_of, RestPart, Together};
 
-use finder::{AnyAnswer, Grid, Place, RangeAnswer, RankedAnswer, Ranking, Rect, Session, Stand};
-use session::{rubbed_out, with_letter};
+use finder::{
+    Grid, Index, Place, RangeRefusal, Ranking, Rect, Refusal, Session, Set, Sizes, Stand, Table,
+};
 use table::names::{Span, rest_span};
 
 // A refusal is its number, or 0; with one every other number is 0, but for a range's matches.
@@ -71,37 +71,37 @@ pub struct Part {
     pub length: u32,
 }
 
-impl Located {
-    fn of(answer: finder::Located) -> Located
-        ensures { located_told result ≡ located_numbers answer }
-    {
+impl From<Result<u32, Refusal>> for Located {
+    ghost from_gives = { λ answer told. located_told told ≡ told_numbers answer };
+
+    fn from(answer: Result<u32, Refusal>) -> Located {
         match answer {
-            finder::Located::In(region) => Located { refusal: 0, region },
-            finder::Located::Refused(why) => Located {
-                refusal: why.number(),
+            Ok(region) => Located { refusal: 0, region },
+            Err(why) => Located {
+                refusal: why.into(),
                 region: 0,
             },
         }
     }
 }
 
-impl Built {
-    fn of(answer: finder::Built) -> Built
-        ensures { built_told result ≡ built_numbers answer }
-    {
+impl From<Result<Sizes, Refusal>> for Built {
+    ghost from_gives = { λ answer told. built_told told ≡ built_numbers answer };
+
+    fn from(answer: Result<Sizes, Refusal>) -> Built {
         match answer {
-            finder::Built::Index {
+            Ok(Sizes {
                 nodes,
                 entries,
                 bits,
-            } => Built {
+            }) => Built {
                 refusal: 0,
                 nodes,
                 entries,
                 bits,
             },
-            finder::Built::Refused(why) => Built {
-                refusal: why.number(),
+            Err(why) => Built {
+                refusal: why.into(),
                 nodes: 0,
                 entries: 0,
                 bits: 0,
@@ -110,22 +110,22 @@ impl Built {
     }
 }
 
-impl Checked {
-    fn of(answer: finder::Checked) -> Checked
-        ensures { checked_told result ≡ checked_numbers answer }
-    {
+impl From<Option<Sizes>> for Checked {
+    ghost from_gives = { λ answer told. checked_told told ≡ checked_numbers answer };
+
+    fn from(answer: Option<Sizes>) -> Checked {
         match answer {
-            finder::Checked::Lawful {
+            Some(Sizes {
                 nodes,
                 entries,
                 bits,
-            } => Checked {
+            }) => Checked {
                 lawful: 1,
                 nodes,
                 entries,
                 bits,
             },
-            finder::Checked::Unlawful => Checked {
+            None => Checked {
                 lawful: 0,
                 nodes: 0,
                 entries: 0,
@@ -135,53 +135,92 @@ impl Checked {
     }
 }
 
-impl Found {
-    fn of_range(answer: RangeAnswer) -> Found
-        ensures { found_told result ≡ range_numbers answer }
-    {
-        match answer {
-            RangeAnswer::Found(count) => Found { refusal: 0, count },
-            RangeAnswer::Refused { why, matches } => Found {
-                refusal: why.number(),
-                count: matches,
-            },
-        }
-    }
+impl From<Result<u32, RangeRefusal>> for Found {
+    ghost from_gives = { λ answer told. found_told told ≡ range_numbers answer };
 
-    fn of_ranked(answer: RankedAnswer) -> Found
-        ensures { found_told result ≡ ranked_numbers answer }
-    {
+    fn from(answer: Result<u32, RangeRefusal>) -> Found {
         match answer {
-            RankedAnswer::Found(count) => Found { refusal: 0, count },
-            RankedAnswer::Refused(why) => Found {
-                refusal: why.number(),
-                count: 0,
+            Ok(count) => Found { refusal: 0, count },
+            Err(RangeRefusal { why, matches }) => Found {
+                refusal: why.into(),
+                count: matches,
             },
         }
     }
 }
 
-impl AnyFound {
-    fn of(answer: AnyAnswer) -> AnyFound
-        ensures { any_told result ≡ any_numbers answer }
-    {
+impl From<Result<u32, Refusal>> for Found {
+    ghost from_gives = { λ answer told. found_told told ≡ told_numbers answer };
+
+    fn from(answer: Result<u32, Refusal>) -> Found {
+        Found::from(answer.map_err(RangeRefusal::from))
+    }
+}
+
+impl From<Result<Option<Stand>, Refusal>> for AnyFound {
+    ghost from_gives = { λ answer told. any_told told ≡ any_numbers answer };
+
+    fn from(answer: Result<Option<Stand>, Refusal>) -> AnyFound {
         match answer {
-            AnyAnswer::Yes(stand) => AnyFound {
+            Ok(Some(stand)) => AnyFound {
                 refusal: 0,
                 yes: 1,
                 stand: stand.0,
             },
-            AnyAnswer::No => AnyFound {
+            Ok(None) => AnyFound {
                 refusal: 0,
                 yes: 0,
                 stand: 0,
             },
-            AnyAnswer::Refused(why) => AnyFound {
-                refusal: why.number(),
+            Err(why) => AnyFound {
+                refusal: why.into(),
                 yes: 0,
                 stand: 0,
             },
         }
+    }
+}
+
+// A verdict is told by its refusal's number, or 0.
+fn number_of(verdict: Result<(), Refusal>) -> u32
+    ensures { result ≡ verdict_number verdict }
+{
+    match verdict {
+        Ok(()) => 0,
+        Err(why) => why.into(),
+    }
+}
+
+// The set that C lends part by part.
+fn set_of<'a>(
+    text: &'a [u8],
+    starts: &'a [u32],
+    east: &'a [i32],
+    north: &'a [i32],
+    score: &'a [u32],
+    grid: Grid,
+    order: &'a [u32],
+    nodes: &'a [u32],
+    entries: &'a [u32],
+    bits: &'a [u32],
+) -> Set<'a>
+    ensures { Together text starts east north score grid order nodes entries bits result }
+{
+    Set {
+        table: Table {
+            text,
+            starts,
+            east,
+            north,
+            score,
+        },
+        grid,
+        index: Index {
+            order,
+            nodes,
+            entries,
+            bits,
+        },
     }
 }
 
@@ -189,7 +228,7 @@ impl AnyFound {
 pub extern "C" fn krz_region(grid: Grid, place: Place) -> Located
     ensures { located_told result ≡ region_told grid place }
 {
-    Located::of(finder::locate(grid, place))
+    finder::locate(grid, place).into()
 }
 
 #[unsafe(no_mangle)]
@@ -207,9 +246,14 @@ pub extern "C" fn krz_build(
 ) -> Built
     ensures { Tells built_numbers (λ a. BuildPromise (table_in text starts east north score) grid (index_given order nodes entries bits) a (index_left order nodes entries bits)) (built_told result) }
 {
-    Built::of(finder::build(
-        text, starts, east, north, score, grid, order, nodes, entries, bits,
-    ))
+    let table = Table {
+        text,
+        starts,
+        east,
+        north,
+        score,
+    };
+    finder::build(table, grid, order, nodes, entries, bits).into()
 }
 
 #[unsafe(no_mangle)]
@@ -227,9 +271,10 @@ pub extern "C" fn krz_check(
 ) -> Checked
     ensures { checked_told result ≡ check_told (table_in text starts east north score) grid (index_in order nodes entries bits) }
 {
-    Checked::of(finder::check(
+    let set = set_of(
         text, starts, east, north, score, grid, order, nodes, entries, bits,
-    ))
+    );
+    finder::check(set.table, set.grid, set.index).into()
 }
 
 #[unsafe(no_mangle)]
@@ -250,9 +295,10 @@ pub extern "C" fn krz_range(
 ) -> Found
     ensures { RangePromise (table_in text starts east north score) grid (index_in order nodes entries bits) (given typed) rect (room_in found) (found_in result found) }
 {
-    Found::of_range(finder::range(
-        text, starts, east, north, score, grid, order, nodes, entries, bits, typed, rect, found,
-    ))
+    let set = set_of(
+        text, starts, east, north, score, grid, order, nodes, entries, bits,
+    );
+    finder::range(set, typed, rect, found).into()
 }
 
 #[unsafe(no_mangle)]
@@ -272,9 +318,10 @@ pub extern "C" fn krz_any(
 ) -> AnyFound
     ensures { AnyPromise (table_in text starts east north score) grid (index_in order nodes entries bits) (given typed) rect (any_told result) }
 {
-    AnyFound::of(finder::any(
-        text, starts, east, north, score, grid, order, nodes, entries, bits, typed, rect,
-    ))
+    let set = set_of(
+        text, starts, east, north, score, grid, order, nodes, entries, bits,
+    );
+    finder::any(set, typed, rect).into()
 }
 
 #[unsafe(no_mangle)]
@@ -298,22 +345,11 @@ pub extern "C" fn krz_ranked(
 ) -> Found
     ensures { RankedPromise (table_in text starts east north score) grid (index_in order nodes entries bits) (given typed) (ranking_of place weight k) (rooms_in found values) (founds_in result found values) }
 {
-    Found::of_ranked(finder::ranked(
-        text,
-        starts,
-        east,
-        north,
-        score,
-        grid,
-        order,
-        nodes,
-        entries,
-        bits,
-        typed,
-        Ranking { place, weight, k },
-        found,
-        values,
-    ))
+    let set = set_of(
+        text, starts, east, north, score, grid, order, nodes, entries, bits,
+    );
+    let asked = Ranking { place, weight, k };
+    finder::ranked(set, typed, asked, found, values).into()
 }
 
 #[unsafe(no_mangle)]
@@ -334,9 +370,10 @@ pub extern "C" fn krz_range_typed(
 ) -> Found
     ensures { TypedRangePromise (table_in text starts east north score) grid (index_in order nodes entries bits) session rect (room_in found) (found_in result found) }
 {
-    Found::of_range(finder::range_typed(
-        text, starts, east, north, score, grid, order, nodes, entries, bits, session, rect, found,
-    ))
+    let set = set_of(
+        text, starts, east, north, score, grid, order, nodes, entries, bits,
+    );
+    finder::range_typed(set, session, rect, found).into()
 }
 
 #[unsafe(no_mangle)]
@@ -356,9 +393,10 @@ pub extern "C" fn krz_any_typed(
 ) -> AnyFound
     ensures { TypedAnyPromise (table_in text starts east north score) grid (index_in order nodes entries bits) session rect (any_told result) }
 {
-    AnyFound::of(finder::any_typed(
-        text, starts, east, north, score, grid, order, nodes, entries, bits, session, rect,
-    ))
+    let set = set_of(
+        text, starts, east, north, score, grid, order, nodes, entries, bits,
+    );
+    finder::any_typed(set, session, rect).into()
 }
 
 #[unsafe(no_mangle)]
@@ -382,22 +420,11 @@ pub extern "C" fn krz_ranked_typed(
 ) -> Found
     ensures { TypedRankedPromise (table_in text starts east north score) grid (index_in order nodes entries bits) session (ranking_of place weight k) (rooms_in found values) (founds_in result found values) }
 {
-    Found::of_ranked(finder::ranked_typed(
-        text,
-        starts,
-        east,
-        north,
-        score,
-        grid,
-        order,
-        nodes,
-        entries,
-        bits,
-        session,
-        Ranking { place, weight, k },
-        found,
-        values,
-    ))
+    let set = set_of(
+        text, starts, east, north, score, grid, order, nodes, entries, bits,
+    );
+    let asked = Ranking { place, weight, k };
+    finder::ranked_typed(set, session, asked, found, values).into()
 }
 
 #[unsafe(no_mangle)]
@@ -407,7 +434,7 @@ pub extern "C" fn krz_fresh() -> Session
     Session::fresh()
 }
 
-// The keystrokes rewrite the lent record whole, as the session's own calls do; of the set only the nodes are read.
+// Of the set only the nodes are read.
 #[unsafe(no_mangle)]
 pub extern "C" fn krz_type(
     text: &[u8],
@@ -425,9 +452,7 @@ pub extern "C" fn krz_type(
 ) -> u32
     ensures { Tells verdict_number (λ v. TypePromise (given nodes) byte session.old session.new v) result }
 {
-    let out = with_letter(nodes, *session, byte);
-    *session = out.session;
-    out.verdict.number()
+    number_of(finder::type_byte(nodes, session, byte))
 }
 
 // It takes the whole set so that all calls on a session look alike in C.
@@ -447,9 +472,7 @@ pub extern "C" fn krz_rub_out(
 ) -> u32
     ensures { Tells verdict_number (λ v. RubPromise session.old session.new v) result }
 {
-    let out = rubbed_out(*session);
-    *session = out.session;
-    out.verdict.number()
+    number_of(finder::rub_out(session))
 }
 
 #[unsafe(no_mangle)]

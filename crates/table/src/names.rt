@@ -70,51 +70,12 @@ pub fn shared(a: &[u8], b: &[u8]) -> usize
     most
 }
 
-// Whether the letter of a name at i is the typed one, as that is read. The two ways spare a small letter the fold.
-fn same_letter(name: &[u8], typed: &[u8], i: usize) -> bool
-    requires { (i < length typed.now) × (i < length name.now) }
-    ensures { result ≡ eqb (folded (get_or (given typed) i 0)) (get_or (given name) i 0) }
-{
-    let byte = typed[i];
-    if plain(byte) {
-        if byte != name[i] {
-            return false;
-        }
-    } else if folded(byte) != name[i] {
-        return false;
-    }
-    true
-}
-
-// Whether a name, or as much of one as was typed, begins with a typed text. The first letter goes alone, so that a name that differs there
-// is told at once; the others go by twos, which makes up for what reading a letter costs.
+// Whether a name, or as much of one as was typed, begins with a typed text.
 fn begins(name: &[u8], typed: &[u8]) -> bool
     requires { length typed.now ≤ length name.now }
     ensures { result ≡ begins (folded_text (given typed)) (given name) }
 {
-    if typed.len() == 0 {
-        return true;
-    }
-    if !same_letter(name, typed, 0) {
-        return false;
-    }
-    let mut i = 1;
-    if typed.len() % 2 == 0 {
-        if !same_letter(name, typed, 1) {
-            return false;
-        }
-        i = 2;
-    }
-    while i < typed.len() {
-        if !same_letter(name, typed, i) {
-            return false;
-        }
-        if !same_letter(name, typed, i + 1) {
-            return false;
-        }
-        i += 2;
-    }
-    true
+    (0..typed.len()).all(|i| folded(typed[i]) == name[i])
 }
 
 // Whether name a may stand before name b: byte order, the shorter first, equal ones either way.
