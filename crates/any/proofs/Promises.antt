@@ -9,16 +9,14 @@ use lib.Dec.{ltb}
 use lib.IntN.{ℤ}
 use lib.ListN.{length}
 use borrow.Table.Steps.{cases}
+use Rattle.std.specs.Prelude.{Option, Some, None, Result, Ok, Err}
 use Rattle.base.specs.Lists.{keep}
 use Rattle.base.proofs.Tests.{never, and_parts}
 use Rattle.rules.specs.declared.Grid.{Grid}
 use Rattle.rules.specs.declared.Rect.{Rect}
-use Rattle.rules.specs.declared.AnyAnswer.{AnyAnswer}
-use Rattle.rules.specs.declared.AnyAnswer.TheVariants.{No, Refused}
 use Rattle.rules.specs.declared.Refusal.{Refusal}
 use Rattle.rules.specs.declared.Refusal.TheVariants.{NotLawful}
-use Rattle.rules.specs.declared.Verdict.{Verdict}
-use Rattle.rules.specs.declared.Verdict.TheVariants as verdict
+use Rattle.rules.specs.declared.Stand.{Stand}
 use Rattle.rules.specs.Numbers.{AnyTold, refusing_any, any_numbers, verdict_number}
 use Rattle.rules.specs.Names.{folded_text, text_refusal}
 use Rattle.rules.specs.Tables.{Table}
@@ -27,16 +25,13 @@ use Rattle.rules.specs.Outcomes.{any_outcome}
 use Rattle.rules.specs.Promises.{Harmless, AnyPromise}
 use Rattle.rules.specs.Indexes.{Index}
 use Rattle.rules.proofs.Outcomes.{any_refused}
-use Rattle.grid.specs.declared.cells.Cells.{Cells}
 use Rattle.grid.specs.Cells.{regions_in}
 use Rattle.grid.proofs.Covers.{Edges}
 use Rattle.walk.specs.declared.listing.Listing.{Listing}
 use Rattle.walk.specs.Walks.{node_in}
-use Rattle.walk.specs.Listings.{listing_at}
-use Rattle.walk.specs.Asked.{Listed}
+use Rattle.walk.specs.Listings.{Listed, listing_at}
+use Rattle.walk.specs.Asked as asked
 use Rattle.walk.proofs.Asked.{from_kept, text_refused, text_listed}
-use Rattle.runs.specs.declared.Touched.{Touched}
-use Rattle.runs.specs.declared.Touched.TheVariants as touched
 use Rattle.runs.specs.Sights.{inside, sighted, known, noted_in, touched_stands, agree, look_by, look_at}
 use Rattle.runs.specs.Promises.{Answers}
 use Rattle.runs.proofs.Promises.{look-kept}
@@ -62,35 +57,35 @@ module _ (east north : List ℤ) (rect : Rect) where
       (λ t. cases (inside east north rect s) (λ e. rw (t, e) (inr (s ∷ [], refl))) (λ e. rw (t, e) (first_harmless l)))
       (λ t. rw t (inl refl))
 
-module _ (east north : List ℤ) (g : Grid) (order entries : List ℕ) (at : Listing) (r : Rect) (edges : Edges r) (numbers : List ℕ)
-    (t : Touched) (looks : look_by t numbers ≡ look_at g entries at r) where
-  kept : (o : AnyTold) → Answers any_outcome refusing_any east north order entries r (look_by t numbers) o → AnyFrom east north g order entries at r o
-  kept o = look-kept any_outcome refusing_any any_refused east north g order entries r o edges at (look_by t numbers) looks
+module _ (t : Table) (g : Grid) (x : Index) (at : Listed) (r : Rect) (edges : Edges r) (numbers : List ℕ)
+    (looked-at : Result (Option Listing) Refusal) (looks : look_by looked-at numbers ≡ look_at g x.entries at r) where
+  kept : (o : AnyTold) → Answers any_outcome refusing_any t.east t.north x.order x.entries r (look_by looked-at numbers) o → AnyFrom t g x at r o
+  kept o = look-kept any_outcome refusing_any any_refused t.east t.north g x.order x.entries r o edges at (look_by looked-at numbers) looks
 
-  module _ (wanted : Cells) (first : ℕ) (e : t ≡ touched.Regions wanted first) where
-    pub from_apart : agree east north order ≡ false → AnyFrom east north g order entries at r (any_numbers (Refused NotLawful))
+  module _ (touched : Listing) (e : looked-at ≡ Ok (Some touched)) where
+    pub from_apart : agree t.east t.north x.order ≡ false → AnyFrom t g x at r (any_numbers (Err NotLawful))
     from_apart h = kept _ (rw e (record { agreed = λ q. absurd (never _ q h); apart = λ q. refl }))
 
-    pub from_regions : agree east north order ≡ true → (a : AnyAnswer) → a ≡ first_seen east north r (touched_stands (noted_in east order entries first numbers) (regions_in wanted))
-        → AnyFrom east north g order entries at r (any_numbers a)
+    pub from_regions : agree t.east t.north x.order ≡ true → (a : Result (Option Stand) Refusal)
+        → a ≡ first_seen t.east t.north r (touched_stands (noted_in t.east x.order x.entries touched.first numbers) (regions_in touched.regions)) → AnyFrom t g x at r (any_numbers a)
     from_regions h a f =
-        let seen = touched_stands (noted_in east order entries first numbers) (regions_in wanted) in
-        kept (any_numbers a) (rw (e, f) (record { agreed = λ q. record { exact = first_exact east north r seen; harmless = first_harmless east north r seen }; apart = λ q. absurd (never _ h q) }))
+        let seen = touched_stands (noted_in t.east x.order x.entries touched.first numbers) (regions_in touched.regions) in
+        kept (any_numbers a) (rw (e, f) (record { agreed = λ q. record { exact = first_exact t.east t.north r seen; harmless = first_harmless t.east t.north r seen }; apart = λ q. absurd (never _ h q) }))
 
-  pub from_nothing : t ≡ touched.Nothing → AnyFrom east north g order entries at r (any_numbers No)
+  pub from_nothing : looked-at ≡ Ok None → AnyFrom t g x at r (any_numbers (Ok None))
   from_nothing e = kept _ (rw e)
 
-  pub from_refused : (why : Refusal) → t ≡ touched.Refused why → AnyFrom east north g order entries at r (any_numbers (Refused why))
+  pub from_refused : (why : Refusal) → looked-at ≡ Err why → AnyFrom t g x at r (any_numbers (Err why))
   from_refused why e = kept _ (rw e)
 
 -- ---- from a text
 
 module _ (t : Table) (g : Grid) (x : Index) (p : List ℕ) (r : Rect) where
-  pub of_refused : (v : Verdict) (why : Refusal) → verdict_number v ≡ text_refusal (folded_text p) → v ≡ verdict.Refused why → AnyPromise t g x p r (any_numbers (Refused why))
+  pub of_refused : (v : Result Unit Refusal) (why : Refusal) → verdict_number v ≡ text_refusal (folded_text p) → v ≡ Err why → AnyPromise t g x p r (any_numbers (Err why))
   of_refused v why e q = text_refused _ any_outcome (range_list t g (folded_text p) r) refusing_any (folded_text p) (rect_refusal r) any_refused why (ap verdict_number (sym q) ∙ e)
 
-  pub of_listed : (o : AnyTold) (v : Verdict) (at : Listing) → verdict_number v ≡ text_refusal (folded_text p) → v ≡ verdict.Passed → at ≡ listing_at x.nodes x.bits (node_in x.nodes (folded_text p))
-      → AnyFrom t.east t.north g x.order x.entries at r o → AnyPromise t g x p r o
-  of_listed o v at e fine walked w =
-      from_kept _ (λ t' q. Listed t.east t.north t'.score g x.order x.entries at t' q) any_outcome (λ t p. range_list t g p r) (refusing_any 7) o t (folded_text p)
+  pub of_listed : (o : AnyTold) (v : Result Unit Refusal) (u : Unit) (at : Listed) → verdict_number v ≡ text_refusal (folded_text p) → v ≡ Ok u → at ≡ listing_at x.nodes x.bits (node_in x.nodes (folded_text p))
+      → AnyFrom t g x at r o → AnyPromise t g x p r o
+  of_listed o v u at e fine walked w =
+      from_kept _ (λ t' q. asked.Listed t.east t.north t'.score g x.order x.entries at t' q) any_outcome (λ t p. range_list t g p r) (refusing_any 7) o t (folded_text p)
       (rect_refusal r) (sym e ∙ ap verdict_number fine) (text_listed t g x (folded_text p) at walked) w

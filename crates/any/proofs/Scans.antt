@@ -1,94 +1,104 @@
 -- The scan's loops, by what is left to look at. Assumes nothing.
 use mathlib.Core.Path.{◌≡◌, refl, sym, ap, ◌∙◌}
 use mathlib.Core.Bool.{true, false, not}
-use mathlib.Core.List.{List, ◌∷◌, ◌++◌}
+use mathlib.Core.List.{List, [], ◌∷◌, ◌++◌}
 use Prim.Native.Nat.{ℕ, ◌+◌, ◌≤◌, ◌<◌}
 use native.Mathlib.Omega.{arith}
+use native.Mathlib.Numerals.{add-one}
+use lib.Dec.{ltb}
 use lib.IntN.{ℤ}
-use lib.ListN.{length, get_or, drop}
-use lib.Seq.{slice}
+use lib.ListN.{length, get_or, drop, drop_of_length-le}
+use lib.Seq.{drop-cons}
+use borrow.Table.Steps.{cases}
+use Rattle.std.specs.Prelude.{Option, Some, None, Result, Ok, Err}
+use Rattle.std.specs.Borrow.{Bor}
 use Rattle.base.specs.Lists.{is_empty, first_of}
 use Rattle.base.proofs.Members.{empty_of}
+use Rattle.rules.specs.declared.Broken.{Broken}
 use Rattle.rules.specs.declared.Place.{Place}
 use Rattle.rules.specs.declared.Rect.{Rect}
-use Rattle.rules.specs.Places.{in_rect}
-use Rattle.rules.specs.declared.AnyAnswer.{AnyAnswer}
-use Rattle.rules.specs.declared.AnyAnswer.TheVariants.{Yes, No, Refused}
+use Rattle.rules.specs.declared.Refusal.{Refusal}
 use Rattle.rules.specs.declared.Refusal.TheVariants.{NotLawful}
-use Rattle.walk.specs.declared.entry.Entry.{Entry}
-use Rattle.walk.specs.declared.entry.EntryRead.{EntryRead}
-use Rattle.walk.specs.declared.entry.EntryRead.TheVariants.{At, Broken}
-use Rattle.runs.specs.declared.sight.Sighted.{Sighted}
-use Rattle.runs.specs.declared.sight.Sighted.TheVariants.{Unknown}
-use Rattle.runs.specs.declared.sight.Sighted.TheVariants as here
-use Rattle.runs.specs.Sights.{sighted, Noted, entry_noted, touched_stands, Ready}
-use Rattle.runs.proofs.Sights.{is_unknown, places_enough}
-use Rattle.runs.proofs.Walks.{place_and_later, run-over, run_there, run_broken, run-within, run_and_later}
+use Rattle.rules.specs.declared.Stand.{Stand}
+use Rattle.rules.specs.Places.{in_rect}
+use Rattle.runs.specs.Sights.{inside, sighted, Noted, run_seen, run_of, touched_stands, Ready}
+use Rattle.runs.proofs.Sights.{is_unknown}
+use Rattle.runs.proofs.Walks.{run_and_later}
 use Rattle.any.specs.Scans.{first_seen}
 
--- what is left comes to what the stands of these regions come to
-pub record Scanning (east north : List ℤ) (n : Noted) (rect : Rect) (regions left : List ℕ) : Type 0 where
-  pub ready : Ready east north n
-  pub same : first_seen east north rect (touched_stands n regions) ≡ first_seen east north rect left
-
--- in a run that ends within the order
-pub record Running (east north : List ℤ) (n : Noted) (rect : Rect) (regions : List ℕ) (end i : ℕ) : Type 0 where
-  pub within : end ≤ length n.order
-  pub scanning : Scanning east north n rect regions (slice i end n.order ++ touched_stands n (drop 1 regions))
-
-module _ (east north : List ℤ) (n : Noted) (rect : Rect) where
-  abbrev scan : List ℕ → AnyAnswer
+module _ (east north : List ℤ) (rect : Rect) where
+  abbrev scan : List ℕ → Result (Option Stand) Refusal
   scan seen = first_seen east north rect seen
 
-  pub scan_begins : (regions : List ℕ) → Ready east north n → Scanning east north n rect regions (touched_stands n regions)
-  scan_begins regions y = record { ready = y; same = refl }
+  -- ---- at place i of a run: what is left comes to what all of it does
 
-  -- ---- at the first region that is left
+  module _ (run : List ℕ) (i : ℕ) (left : scan run ≡ scan (drop i run)) where
+    module _ (l : i < length run) (seen : Result Place Broken) (is : seen ≡ sighted east north (get_or run i 0)) where
+      turn : scan run ≡ scan (get_or run i 0 ∷ drop (i + 1) run)
+      turn = left ∙ ap scan (drop-cons run i 0 l ∙ rw (add-one i))
 
-  module _ (left : List ℕ) (ready : Ready east north n) (some : is_empty left ≡ false) (r : ℕ) (least : r ≡ first_of left) (a : EntryRead) (read : a ≡ entry_noted n r) where
-    pub scan_unread : a ≡ Broken → Refused NotLawful ≡ scan (touched_stands n left)
-    unfolding first_seen
-    scan_unread e =
-        let first : touched_stands n left ≡ n.stands ∷ touched_stands n (drop 1 left) =
-        run_and_later left some n r least ∙ ap (λ (run : List ℕ). run ++ touched_stands n (drop 1 left)) (run_broken n r a read e) in
-        let unknown : Unknown ≡ sighted east north n.stands = is_unknown east north n.stands (omega (arith, ready.all)) in
-        sym (ap scan first ∙ rw (← unknown))
-
-    pub run-begins : (x : Entry) → a ≡ At x → Running east north n rect left x.past.0 x.first.0
-    run-begins x e =
-        record {
-          within = omega (arith, run-within n r a read x e, ready.all, places_enough east north n.order ready.agreed);
-          scanning = record {
-            ready = ready;
-            same = ap scan (run_and_later left some n r least ∙ ap (λ (run : List ℕ). run ++ touched_stands n (drop 1 left)) (run_there n r a read x e));
-          };
-        }
-
-  -- ---- at place i of its run
-
-  module _ (left : List ℕ) (end i : ℕ) (w : Running east north n rect left end i) where
-    module _ (l : i < end) (seen : Sighted) (is : seen ≡ sighted east north (get_or n.order i 0)) where
-      turn : scan (touched_stands n left) ≡ scan (get_or n.order i 0 ∷ (slice (i + 1) end n.order ++ touched_stands n (drop 1 left)))
-      turn = w.scanning.same ∙ ap (λ (run : List ℕ). scan (run ++ touched_stands n (drop 1 left))) (place_and_later n.order i end l w.within)
-
-      pub scan_breaks : seen ≡ Unknown → Refused NotLawful ≡ scan (touched_stands n left)
+      pub scan_breaks : (b : Broken) → seen ≡ Err b → Err NotLawful ≡ scan run
       unfolding first_seen
-      scan_breaks e = sym (turn ∙ rw (← is, e))
+      scan_breaks b e = sym (turn ∙ rw (← is, e))
 
-      module _ (p : Place) (at : seen ≡ here.At p) where
-        pub scan_hits : in_rect rect p ≡ true → Yes (record { 0 = get_or n.order i 0 }) ≡ scan (touched_stands n left)
+      module _ (p : Place) (at : seen ≡ Ok p) where
+        pub scan_hits : in_rect rect p ≡ true → Ok (Some (record { 0 = get_or run i 0 })) ≡ scan run
         unfolding first_seen
         scan_hits e = sym (turn ∙ rw (← is, at, e))
 
-        pub scan_misses : in_rect rect p ≡ false → Running east north n rect left end (i + 1)
+        pub scan_misses : in_rect rect p ≡ false → scan run ≡ scan (drop (i + 1) run)
         unfolding first_seen
-        scan_misses e = record { within = w.within; scanning = record { ready = w.scanning.ready; same = turn ∙ rw (← is, at, e) } }
+        scan_misses e = turn ∙ rw (← is, at, e)
 
-    pub run_ends : end ≤ i → scan (touched_stands n left) ≡ scan (touched_stands n (drop 1 left))
-    run_ends h = w.scanning.same ∙ ap (λ (run : List ℕ). scan (run ++ touched_stands n (drop 1 left))) (run-over n.order i end h)
+    pub run_ends : length run ≤ i → Ok None ≡ scan run
+    unfolding first_seen
+    run_ends h = sym (left ∙ rw (drop_of_length-le run {i = i} h))
 
-  -- ---- no region is left
+  -- ---- one list after another
 
-  pub scan_ends : (regions left : List ℕ) → Scanning east north n rect regions (touched_stands n left) → is_empty left ≡ true → No ≡ scan (touched_stands n regions)
-  unfolding first_seen
-  scan_ends regions left w none = sym (w.same ∙ ap (λ (l : List ℕ). scan (touched_stands n l)) (empty_of left (ap not none)))
+  -- on from what a scan came to
+  abbrev onward : Result (Option Stand) Refusal → List ℕ → Result (Option Stand) Refusal
+  onward (Ok (Some s)) later = Ok (Some s)
+  onward (Ok None) later = scan later
+  onward (Err e) later = Err e
+
+  scan_append : (run later : List ℕ) → scan (run ++ later) ≡ onward (scan run) later
+  unfolding first_seen sighted
+  scan_append [] later = refl
+  scan_append (s ∷ run) later =
+      cases (ltb s (length east))
+      (λ t. cases (inside east north rect s) (λ e. rw (t, e)) (λ e. rw (t, e) (scan_append run later)))
+      (λ t. rw t)
+
+  -- ---- at the first region that is left
+
+  module _ (n : Noted) (regions left : List ℕ) (same : scan (touched_stands n regions) ≡ scan (touched_stands n left)) where
+    module _ (some : is_empty left ≡ false) (r : ℕ) (least : r ≡ first_of left) (read : Result (Bor (List ℕ)) Broken) (is : run_seen n read ≡ run_of n r) where
+      here_and_later : scan (touched_stands n regions) ≡ onward (scan (run_seen n read)) (touched_stands n (drop 1 left))
+      here_and_later =
+          same
+          ∙ ap scan (run_and_later left some n r least ∙ ap (λ (run : List ℕ). run ++ touched_stands n (drop 1 left)) (sym is))
+          ∙ scan_append (run_seen n read) (touched_stands n (drop 1 left))
+
+      pub scan_unread : Ready east north n → (b : Broken) → read ≡ Err b → Err NotLawful ≡ scan (touched_stands n regions)
+      unfolding first_seen
+      scan_unread ready b e = sym (here_and_later ∙ rw (e, ← is_unknown east north n.stands (omega (arith, ready.all))))
+
+      module _ (run : Bor (List ℕ)) (e : read ≡ Ok run) (a : Result (Option Stand) Refusal) (scanned : a ≡ scan run.now) where
+        on : scan (touched_stands n regions) ≡ onward a (touched_stands n (drop 1 left))
+        on = here_and_later ∙ rw (e, scanned)
+
+        pub scan_refused : (why : Refusal) → a ≡ Err why → Err why ≡ scan (touched_stands n regions)
+        scan_refused why q = sym (on ∙ rw q)
+
+        pub scan_found : (s : Stand) → a ≡ Ok (Some s) → Ok (Some s) ≡ scan (touched_stands n regions)
+        scan_found s q = sym (on ∙ rw q)
+
+        pub scan_on : (later : List ℕ) → a ≡ Ok None → later ≡ drop 1 left → scan (touched_stands n regions) ≡ scan (touched_stands n later)
+        scan_on later q d = on ∙ rw (q, d)
+
+    -- ---- no region is left
+
+    pub scan_ends : is_empty left ≡ true → Ok None ≡ scan (touched_stands n regions)
+    unfolding first_seen
+    scan_ends none = sym (same ∙ ap (λ (l : List ℕ). scan (touched_stands n l)) (empty_of left (ap not none)))

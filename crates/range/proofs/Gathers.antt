@@ -10,16 +10,15 @@ use lib.IntN.{ℤ}
 use lib.ListN.{length, drop, set, length-set}
 use lib.Seq.{sets, sets-eq}
 use borrow.Table.Steps.{cases}
+use Rattle.std.specs.Prelude.{Result, Ok, Err}
 use Rattle.base.specs.Lists.{keep, written}
 use Rattle.base.proofs.Tests.{never, and_parts}
+use Rattle.rules.specs.declared.Broken.{Broken}
 use Rattle.rules.specs.declared.Place.{Place}
 use Rattle.rules.specs.declared.Rect.{Rect}
 use Rattle.rules.specs.Places.{in_rect}
-use Rattle.runs.specs.declared.sight.Sighted.{Sighted}
-use Rattle.runs.specs.declared.sight.Sighted.TheVariants.{At, Unknown}
+use Rattle.walk.specs.Walks.{broken}
 use Rattle.runs.specs.Sights.{inside, sighted, known}
-use Rattle.range.specs.declared.gather.Tally.{Tally}
-use Rattle.range.specs.declared.gather.Tally.TheVariants.{Count, Broken}
 use Rattle.range.specs.Fetches.{Gathered, tallied, gathered}
 
 -- the room after as many as fit are written at its start
@@ -31,12 +30,12 @@ sets_written words room h =
 module _ (east north : List ℤ) (rect : Rect) where
   -- ---- one stand
 
-  module _ (s : ℕ) (l room : List ℕ) (n : ℕ) (seen : Sighted) (is : seen ≡ sighted east north s) where
-    pub stand_off : seen ≡ Unknown → gathered east north rect room n (s ∷ l) ≡ tallied Broken room
+  module _ (s : ℕ) (l room : List ℕ) (n : ℕ) (seen : Result Place Broken) (is : seen ≡ sighted east north s) where
+    pub stand_off : (b : Broken) → seen ≡ Err b → gathered east north rect room n (s ∷ l) ≡ tallied (Err b) room
     unfolding gathered
-    stand_off e = rw (← is, e)
+    stand_off b e = rw (← is, e)
 
-    module _ (p : Place) (at : seen ≡ At p) where
+    module _ (p : Place) (at : seen ≡ Ok p) where
       pub stand-in : in_rect rect p ≡ true → gathered east north rect room n (s ∷ l) ≡ gathered east north rect (set room n s) (suc n) l
       unfolding gathered
       stand-in e = rw (← is, at, e)
@@ -48,9 +47,9 @@ module _ (east north : List ℤ) (rect : Rect) where
   -- ---- one list after another
 
   -- on from where a walk came to
-  abbrev pub onward : Tally → List ℕ → List ℕ → Gathered
-  onward (Count m) room k = gathered east north rect room m k
-  onward Broken room k = tallied Broken room
+  abbrev pub onward : Result ℕ Broken → List ℕ → List ℕ → Gathered
+  onward (Ok m) room k = gathered east north rect room m k
+  onward (Err b) room k = tallied (Err b) room
 
   walk_append : (l k room : List ℕ) (n : ℕ) → gathered east north rect room n (l ++ k) ≡ onward (gathered east north rect room n l).tally (gathered east north rect room n l).room k
   unfolding gathered sighted
@@ -60,7 +59,7 @@ module _ (east north : List ℤ) (rect : Rect) where
       (λ t. cases (inside east north rect s) (λ e. rw (t, e) (walk_append l k (set room n s) (suc n))) (λ e. rw (t, e) (walk_append l k room n)))
       (λ t. rw t)
 
-  pub walk_from : (t : Tally) (l k room room' : List ℕ) (n : ℕ) → tallied t room' ≡ gathered east north rect room n l → gathered east north rect room n (l ++ k) ≡ onward t room' k
+  pub walk_from : (t : Result ℕ Broken) (l k room room' : List ℕ) (n : ℕ) → tallied t room' ≡ gathered east north rect room n l → gathered east north rect room n (l ++ k) ≡ onward t room' k
   walk_from t l k room room' n e = walk_append l k room n ∙ ap (λ (g : Gathered). onward g.tally g.room k) (sym e)
 
   -- ---- what it counts and leaves
@@ -78,7 +77,7 @@ module _ (east north : List ℤ) (rect : Rect) where
       (λ t. rw t)
 
   -- where all are of the table those are counted, and written as far as the room goes
-  pub walk_whole : (l room : List ℕ) (n : ℕ) → known east l ≡ true → gathered east north rect room n l ≡ tallied (Count (n + length (hits l))) (sets room n (hits l))
+  pub walk_whole : (l room : List ℕ) (n : ℕ) → known east l ≡ true → gathered east north rect room n l ≡ tallied (Ok (n + length (hits l))) (sets room n (hits l))
   unfolding gathered sighted
   walk_whole [] room n q = let z : n ≡ n + 0 = omega arith in rw (← z)
   walk_whole (s ∷ l) room n q =
@@ -89,7 +88,7 @@ module _ (east north : List ℤ) (rect : Rect) where
       (λ e. rw (k.0, e) (walk_whole l room n k.1))
 
   -- where one is not of the table the walk breaks off
-  pub walk_broken : (l room : List ℕ) (n : ℕ) → known east l ≡ false → (gathered east north rect room n l).tally ≡ Broken
+  pub walk_broken : (l room : List ℕ) (n : ℕ) → known east l ≡ false → (gathered east north rect room n l).tally ≡ Err broken
   unfolding gathered sighted
   walk_broken [] room n q = never true refl q
   walk_broken (s ∷ l) room n q =
@@ -98,12 +97,12 @@ module _ (east north : List ℤ) (rect : Rect) where
       (λ t. rw t)
 
   -- so a count says that all are of the table, and which were found
-  pub walk_counts : (l room : List ℕ) (n m : ℕ) → (gathered east north rect room n l).tally ≡ Count m → (known east l ≡ true) × (m ≡ n + length (hits l))
+  pub walk_counts : (l room : List ℕ) (n m : ℕ) → (gathered east north rect room n l).tally ≡ Ok m → (known east l ≡ true) × (m ≡ n + length (hits l))
   walk_counts l room n m e =
       cases (known east l)
       (λ q. (q, cc (e, ap (λ (g : Gathered). g.tally) (walk_whole l room n q))))
       (λ q. let z : ◌≡◌ {A = ℕ} 0 1 = cc (e, walk_broken l room n q) in absurd (omega arith))
 
-  pub walk_breaks_off : (l room : List ℕ) (n : ℕ) → (gathered east north rect room n l).tally ≡ Broken → known east l ≡ false
-  walk_breaks_off l room n e =
+  pub walk_breaks_off : (l room : List ℕ) (n : ℕ) (b : Broken) → (gathered east north rect room n l).tally ≡ Err b → known east l ≡ false
+  walk_breaks_off l room n b e =
       cases (known east l) (λ q. let z : ◌≡◌ {A = ℕ} 0 1 = cc (e, ap (λ (g : Gathered). g.tally) (walk_whole l room n q)) in absurd (omega arith)) (λ q. q)

@@ -1,37 +1,25 @@
 -- What the range question makes of the stands that it looks at, on any words: those in the rectangle counted and written, and the outcome.
-use Rattle.std.specs.Prelude.{cond, List, [], ◌∷◌, ℕ, suc, ◌+◌, ◌≤◌, ◌<◌, ℤ, length, set}
+use Rattle.std.specs.Prelude.{cond, List, [], ◌∷◌, ℕ, suc, ℤ, set, Result, Ok, Err}
 use Rattle.base.specs.Lists.{keep}
+use Rattle.rules.specs.declared.Broken.{Broken}
 use Rattle.rules.specs.declared.Rect.{Rect}
-use Rattle.rules.specs.declared.RangeAnswer.{RangeAnswer}
-use Rattle.rules.specs.declared.RangeAnswer.TheVariants.{Refused}
-use Rattle.rules.specs.declared.Refusal.TheVariants.{NotLawful}
 use Rattle.rules.specs.Outcomes.{Outcome, refused, range_outcome}
+use Rattle.walk.specs.Walks.{broken}
 use Rattle.runs.specs.Sights.{inside, sighted, by_sight, known}
-use Rattle.range.specs.declared.gather.Tally.{Tally}
-use Rattle.range.specs.declared.gather.Tally.TheVariants as tallies
 
 -- how many were found, and the room
 pub record Gathered : Type 0 where
-  pub tally : Tally
+  pub tally : Result ℕ Broken
   pub room : List ℕ
 
-abbrev pub tallied : Tally → List ℕ → Gathered
+abbrev pub tallied : Result ℕ Broken → List ℕ → Gathered
 tallied tally room = record { tally = tally; room = room }
 
 -- behind n that were found before, those of the stands that are in the rectangle; broken at the first that is not of the table
 unfoldable pub gathered : List ℤ → List ℤ → Rect → List ℕ → ℕ → List ℕ → Gathered
-gathered east north rect room n [] = tallied (tallies.Count n) room
+gathered east north rect room n [] = tallied (Ok n) room
 gathered east north rect room n (s ∷ l) =
-    by_sight (sighted east north s) rect (gathered east north rect (set room n s) (suc n) l) (gathered east north rect room n l) (tallied tallies.Broken room)
-
--- what the walk through one run asks for, behind as many as were found before
-pub record RunFits (east north : List ℤ) (order : List ℕ) (past before : ℕ) : Type 0 where
-  pub placed : length east ≤ length north
-  pub within : past ≤ length order
-  pub few : before + past < 4294967296
-
-abbrev pub unlawful : RangeAnswer
-unlawful = Refused NotLawful 0
+    by_sight (sighted east north s) rect (gathered east north rect (set room n s) (suc n) l) (gathered east north rect room n l) (tallied (Err broken) room)
 
 -- the outcome of some stands that were looked at: 7 where one is not of the table
 unfoldable pub looked : List ℤ → List ℤ → Rect → List ℕ → List ℕ → Outcome

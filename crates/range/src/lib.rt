@@ -4,124 +4,71 @@
 
 ghost use Rattle.std.specs.Prelude.{◌≡◌};
 ghost use Rattle.base.specs.Lent.{given};
-ghost use Rattle.grid.specs.Cells.{regions_in};
-ghost use Rattle.rules.specs.Tables.{table_in};
+ghost use Rattle.rules.specs.Tables.{lent_table};
 ghost use Rattle.rules.specs.Outcomes.{room_in, range_came_in};
-ghost use Rattle.rules.specs.Indexes.{index_in};
+ghost use Rattle.rules.specs.Indexes.{lent_index};
 ghost use Rattle.rules.specs.Promises.{RangePromise};
-ghost use Rattle.runs.specs.Sights.{noted_in, touched_stands, Ready};
+ghost use Rattle.runs.specs.Runs.{easts, norths, stands_there};
 ghost use Rattle.range.specs.Promises.{RangeFrom};
-ghost use Rattle.range.specs.Fetches.{unlawful, looked};
+ghost use Rattle.range.specs.Fetches.{looked};
 
 mod gather;
 
-use gather::{NEAR, Tally, copy, gather};
-use grid::cells::Cells;
-use rules::{Grid, RangeAnswer, Rect, Refusal, Verdict};
+use gather::gather;
+use rules::{Grid, RangeRefusal, Rect, Refusal, Set};
 use runs::notes::EntryNumbers;
-use runs::{Touched, agree, touched_regions};
+use runs::{Runs, agree, touched_regions};
 use table::text::text_verdict;
-use walk::listing::{Listing, listing_of};
+use walk::listing::{Listed, listing_of};
 
-// The words cannot be those of a lawful set.
-fn unlawful() -> RangeAnswer
-    ensures { result ≡ unlawful }
-{
-    RangeAnswer::Refused {
-        why: Refusal::NotLawful,
-        matches: 0,
-    }
-}
+// How many matches are kept while they are counted: more than fit a handheld's screen.
+const NEAR: usize = 32;
 
-// The regions' matches, written once they are known to fit the room. Up to NEAR of them are kept from the count;
-// only for more the regions are gone through again.
-fn fill(
-    east: &[i32],
-    north: &[i32],
-    order: &[u32],
-    entries: &[u32],
-    first: u32,
-    numbers: &EntryNumbers,
-    regions: Cells,
-    rect: Rect,
-    found: &mut [u32],
-) -> RangeAnswer
-    requires { Ready east.now north.now (noted_in east.now order.now entries.now first numbers.now) }
-    ensures { range_came_in result found ≡ looked (given east) (given north) rect (touched_stands (noted_in (given east) (given order) (given entries) first (given numbers)) (regions_in regions)) found.old }
+// The runs' matches, written once they are known to fit the room. Up to NEAR of them are kept from the count;
+// only for more the runs are gone through again.
+fn fill(runs: &Runs, rect: Rect, found: &mut [u32]) -> Result<u32, RangeRefusal>
+    ensures { range_came_in result found ≡ looked (easts runs.now) (norths runs.now) rect (stands_there runs.now) found.old }
 {
     let mut near = [0u32; NEAR];
-    let Tally::Count(matches) = gather(
-        east, north, order, entries, first, numbers, regions, rect, &mut near,
-    ) else {
-        return unlawful();
-    };
+    let matches = gather(runs, rect, &mut near)?;
     let count = matches as usize;
     if found.len() < count {
-        return RangeAnswer::Refused {
+        return Err(RangeRefusal {
             why: Refusal::RoomTooSmall,
             matches,
-        };
+        });
     }
     if count <= NEAR {
-        copy(&near, count, found);
+        found[..count].copy_from_slice(&near[..count]);
     } else {
-        gather(
-            east, north, order, entries, first, numbers, regions, rect, found,
-        );
+        gather(runs, rect, found)?;
     }
-    RangeAnswer::Found(matches)
+    Ok(matches)
 }
 
 // The question from a text's listing; the text itself is no more needed.
-pub fn range_from(
-    east: &[i32],
-    north: &[i32],
-    grid: Grid,
-    order: &[u32],
-    entries: &[u32],
-    at: Listing,
-    rect: Rect,
-    found: &mut [u32],
-) -> RangeAnswer
-    ensures { RangeFrom (given east) (given north) grid (given order) (given entries) at rect (room_in found) (range_came_in result found) }
+pub fn range_from(set: Set, at: Listed, rect: Rect, found: &mut [u32]) -> Result<u32, RangeRefusal>
+    ensures { RangeFrom (lent_table set.entry.table) set.entry.grid (lent_index set.entry.index) at rect (room_in found) (range_came_in result found) }
 {
     let mut numbers: EntryNumbers = [0; Grid::REGIONS];
-    match touched_regions(grid, entries, at, rect, &mut numbers) {
-        Touched::Regions(wanted, first) => {
-            if !agree(east, north, order) {
-                return unlawful();
-            }
-            fill(
-                east, north, order, entries, first, &numbers, wanted, rect, found,
-            )
-        }
-        Touched::Nothing => RangeAnswer::Found(0),
-        Touched::Refused(why) => RangeAnswer::Refused { why, matches: 0 },
-    }
+    let Some(touched) = touched_regions(set, at, rect, &mut numbers)? else {
+        return Ok(0);
+    };
+    agree(set)?;
+    let runs = Runs {
+        set,
+        touched,
+        numbers: &numbers,
+    };
+    fill(&runs, rect, found)
 }
 
 // The stands whose name begins with a typed text and which are in a rectangle, by region and then by number.
 // A set that is not lawful is refused where that shows; where it doesn't, the answer is of no worth, and no harm is done.
-pub fn range(
-    text: &[u8],
-    starts: &[u32],
-    east: &[i32],
-    north: &[i32],
-    score: &[u32],
-    grid: Grid,
-    order: &[u32],
-    nodes: &[u32],
-    entries: &[u32],
-    bits: &[u32],
-    typed: &[u8],
-    rect: Rect,
-    found: &mut [u32],
-) -> RangeAnswer
-    ensures { RangePromise (table_in text starts east north score) grid (index_in order nodes entries bits) (given typed) rect (room_in found) (range_came_in result found) }
+pub fn range(set: Set, typed: &[u8], rect: Rect, found: &mut [u32]) -> Result<u32, RangeRefusal>
+    ensures { RangePromise (lent_table set.entry.table) set.entry.grid (lent_index set.entry.index) (given typed) rect (room_in found) (range_came_in result found) }
 {
-    if let Verdict::Refused(why) = text_verdict(typed) {
-        return RangeAnswer::Refused { why, matches: 0 };
-    }
-    let at = listing_of(nodes, bits, typed);
-    range_from(east, north, grid, order, entries, at, rect, found)
+    text_verdict(typed)?;
+    let at = listing_of(set.index.nodes, set.index.bits, typed);
+    range_from(set, at, rect, found)
 }

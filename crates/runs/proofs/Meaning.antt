@@ -9,6 +9,7 @@ use native.Mathlib.Omega.{arith}
 use lib.ListN.{length, drop, length-replicate}
 use borrow.Table.Steps.{cases}
 use borrow.Author.Tests.{eqb-true, le-leb, le-ltb}
+use Rattle.std.specs.Prelude.{Ok}
 use Rattle.base.specs.Lists.{up_to, keep, each, each_list, is_empty, first_of, In}
 use Rattle.base.proofs.Tests.{never, refuted, every_of}
 use Rattle.base.proofs.Begins.{begins-part, begins-length}
@@ -31,7 +32,6 @@ use Rattle.meaning.proofs.Regions.{entry_slice, range_regions}
 use Rattle.meaning.proofs.Listing.{order_means}
 use Rattle.meaning.proofs.Entries.{entries_mean, entry_own, entry_there}
 use Rattle.walk.specs.declared.entry.Entry.{Entry}
-use Rattle.walk.specs.declared.entry.EntryRead.TheVariants.{At}
 use Rattle.walk.specs.Entries.{entry_read, as_read, SpelledFrom}
 use Rattle.walk.proofs.Listed.{Lists}
 use Rattle.runs.specs.Notes.{notes_of, notes_in, blank}
@@ -72,7 +72,7 @@ module _ (t : Table) (g : Grid) (x : Index) (s : SetParts t g x) (p : List ℕ) 
 
   -- the entry that is noted for a region is its own
   Right : ℕ → ℕ → Type 0
-  Right j r = entry_read x.entries (stands t) (first + j) ≡ At (as_read (entry_of t g p r))
+  Right j r = entry_read x.entries (stands t) (first + j) ≡ Ok (as_read (entry_of t g p r))
 
   own : (y : Entry) → In y listed → (y ≡ as_read (entry_of t g p y.region)) × (y.region < length blank)
   own y k =
@@ -86,9 +86,9 @@ module _ (t : Table) (g : Grid) (x : Index) (s : SetParts t g x) (p : List ℕ) 
   all_right [] i w o = tt
   all_right (y ∷ es) i w o =
       let next : suc (first + i) ≡ first + suc i = omega arith in
-      (w.0 ∙ ap At (o y (inl refl)).0, (o y (inl refl)).1, all_right es (suc i) (rw next at w.1) (λ z k. o z (inr k)))
+      (w.0 ∙ ap Ok (o y (inl refl)).0, (o y (inl refl)).1, all_right es (suc i) (rw next at w.1) (λ z k. o z (inr k)))
 
-  noted : (r : ℕ) → In r (regions_under t g p) → entry_noted here r ≡ At (as_read (entry_of t g p r))
+  noted : (r : ℕ) → In r (regions_under t g p) → entry_noted here r ≡ Ok (as_read (entry_of t g p r))
   unfolding Right
   noted r h =
       let none : first + 0 ≡ first = omega arith in

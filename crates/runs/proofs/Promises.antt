@@ -9,6 +9,7 @@ use native.Mathlib.Omega.{arith}
 use lib.IntN.{ℤ}
 use borrow.Table.Steps.{cases}
 use lib.ListN.{length}
+use Rattle.std.specs.Prelude.{Some, None, Ok, Err}
 use Rattle.base.specs.Lists.{up_to, keep, each_list, is_empty}
 use Rattle.base.proofs.Members.{keep_none, each_list-keep}
 use Rattle.rules.specs.declared.Grid.{Grid}
@@ -22,8 +23,7 @@ use Rattle.rules.proofs.Lawful.{set_parts}
 use Rattle.grid.specs.declared.cells.Cells.{Cells}
 use Rattle.grid.specs.Cells.{cells_of, both_cells, regions_in}
 use Rattle.grid.proofs.Covers.{Edges}
-use Rattle.walk.specs.declared.listing.Listing.{Listing}
-use Rattle.walk.specs.declared.listing.Listing.TheVariants.{Entries, Nowhere, Broken}
+use Rattle.walk.specs.Listings as listings
 use Rattle.walk.specs.Asked.{Listed}
 use Rattle.walk.proofs.Listed.{nowhere_none, never_broken, entries_listed}
 use Rattle.runs.specs.Notes.{notes_in, blank}
@@ -49,13 +49,13 @@ either : (test : Bool) (look other : Look) → OnlySeven look → OnlySeven othe
 either true look other h k = h
 either false look other h k = k
 
-only_7 : (g : Grid) (entries : List ℕ) (at : Listing) (r : Rect) → OnlySeven (straight_look g entries at r)
+only_7 : (g : Grid) (entries : List ℕ) (at : listings.Listed) (r : Rect) → OnlySeven (straight_look g entries at r)
 unfolding listed_look
-only_7 g entries (Entries cells first) r =
-    let notes = notes_in entries first (length (regions_in cells)) blank in
-    either (grid_lawful g) _ _ (either (is_empty (regions_in (both_cells cells (cells_of g r)))) _ _ tt (either notes.whole _ _ tt refl)) refl
-only_7 g entries Nowhere r = tt
-only_7 g entries Broken r = refl
+only_7 g entries (Ok (Some l)) r =
+    let notes = notes_in entries l.first (length (regions_in l.regions)) blank in
+    either (grid_lawful g) _ _ (either (is_empty (regions_in (both_cells l.regions (cells_of g r)))) _ _ tt (either notes.whole _ _ tt refl)) refl
+only_7 g entries (Ok None) r = tt
+only_7 g entries (Err e) r = refl
 
 -- the stands' places
 record Places : Type 0 where
@@ -77,7 +77,7 @@ module _ {Out : Type 0} (comes_to : ℕ → List ℕ → Out) (refused : ℕ →
   -- ---- on a lawful set what its range comes to
 
   module _ (edges : Edges r) (t : Table) (p : List ℕ) where
-    entries_exact : (cells : Cells) (first : ℕ) → Listed east north t.score g order entries (Entries cells first) t p → answers (listed_look g entries cells first r) → o ≡ comes_to 0 (range_list t g p r)
+    entries_exact : (cells : Cells) (first : ℕ) → Listed east north t.score g order entries (listings.entries cells first) t p → answers (listed_look g entries cells first r) → o ≡ comes_to 0 (range_list t g p r)
     entries_exact cells first l w =
         let x = index_of order l.nodes entries l.bits in
         let s = set_parts t g x l.lawful in
@@ -99,12 +99,12 @@ module _ {Out : Type 0} (comes_to : ℕ → List ℕ → Out) (refused : ℕ →
         (u.agreed (agreed t g x s p cells first lists)).exact (ap (known t.east) are ∙ seen_known t g x s p cells first lists r)
         ∙ ap (comes_to 0) (ap (keep (inside t.east t.north r)) are ∙ range_is t g x s p cells first lists r edges))
 
-    at_exact : (at : Listing) → Listed east north t.score g order entries at t p → answers (straight_look g entries at r) → o ≡ comes_to 0 (range_list t g p r)
-    at_exact (Entries cells first) l w = entries_exact cells first l w
-    at_exact Nowhere l w = w ∙ ap (comes_to 0) (sym (none_ranged t g p r (nowhere_none t g p (sym l.listing))))
-    at_exact Broken l w = absurd (never_broken t g p (sym l.listing))
+    at_exact : (at : listings.Listed) → Listed east north t.score g order entries at t p → answers (straight_look g entries at r) → o ≡ comes_to 0 (range_list t g p r)
+    at_exact (Ok (Some is)) l w = entries_exact is.regions is.first l w
+    at_exact (Ok None) l w = w ∙ ap (comes_to 0) (sym (none_ranged t g p r (nowhere_none t g p (sym l.listing))))
+    at_exact (Err e) l w = absurd (never_broken t g p (sym l.listing))
 
-  pub look-kept : Edges r → (at : Listing) (look : Look) → look ≡ look_at g entries at r → answers look → RectFrom comes_to (refused 7) east north g order entries at r o
+  pub look-kept : Edges r → (at : listings.Listed) (look : Look) → look ≡ look_at g entries at r → answers look → RectFrom comes_to (refused 7) east north g order entries at r o
   look-kept edges at look e w =
       cases (rect_lawful r)
       (λ straight.

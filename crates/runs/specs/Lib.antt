@@ -2,4 +2,5 @@
 -- Notes and Sights are what the code computes, on any words.
 pub mod Notes
 pub mod Sights
+pub mod Runs
 pub mod Promises

@@ -1,5 +1,6 @@
 -- Which entry of a listing is of each region, on any words: entries are counted from the listing's first.
-use Rattle.std.specs.Prelude.{Bool, true, false, cond, List, ℕ, zero, suc, ◌+◌, ◌/◌, ltb, length, set, replicate}
+use Rattle.std.specs.Prelude.{Result, Ok, Err, Bool, true, false, cond, List, ℕ, zero, suc, ◌+◌, ◌/◌, ltb, length, set, replicate}
+use Rattle.rules.specs.declared.Broken.{Broken}
 use Rattle.walk.specs.Entries.{entry_word}
 
 -- for each region its entry's number, and whether every entry is there and of a region
@@ -9,6 +10,11 @@ pub record Notes : Type 0 where
 
 abbrev pub notes_of : List ℕ → Bool → Notes
 notes_of numbers whole = record { numbers = numbers; whole = whole }
+
+-- by what the code answers
+abbrev pub notes_by : Result Unit Broken → List ℕ → Notes
+notes_by (Ok u) numbers = notes_of numbers true
+notes_by (Err e) numbers = notes_of numbers false
 
 -- count entries from number i on
 unfoldable pub note_from : List ℕ → ℕ → ℕ → ℕ → List ℕ → Notes

@@ -6,12 +6,12 @@ use Rattle.rules.specs.declared.Grid.{Grid}
 use Rattle.rules.specs.declared.Rect.{Rect}
 use Rattle.rules.specs.Questions.{range_list, rect_refusal}
 use Rattle.rules.specs.Promises.{Harmless}
-use Rattle.walk.specs.declared.listing.Listing.{Listing}
+use Rattle.walk.specs.Listings as listings
 use Rattle.walk.specs.Asked.{Listed, FromPromise}
 use Rattle.runs.specs.Sights.{inside, known, noted_in, touched_stands, agree, Look}
 
 -- of a set it is lent the stands' places, the order and the entries; their scores may be any
-abbrev pub RectFrom : {Out : Type 0} → (ℕ → List ℕ → Out) → (seven : Out) → List ℤ → List ℤ → Grid → List ℕ → List ℕ → Listing → Rect → Out → Type 0
+abbrev pub RectFrom : {Out : Type 0} → (ℕ → List ℕ → Out) → (seven : Out) → List ℤ → List ℤ → Grid → List ℕ → List ℕ → listings.Listed → Rect → Out → Type 0
 RectFrom comes_to seven east north g order entries at r o =
     FromPromise (λ t p. Listed east north t.score g order entries at t p) (comes_to (rect_refusal r)) (λ t p. range_list t g p r) seven o
 

@@ -1,23 +1,23 @@
 -- What there is to look at for a rectangle, past a text's listing: the stands of some regions' runs, or a refusal. On any words.
-use Rattle.std.specs.Prelude.{◌≡◌, Bool, true, cond, List, [], ◌∷◌, ℕ, ◌+◌, ◌<◌, ltb, leb, ℤ, length, get_or}
+use Rattle.std.specs.Prelude.{◌≡◌, Option, Some, None, Result, Ok, Err, Bool, true, cond, List, [], ◌∷◌, ℕ, ◌+◌, ◌<◌, ltb, leb, ℤ, length, get_or}
 use Rattle.std.proofs.Math.Seq.{slice}
+use Rattle.std.specs.Borrow.{Bor}
 use Rattle.base.specs.Lists.{all, every, each_list, is_empty}
+use Rattle.rules.specs.declared.Broken.{Broken}
 use Rattle.rules.specs.declared.Grid.{Grid}
+use Rattle.rules.specs.declared.Place.{Place}
 use Rattle.rules.specs.declared.Rect.{Rect}
+use Rattle.rules.specs.declared.Refusal.{Refusal}
 use Rattle.rules.specs.Numbers.{refusal_number}
 use Rattle.rules.specs.Places.{grid_lawful, rect_lawful, in_rect}
 use Rattle.rules.specs.Tables.{place_in}
 use Rattle.grid.specs.declared.cells.Cells.{Cells}
 use Rattle.grid.specs.Cells.{cells_of, both_cells, regions_in}
-use Rattle.walk.specs.declared.entry.EntryRead.{EntryRead}
-use Rattle.walk.specs.declared.entry.EntryRead.TheVariants as entry
+use Rattle.walk.specs.declared.entry.Entry.{Entry}
 use Rattle.walk.specs.declared.listing.Listing.{Listing}
-use Rattle.walk.specs.declared.listing.Listing.TheVariants.{Entries, Nowhere, Broken}
+use Rattle.walk.specs.Walks.{broken}
+use Rattle.walk.specs.Listings.{Listed}
 use Rattle.walk.specs.Entries.{entry_read}
-use Rattle.runs.specs.declared.Touched.{Touched}
-use Rattle.runs.specs.declared.Touched.TheVariants as touched
-use Rattle.runs.specs.declared.sight.Sighted.{Sighted}
-use Rattle.runs.specs.declared.sight.Sighted.TheVariants as sighting
 use Rattle.runs.specs.Notes.{Notes, notes_in, blank}
 
 -- ---- one stand
@@ -25,13 +25,13 @@ use Rattle.runs.specs.Notes.{Notes, notes_in, blank}
 abbrev pub inside : List ℤ → List ℤ → Rect → ℕ → Bool
 inside east north rect s = in_rect rect (place_in east north s)
 
-unfoldable pub sighted : List ℤ → List ℤ → ℕ → Sighted
-sighted east north s = cond (ltb s (length east)) (sighting.At (place_in east north s)) sighting.Unknown
+unfoldable pub sighted : List ℤ → List ℤ → ℕ → Result Place Broken
+sighted east north s = cond (ltb s (length east)) (Ok (place_in east north s)) (Err broken)
 
 -- one of three, by where a stand is: in the rectangle, out of it, or nowhere
-abbrev pub by_sight : {A : Type 0} → Sighted → Rect → (in_it out-of-it unknown : A) → A
-by_sight (sighting.At p) rect a b c = cond (in_rect rect p) a b
-by_sight sighting.Unknown rect a b c = c
+abbrev pub by_sight : {A : Type 0} → Result Place Broken → Rect → (in_it out-of-it unknown : A) → A
+by_sight (Ok p) rect a b c = cond (in_rect rect p) a b
+by_sight (Err e) rect a b c = c
 
 -- whether all of a list are stands of the table
 abbrev pub known : List ℤ → List ℕ → Bool
@@ -50,13 +50,13 @@ pub record Noted : Type 0 where
 abbrev pub noted_in : List ℤ → List ℕ → List ℕ → ℕ → List ℕ → Noted
 noted_in east order entries first numbers = record { stands = length east; order = order; entries = entries; first = first; numbers = numbers }
 
-abbrev pub entry_noted : Noted → ℕ → EntryRead
+abbrev pub entry_noted : Noted → ℕ → Result Entry Broken
 entry_noted n r = entry_read n.entries n.stands (n.first + get_or n.numbers r 0)
 
 -- where an entry cannot be gone by there is one stand, and none of the table
-abbrev pub run_by : Noted → EntryRead → List ℕ
-run_by n (entry.At e) = slice e.first.0 e.past.0 n.order
-run_by n entry.Broken = n.stands ∷ []
+abbrev pub run_by : Noted → Result Entry Broken → List ℕ
+run_by n (Ok e) = slice e.first.0 e.past.0 n.order
+run_by n (Err e) = n.stands ∷ []
 
 abbrev pub run_of : Noted → ℕ → List ℕ
 run_of n r = run_by n (entry_noted n r)
@@ -64,8 +64,16 @@ run_of n r = run_by n (entry_noted n r)
 abbrev pub touched_stands : Noted → List ℕ → List ℕ
 touched_stands n regions = each_list (run_of n) regions
 
+-- what the code finds of a region's run
+abbrev pub run_seen : Noted → Result (Bor (List ℕ)) Broken → List ℕ
+run_seen n (Ok run) = run.now
+run_seen n (Err e) = n.stands ∷ []
+
 unfoldable pub agree : List ℤ → List ℤ → List ℕ → Bool
 agree east north order = every (leb (length east) 1024 ∷ leb (length east) (length north) ∷ leb (length east) (length order) ∷ [])
+
+abbrev pub agreed : List ℤ → List ℤ → List ℕ → Result Unit Broken
+agreed east north order = cond (agree east north order) (Ok tt) (Err broken)
 
 -- what a walk through the runs asks for: the stands all have a place and a place in the order, and no number is of a 65th entry
 pub record Ready (east north : List ℤ) (n : Noted) : Type 0 where
@@ -81,10 +89,10 @@ pub data Look : Type 0 where
   refused : (n : ℕ) → Look
 
 -- what the code gives comes to, with what it noted
-abbrev pub look_by : Touched → List ℕ → Look
-look_by (touched.Regions wanted first) numbers = Look.regions (regions_in wanted) first numbers
-look_by touched.Nothing numbers = Look.nothing
-look_by (touched.Refused why) numbers = Look.refused (refusal_number why)
+abbrev pub look_by : Result (Option Listing) Refusal → List ℕ → Look
+look_by (Ok (Some touched)) numbers = Look.regions (regions_in touched.regions) touched.first numbers
+look_by (Ok None) numbers = Look.nothing
+look_by (Err why) numbers = Look.refused (refusal_number why)
 
 abbrev pub noted_look : Notes → ℕ → List ℕ → Look
 noted_look notes first wanted = cond notes.whole (Look.regions wanted first notes.numbers) (Look.refused 7)
@@ -96,10 +104,10 @@ wanted_look entries cells first wanted = cond (is_empty wanted) Look.nothing (no
 unfoldable pub listed_look : Grid → List ℕ → Cells → ℕ → Rect → Look
 listed_look grid entries cells first rect = cond (grid_lawful grid) (wanted_look entries cells first (regions_in (both_cells cells (cells_of grid rect)))) (Look.refused 7)
 
-abbrev pub straight_look : Grid → List ℕ → Listing → Rect → Look
-straight_look grid entries (Entries cells first) rect = listed_look grid entries cells first rect
-straight_look grid entries Nowhere rect = Look.nothing
-straight_look grid entries Broken rect = Look.refused 7
+abbrev pub straight_look : Grid → List ℕ → Listed → Rect → Look
+straight_look grid entries (Ok (Some l)) rect = listed_look grid entries l.regions l.first rect
+straight_look grid entries (Ok None) rect = Look.nothing
+straight_look grid entries (Err e) rect = Look.refused 7
 
-abbrev pub look_at : Grid → List ℕ → Listing → Rect → Look
+abbrev pub look_at : Grid → List ℕ → Listed → Rect → Look
 look_at grid entries at rect = cond (rect_lawful rect) (straight_look grid entries at rect) (Look.refused 11)

@@ -4,83 +4,82 @@
 #![tactic(auto)]
 
 ghost use Rattle.std.specs.Prelude.{◌≡◌};
-ghost use Rattle.base.specs.Lent.{given};
 ghost use Rattle.runs.specs.Notes.{blank};
-ghost use Rattle.runs.specs.Sights.{agree, look_by, listed_look, look_at};
+ghost use Rattle.runs.specs.Sights.{noted_in, Ready, agreed, look_by, listed_look, look_at};
 
 pub mod notes;
 pub mod sight;
 
-use grid::cells::{Cells, cells_of};
+use grid::cells::cells_of;
 use notes::{EntryNumbers, note};
-use rules::{Grid, Rect, Refusal, Stand};
-use walk::listing::Listing;
+use rules::{Broken, Rect, Refusal, Set, Stand};
+use walk::listing::{Listed, Listing};
 
-// The regions to be looked at, with the number of the listing's first entry; that there are none; or why the question is refused.
+// The runs of the regions that a rectangle touches, where `agree` does not refuse the set.
 #[derive(Clone, Copy)]
-pub enum Touched {
-    Regions(Cells, u32),
-    Nothing,
-    Refused(Refusal),
+pub struct Runs<'a> {
+    pub set: Set<'a>,
+    // The regions, and the number of the first entry of the text's listing.
+    pub touched: Listing,
+    pub numbers: &'a EntryNumbers,
+    ghost ready: { Ready set.table.east.now set.table.north.now (noted_in set.table.east.now set.index.order.now set.index.entries.now touched.first numbers.now) },
 }
 
 // Whether there is a place for each stand, and a place in the order.
-pub fn agree(east: &[i32], north: &[i32], order: &[u32]) -> bool
-    ensures { result ≡ agree (given east) (given north) (given order) }
+pub fn agree(set: Set) -> Result<(), Broken>
+    ensures { result ≡ agreed set.entry.table.east.now set.entry.table.north.now set.entry.index.order.now }
 {
-    if Stand::MOST < east.len() {
-        return false;
+    let stands = set.table.east.len();
+    if Stand::MOST < stands {
+        return Err(Broken);
     }
-    if north.len() < east.len() {
-        return false;
+    if set.table.north.len() < stands {
+        return Err(Broken);
     }
-    east.len() <= order.len()
+    if set.index.order.len() < stands {
+        return Err(Broken);
+    }
+    Ok(())
 }
 
-// Those of some listed regions that the rectangle touches. Where it touches none of them no entry is read.
+// Those of some listed regions that the rectangle touches, with the number of the listing's first entry, if there are any. Where it touches
+// none of them no entry is read.
 fn touched_of(
-    grid: Grid,
-    entries: &[u32],
-    regions: Cells,
-    first: u32,
+    set: Set,
+    listing: Listing,
     rect: Rect,
     numbers: &mut EntryNumbers,
-) -> Touched
+) -> Result<Option<Listing>, Refusal>
     requires { numbers.old ≡ blank }
-    ensures { look_by result numbers.new ≡ listed_look grid (given entries) regions first rect }
+    ensures { look_by result numbers.new ≡ listed_look set.entry.grid set.entry.index.entries.now listing.regions listing.first rect }
 {
-    if !grid::lawful(grid) {
-        return Touched::Refused(Refusal::NotLawful);
+    if !grid::lawful(set.grid) {
+        return Err(Refusal::NotLawful);
     }
-    let wanted = regions.both(cells_of(grid, rect));
-    if wanted.is_empty() {
-        return Touched::Nothing;
+    let regions = listing.regions.both(cells_of(set.grid, rect));
+    if regions.is_empty() {
+        return Ok(None);
     }
-    if !note(entries, first, regions.count(), numbers) {
-        return Touched::Refused(Refusal::NotLawful);
-    }
-    Touched::Regions(wanted, first)
+    let first = listing.first;
+    note(set.index.entries, first, listing.regions.count(), numbers)?;
+    Ok(Some(Listing { regions, first }))
 }
 
 // The regions of a text's listing that a rectangle touches.
 pub fn touched_regions(
-    grid: Grid,
-    entries: &[u32],
-    at: Listing,
+    set: Set,
+    at: Listed,
     rect: Rect,
     numbers: &mut EntryNumbers,
-) -> Touched
+) -> Result<Option<Listing>, Refusal>
     requires { numbers.old ≡ blank }
-    ensures { look_by result numbers.new ≡ look_at grid (given entries) at rect }
+    ensures { look_by result numbers.new ≡ look_at set.entry.grid set.entry.index.entries.now at rect }
 {
     if !grid::rect_lawful(rect) {
-        return Touched::Refused(Refusal::RectReversed);
+        return Err(Refusal::RectReversed);
     }
-    match at {
-        Listing::Entries(regions, first) => {
-            touched_of(grid, entries, regions, first, rect, numbers)
-        }
-        Listing::Nowhere => Touched::Nothing,
-        Listing::Broken => Touched::Refused(Refusal::NotLawful),
+    match at? {
+        Some(listing) => touched_of(set, listing, rect, numbers),
+        None => Ok(None),
     }
 }

@@ -1,27 +1,41 @@
-// Where a stand is that the order has. It may be any number, as the order's words may.
-ghost use Rattle.std.specs.Prelude.{◌≡◌, ◌≤◌, length};
-ghost use Rattle.base.specs.Lent.{given};
-ghost use Rattle.runs.specs.Sights.{sighted};
+// Where the stands are that a question about a rectangle looks at: in the order by their region's run, on the map by their number.
+ghost use Rattle.std.specs.Prelude.{◌≡◌, ◌<◌};
+ghost use Rattle.runs.specs.Sights.{sighted, run_seen, run_of};
+ghost use Rattle.runs.specs.Runs.{easts, norths, noted};
 
-use rules::{Place, Stand};
+use crate::Runs;
+use rules::{Broken, Place, Stand};
+use walk::entry::entry_at;
 
-#[derive(Clone, Copy)]
-pub enum Sighted {
-    At(Place),
-    // It is no stand of the table.
-    Unknown,
-}
-
-pub fn sight(east: &[i32], north: &[i32], stand: Stand) -> Sighted
-    requires { length east.now ≤ length north.now }
-    ensures { result ≡ sighted (given east) (given north) stand.0 }
-{
-    let s = stand.0 as usize;
-    if east.len() <= s {
-        return Sighted::Unknown;
+impl<'a> Runs<'a> {
+    // A region's run, as the entry says that is noted for it. One that ends before it begins has no stands.
+    pub fn run_of(&self, region: u32) -> Result<&'a [u32], Broken>
+        requires { region < 64 }
+        ensures { run_seen (noted self.now) result ≡ run_of (noted self.now) region }
+    {
+        let order = self.set.index.order;
+        let number = self.numbers[region as usize] as usize;
+        let entry = entry_at(
+            self.set.index.entries,
+            self.touched.first as usize + number,
+            self.set.table.east.len(),
+        )?;
+        let past = entry.past.0 as usize;
+        let first = (entry.first.0 as usize).min(past);
+        Ok(&order[first..past])
     }
-    Sighted::At(Place {
-        east: east[s],
-        north: north[s],
-    })
+
+    // Where a stand is that the order has. It may be any number, as the order's words may.
+    pub fn sight(&self, stand: Stand) -> Result<Place, Broken>
+        ensures { result ≡ sighted (easts self.now) (norths self.now) stand.0 }
+    {
+        let s = stand.0 as usize;
+        if self.set.table.east.len() <= s {
+            return Err(Broken);
+        }
+        Ok(Place {
+            east: self.set.table.east[s],
+            north: self.set.table.north[s],
+        })
+    }
 }

@@ -15,9 +15,9 @@ use Rattle.rules.proofs.Lawful.{set_parts}
 use Rattle.rules.proofs.Numbers.{refusal_some}
 use Rattle.rules.proofs.Refusals.{first_given_lem}
 use Rattle.rules.proofs.Outcomes.{refused-kept}
-use Rattle.walk.specs.declared.listing.Listing.{Listing}
 use Rattle.walk.specs.Walks.{node_in}
 use Rattle.walk.specs.Nodes.{node_of}
+use Rattle.walk.specs.Listings as listings
 use Rattle.walk.specs.Listings.{listing_at, listing_of}
 use Rattle.walk.specs.Asked.{Listed, FromPromise}
 use Rattle.walk.proofs.Listed.{listing_reached, listing_found}
@@ -37,7 +37,7 @@ text_refused Lawful comes_to meant refused p n whatever why e =
     refused-kept Lawful _ meant (refused 7) (refused (refusal_number why)) (λ list. ap (λ (m : ℕ). comes_to m list) given ∙ whatever (refusal_number why) list (refusal_some why))
 
 -- a walk along a text serves it, and so does the text's node where that is known
-module _ (t : Table) (g : Grid) (x : Index) (p : List ℕ) (at : Listing) where
+module _ (t : Table) (g : Grid) (x : Index) (p : List ℕ) (at : listings.Listed) where
   listed : at ≡ listing_of t g p → set_lawful t g x ≡ true → Listed t.east t.north t.score g x.order x.entries at t p
   listed same law = record { easts = refl; norths = refl; scores = refl; nodes = x.nodes; bits = x.bits; lawful = law; listing = same }
 

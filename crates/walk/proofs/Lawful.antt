@@ -11,6 +11,7 @@ use lib.Dec.{eqb}
 use lib.ListN.{length, get_or}
 use borrow.Table.Steps.{cases}
 use borrow.Author.Tests.{lt-ltb, le-ltb, eqb-true, eqb-false}
+use Rattle.std.specs.Prelude.{Some, None, Ok}
 use Rattle.base.specs.Lists.{begins, In}
 use Rattle.base.proofs.Tests.{le_or_lt}
 use Rattle.base.proofs.Members.{get_or_in}
@@ -24,19 +25,17 @@ use Rattle.meaning.proofs.Tables.{beginnings-tree}
 use Rattle.meaning.proofs.Words.{nodes_length, node_word_lem}
 use Rattle.meaning.proofs.Children.{past_bounds, child-past}
 use Rattle.meaning.proofs.Walking.{look_start, look_next, look_found, look_none}
-use Rattle.walk.specs.declared.Child.{Child}
-use Rattle.walk.specs.declared.Child.TheVariants.{At, Nowhere}
-use Rattle.walk.specs.Walks.{node, node_word, siblings, child_in, on_from, node_from, node_in}
+use Rattle.walk.specs.Walks.{Child, node, node_word, siblings, child_in, on_from, node_from, node_in}
 use Rattle.walk.specs.Nodes.{node_of}
 use Rattle.walk.proofs.Steps.{siblings-past, siblings_here, siblings_next, child-siblings}
 
 -- ---- the node of a text
 
 module _ (t : Table) (p : List ℕ) where
-  pub node_of_in : In p (beginnings t) → node_of t p ≡ At (node (number_in p (beginnings t)))
+  pub node_of_in : In p (beginnings t) → node_of t p ≡ Ok (Some (node (number_in p (beginnings t))))
   node_of_in h = rw (lt-ltb (number_in p (beginnings t)) (length (beginnings t)) (number_in_lem p (beginnings t) h).0)
 
-  pub node_of_out : (In p (beginnings t) → ⊥) → node_of t p ≡ Nowhere
+  pub node_of_out : (In p (beginnings t) → ⊥) → node_of t p ≡ Ok None
   node_of_out h =
       let e = number_out p (beginnings t) h in
       rw (le-ltb (number_in p (beginnings t)) (length (beginnings t)) (omega arith))
@@ -79,7 +78,7 @@ module _ (t : Table) (g : Grid) (words : List ℕ) (written : begins (node_words
               let k = (l.child h).inside in
               let f = look_found (beginnings t) tree j inside b c l h e in
               siblings_here words (past_of (beginnings t) j) b c fuel h (node_row_lem c 1 k (omega arith) ∙ e)
-              ∙ ap (λ (n : ℕ). At (node n)) (sym f.1)
+              ∙ ap (λ (n : ℕ). Ok (Some (node n))) (sym f.1)
               ∙ sym (node_of_in t (text_of t j ++ (b ∷ [])) (rw f.0 at (get_or_in [] (beginnings t) c k)))
 
           next : c < past_of (beginnings t) j → (last_byte (text_of t c) ≡ b → ⊥) → Finds t words j b (suc fuel) c

@@ -7,6 +7,7 @@ use Prim.Native.Nat.{ℕ, ◌+◌, ◌*◌, ◌/◌, ◌≤◌, ◌<◌}
 use native.Mathlib.Omega.{arith}
 use lib.ListN.{length, get_or}
 use borrow.Author.Tests.{lt-ltb, le-ltb, le-leb, lt-leb}
+use Rattle.std.specs.Prelude.{None, Ok, Err}
 use Rattle.base.specs.Lists.{In, begins, each, up_to}
 use Rattle.base.proofs.Tests.{refuted}
 use Rattle.base.proofs.Members.{keep_none}
@@ -24,10 +25,10 @@ use Rattle.meaning.proofs.Tree.{number_in_lem, number_out}
 use Rattle.meaning.proofs.Tables.{beginnings_of}
 use Rattle.meaning.proofs.Words.{entries_length}
 use Rattle.meaning.proofs.Records.{record_less, record_word_lem, bit_words_length}
-use Rattle.walk.specs.declared.listing.Listing.TheVariants.{Entries, Nowhere, Broken}
-use Rattle.walk.specs.Walks.{node_in}
+use Rattle.walk.specs.declared.listing.Listing.{Listing}
+use Rattle.walk.specs.Walks.{broken, node_in}
 use Rattle.walk.specs.Nodes.{node_of}
-use Rattle.walk.specs.Listings.{record_at, record_word, cells_at, first_entry, listing_in, listing_at, listing_of}
+use Rattle.walk.specs.Listings.{entries, record_at, record_word, cells_at, first_entry, listing_in, listing_at, listing_of}
 use Rattle.walk.specs.Entries.{as_read, SpelledFrom}
 use Rattle.walk.proofs.Lawful.{node_of_in, node_of_out, node_row_lem, nodes_within, node_found}
 use Rattle.walk.proofs.Spelled.{entries_spelled}
@@ -35,26 +36,32 @@ use Rattle.walk.proofs.Spelled.{entries_spelled}
 -- ---- on any words
 
 module _ (nodes bits : List ℕ) (j : ℕ) where
-  pub no_listing : length nodes / 8 ≤ j → Broken ≡ listing_in nodes bits j
+  pub no_listing : length nodes / 8 ≤ j → Err broken ≡ listing_in nodes bits j
   unfolding listing_in
   no_listing h = rw (le-leb _ _ h)
 
   module _ (there : j < length nodes / 8) where
-    pub no_record : length bits / 2 ≤ record_at nodes j → Broken ≡ listing_in nodes bits j
+    pub no_record : length bits / 2 ≤ record_at nodes j → Err broken ≡ listing_in nodes bits j
     unfolding listing_in
     no_record h = rw (lt-leb _ _ there, le-leb _ _ h)
 
-    pub listing_is : record_at nodes j < length bits / 2 → Entries (cells_at bits (record_at nodes j)) (first_entry nodes j) ≡ listing_in nodes bits j
+    pub listing_is : record_at nodes j < length bits / 2 → entries (cells_at bits (record_at nodes j)) (first_entry nodes j) ≡ listing_in nodes bits j
     unfolding listing_in
     listing_is h = rw (lt-leb _ _ there, lt-leb _ _ h)
 
 -- ---- by the rules
 
+-- of one listing
+one_listing : {regions cells : Cells} {first number : ℕ} → entries regions first ≡ entries cells number → (regions ≡ cells) × (first ≡ number)
+one_listing {regions} {cells} {first} {number} e =
+    let same : ◌≡◌ {A = Listing} (record { regions = regions; first = first }) (record { regions = cells; first = number }) = cc e in
+    (ap (λ (l : Listing). l.regions) same, ap (λ (l : Listing). l.first) same)
+
 module _ (t : Table) (g : Grid) (p : List ℕ) where
-  listing_in_lem : In p (beginnings t) → listing_of t g p ≡ Entries (cells_by (occupied t g p)) (get_or (node_row t g (number_in p (beginnings t))) 7 0)
+  listing_in_lem : In p (beginnings t) → listing_of t g p ≡ entries (cells_by (occupied t g p)) (get_or (node_row t g (number_in p (beginnings t))) 7 0)
   listing_in_lem h = rw (lt-ltb (number_in p (beginnings t)) (length (beginnings t)) (number_in_lem p (beginnings t) h).0)
 
-  listing_out : (In p (beginnings t) → ⊥) → listing_of t g p ≡ Nowhere
+  listing_out : (In p (beginnings t) → ⊥) → listing_of t g p ≡ Ok None
   listing_out h =
       let e = number_out p (beginnings t) h in
       rw (le-ltb (number_in p (beginnings t)) (length (beginnings t)) (omega arith))
@@ -66,10 +73,10 @@ module _ (t : Table) (g : Grid) (p : List ℕ) where
       keep_none (λ i. begins p (name_of t i)) (up_to (stands t))
       (λ i k. refuted (begins p (name_of t i)) (λ b. out (beginnings_of t i p (omega (arith, in_from 0 (stands t) i k)) b)))
 
-  pub nowhere_none : listing_of t g p ≡ Nowhere → under t p ≡ []
+  pub nowhere_none : listing_of t g p ≡ Ok None → under t p ≡ []
   nowhere_none e = ⊎_elim (λ h. let z : ◌≡◌ {A = ℕ} 0 1 = cc (e, listing_in_lem h) in absurd (omega arith)) under_none (in_or_out p (beginnings t))
 
-  pub never_broken : listing_of t g p ≡ Broken → ⊥
+  pub never_broken : listing_of t g p ≡ Err broken → ⊥
   never_broken e =
       ⊎_elim
       (λ h. let z : ◌≡◌ {A = ℕ} 0 1 = cc (e, listing_in_lem h) in omega arith)
@@ -94,13 +101,12 @@ module _ (t : Table) (g : Grid) (x : Index) (s : SetParts t g x) (p : List ℕ) 
             (entries_spelled t g x s (number_in p (beginnings t)) n.0 places most);
       }
 
-  pub entries_listed : (cells : Cells) (first : ℕ) → listing_of t g p ≡ Entries cells first → Lists t g x p cells first
+  pub entries_listed : (cells : Cells) (first : ℕ) → listing_of t g p ≡ entries cells first → Lists t g x p cells first
   entries_listed cells first e =
       ⊎_elim
       (λ h.
-      let c : cells_by (occupied t g p) ≡ cells = cc (e, listing_in_lem t g p h) in
-      let n : get_or (node_row t g (number_in p (beginnings t))) 7 0 ≡ first = cc (e, listing_in_lem t g p h) in
-      rw (c, n) at (in_lists h))
+      let same = one_listing (sym (listing_in_lem t g p h) ∙ e) in
+      rw (same.0, same.1) at (in_lists h))
       (λ h. let z : ◌≡◌ {A = ℕ} 0 1 = cc (e, listing_out t g p h) in absurd (omega arith))
       (in_or_out p (beginnings t))
 

@@ -9,10 +9,12 @@ use lib.Dec.{ltb}
 use lib.ListN.{length, get_or}
 use borrow.Table.Steps.{cases}
 use borrow.Author.Tests.{lt-ltb, le-ltb, le-leb, ltb-true, leb-true}
+use Rattle.std.specs.Prelude.{Result, Ok, Err}
 use Rattle.base.specs.Lists.{each}
 use Rattle.base.proofs.Tests.{and_parts}
 use Rattle.base.proofs.Members.{length-each, get_or-each, get_or_in}
 use Rattle.base.proofs.Begins.{begins-length, begins-at}
+use Rattle.rules.specs.declared.Broken.{Broken}
 use Rattle.rules.specs.declared.Grid.{Grid}
 use Rattle.rules.specs.Places.{regions}
 use Rattle.rules.specs.Tables.{Table, stands}
@@ -24,8 +26,7 @@ use Rattle.meaning.specs.Meaning.{no_entry, entry_at}
 use Rattle.meaning.proofs.Words.{entries_length, entry_words_length, entries_fit, entry_word_lem}
 use Rattle.meaning.proofs.Entries.{entries_mean, entry_own}
 use Rattle.walk.specs.declared.entry.Entry.{Entry}
-use Rattle.walk.specs.declared.entry.EntryRead.{EntryRead}
-use Rattle.walk.specs.declared.entry.EntryRead.TheVariants.{At, Broken}
+use Rattle.walk.specs.Walks.{broken}
 use Rattle.walk.specs.Entries.{entry_word, entry_in, entry_within, entry_read, as_read, SpelledFrom}
 
 -- ---- on any words
@@ -40,21 +41,21 @@ module _ (places : ℕ) (e : Entry) where
   within_by h k = rw (lt-ltb _ _ h, le-leb _ _ k)
 
 module _ (words : List ℕ) (places number : ℕ) where
-  pub no_entry_lem : length words / 4 ≤ number → Broken ≡ entry_read words places number
+  pub no_entry_lem : length words / 4 ≤ number → Err broken ≡ entry_read words places number
   unfolding entry_read
   no_entry_lem h = rw (le-ltb _ _ h)
 
   module _ (there : number < length words / 4) where
-    pub not_within : entry_within places (entry_in words number) ≡ false → Broken ≡ entry_read words places number
+    pub not_within : entry_within places (entry_in words number) ≡ false → Err broken ≡ entry_read words places number
     unfolding entry_read
     not_within h = rw (lt-ltb _ _ there, h)
 
-    pub entry_is : entry_within places (entry_in words number) ≡ true → At (entry_in words number) ≡ entry_read words places number
+    pub entry_is : entry_within places (entry_in words number) ≡ true → Ok (entry_in words number) ≡ entry_read words places number
     unfolding entry_read
     entry_is h = rw (lt-ltb _ _ there, h)
 
 -- one that was read is there, and within the places
-module _ (words : List ℕ) (places number : ℕ) (r : EntryRead) (x : Entry) (read : r ≡ entry_read words places number) (e : r ≡ At x) where
+module _ (words : List ℕ) (places number : ℕ) (r : Result Entry Broken) (x : Entry) (read : r ≡ entry_read words places number) (e : r ≡ Ok x) where
   read_facts : (ltb number (length words / 4) ≡ true) × (entry_within places x ≡ true) × (entry_in words number ≡ x)
   unfolding entry_read
   read_facts =
@@ -76,7 +77,7 @@ module _ (words : List ℕ) (places number : ℕ) (r : EntryRead) (x : Entry) (r
   read_region = (within_facts places x read_within).0
 
 -- entries that are read one by one stand one after the other
-spelled_by : (words : List ℕ) (places : ℕ) (d : Entry) (es : List Entry) (number : ℕ) → ((i : ℕ) → i < length es → entry_read words places (number + i) ≡ At (get_or es i d))
+spelled_by : (words : List ℕ) (places : ℕ) (d : Entry) (es : List Entry) (number : ℕ) → ((i : ℕ) → i < length es → entry_read words places (number + i) ≡ Ok (get_or es i d))
     → SpelledFrom words places number es
 spelled_by words places d [] number h = tt
 spelled_by words places d (e ∷ es) number h =
@@ -108,7 +109,7 @@ module _ (t : Table) (g : Grid) (x : Index) (s : SetParts t g x) (j : ℕ) (insi
   unfolding regions
   below_64 i h = (entry_own t g s.table (text_of t j) (entry_at t g (text_of t j) i) (get_or_in no_entry listed i h)).small
 
-  entry-spelled : (places : ℕ) → stands t ≤ places → (i : ℕ) → i < length listed → entry_read x.entries places (first + i) ≡ At (as_read (entry_at t g (text_of t j) i))
+  entry-spelled : (places : ℕ) → stands t ≤ places → (i : ℕ) → i < length listed → entry_read x.entries places (first + i) ≡ Ok (as_read (entry_at t g (text_of t j) i))
   entry-spelled places most i h =
       let w = word i in
       let e = entry_at t g (text_of t j) i in
@@ -116,11 +117,11 @@ module _ (t : Table) (g : Grid) (x : Index) (s : SetParts t g x) (j : ℕ) (insi
       (omega (arith, entries_fit t g j inside, entry_words_length t g, begins-length (entry_words t g) x.entries s.entries))
       (within_by places (entry_in x.entries (first + i)) (omega (arith, w 0 h (omega arith), below_64 i h))
       (omega (arith, w 3 h (omega arith), ((entries_mean t g s.table (text_of t j)).bounds i h).1))))
-      ∙ ap At (same_entry e _ _ _ _ (w 0 h (omega arith)) (w 1 h (omega arith)) (w 2 h (omega arith)) (w 3 h (omega arith)))
+      ∙ ap Ok (same_entry e _ _ _ _ (w 0 h (omega arith)) (w 1 h (omega arith)) (w 2 h (omega arith)) (w 3 h (omega arith)))
 
   pub entries_spelled : (places : ℕ) → stands t ≤ places → SpelledFrom x.entries places first (each as_read listed)
   entries_spelled places most =
       spelled_by x.entries places (as_read no_entry) (each as_read listed) first
       (λ i h.
       let k : i < length listed = omega (arith, length-each as_read listed) in
-      entry-spelled places most i k ∙ ap At (sym (get_or-each as_read listed i no_entry (as_read no_entry) k)))
+      entry-spelled places most i k ∙ ap Ok (sym (get_or-each as_read listed i no_entry (as_read no_entry) k)))

@@ -8,10 +8,9 @@ use native.Mathlib.Numerals.{add-one}
 use lib.ListN.{length, drop, get_or, drop_of_length-le}
 use lib.Seq.{drop-cons}
 use borrow.Author.Tests.{lt-ltb, le-ltb, le-leb, lt-leb, eq-eqb, ne_eqb}
+use Rattle.std.specs.Prelude.{Some, None, Ok, Err}
 use Rattle.rules.specs.Names.{folded, folded_text}
-use Rattle.walk.specs.declared.Child.{Child}
-use Rattle.walk.specs.declared.Child.TheVariants.{At, Nowhere, Broken}
-use Rattle.walk.specs.Walks.{node, node_word, siblings, child_in, on_from, node_from, node_in}
+use Rattle.walk.specs.Walks.{Child, broken, node, node_word, siblings, child_in, on_from, node_from, node_in}
 
 -- the search for the child stands at c: from here it gives what it gives from the start, and there is fuel for all before past
 pub record Searching (words : List ℕ) (above byte past c : ℕ) : Type 0 where
@@ -22,28 +21,28 @@ pub record Searching (words : List ℕ) (above byte past c : ℕ) : Type 0 where
   pub same : child_in words above byte ≡ siblings words past byte fuel c
 
 module _ (words : List ℕ) (past byte c : ℕ) where
-  pub siblings-past : (fuel : ℕ) → past ≤ c → siblings words past byte fuel c ≡ Nowhere
+  pub siblings-past : (fuel : ℕ) → past ≤ c → siblings words past byte fuel c ≡ Ok None
   siblings-past zero h = refl
   siblings-past (suc fuel) h = rw (le-ltb _ _ h)
 
   module _ (fuel : ℕ) (more : c < past) where
-    pub siblings_here : node_word words c 1 ≡ byte → siblings words past byte (suc fuel) c ≡ At (node c)
+    pub siblings_here : node_word words c 1 ≡ byte → siblings words past byte (suc fuel) c ≡ Ok (Some (node c))
     siblings_here e = rw (lt-ltb _ _ more, eq-eqb _ _ e)
 
     module _ (other : node_word words c 1 ≡ byte → ⊥) where
-      siblings_back : node_word words c 4 ≤ c → siblings words past byte (suc fuel) c ≡ Broken
+      siblings_back : node_word words c 4 ≤ c → siblings words past byte (suc fuel) c ≡ Err broken
       siblings_back h = rw (lt-ltb _ _ more, ne_eqb _ _ other, le-leb _ _ h)
 
       pub siblings_next : c < node_word words c 4 → siblings words past byte (suc fuel) c ≡ siblings words past byte fuel (node_word words c 4)
       siblings_next h = rw (lt-ltb _ _ more, ne_eqb _ _ other, lt-leb _ _ h)
 
 module _ (words : List ℕ) (above byte : ℕ) where
-  pub outside : length words / 8 ≤ above → Broken ≡ child_in words above byte
+  pub outside : length words / 8 ≤ above → Err broken ≡ child_in words above byte
   unfolding child_in
   outside h = rw (le-leb _ _ h)
 
   module _ (inside : above < length words / 8) where
-    pub too_far : length words / 8 < node_word words above 4 → Broken ≡ child_in words above byte
+    pub too_far : length words / 8 < node_word words above 4 → Err broken ≡ child_in words above byte
     unfolding child_in
     too_far h = rw (lt-leb _ _ inside, lt-ltb _ _ h)
 
@@ -55,7 +54,7 @@ module _ (words : List ℕ) (above byte : ℕ) where
     begin h s = record { within = h; small = s; fuel = suc (node_word words above 4); enough = omega arith; same = child-siblings h }
 
   module _ (past c : ℕ) (s : Searching words above byte past c) where
-    pub done : past ≤ c → Nowhere ≡ child_in words above byte
+    pub done : past ≤ c → Ok None ≡ child_in words above byte
     done h = sym (s.same ∙ siblings-past words past byte c s.fuel h)
 
     module _ (more : c < past) where
@@ -63,12 +62,12 @@ module _ (words : List ℕ) (above byte : ℕ) where
       turn : child_in words above byte ≡ siblings words past byte (suc (s.fuel - 1)) c
       turn = let one : s.fuel ≡ suc (s.fuel - 1) = omega (arith, s.enough) in s.same ∙ ap (λ (f : ℕ). siblings words past byte f c) one
 
-      pub found : node_word words c 1 ≡ byte → At (node c) ≡ child_in words above byte
+      pub found : node_word words c 1 ≡ byte → Ok (Some (node c)) ≡ child_in words above byte
       found e = sym (turn ∙ siblings_here words past byte c (s.fuel - 1) more e)
 
       module _ (other : node_word words c 1 ≡ byte → ⊥) where
-        pub broken : node_word words c 4 ≤ c → Broken ≡ child_in words above byte
-        broken h = sym (turn ∙ siblings_back words past byte c (s.fuel - 1) more other h)
+        pub backward : node_word words c 4 ≤ c → Err broken ≡ child_in words above byte
+        backward h = sym (turn ∙ siblings_back words past byte c (s.fuel - 1) more other h)
 
         pub onward : c < node_word words c 4 → Searching words above byte past (node_word words c 4)
         onward h =
@@ -90,7 +89,7 @@ module _ (words text : List ℕ) where
   walk_begins = record { within = omega arith; rest = refl }
 
   module _ (n i : ℕ) (w : Walking words text n i) where
-    pub walk_ends : length text ≤ i → At (node n) ≡ node_in words (folded_text text)
+    pub walk_ends : length text ≤ i → Ok (Some (node n)) ≡ node_in words (folded_text text)
     unfolding node_from
     walk_ends h = sym (w.rest ∙ rw (drop_of_length-le text h))
 
@@ -99,11 +98,11 @@ module _ (words text : List ℕ) where
       unfolding node_from
       letter = w.rest ∙ rw (drop-cons text i 0 more, add-one, ← there)
 
-      pub walk_on : (below : ℕ) → to ≡ At (node below) → Walking words text below (i + 1)
+      pub walk_on : (below : ℕ) → to ≡ Ok (Some (node below)) → Walking words text below (i + 1)
       walk_on below e = record { within = omega arith; rest = letter ∙ rw e }
 
-      pub walk_stops : to ≡ Nowhere → Nowhere ≡ node_in words (folded_text text)
+      pub walk_stops : to ≡ Ok None → Ok None ≡ node_in words (folded_text text)
       walk_stops e = sym (letter ∙ rw e)
 
-      pub walk_breaks : to ≡ Broken → Broken ≡ node_in words (folded_text text)
+      pub walk_breaks : to ≡ Err broken → Err broken ≡ node_in words (folded_text text)
       walk_breaks e = sym (letter ∙ rw e)

@@ -4,11 +4,11 @@ use Rattle.rules.specs.declared.Grid.{Grid}
 use Rattle.rules.specs.Tables.{Table}
 use Rattle.rules.specs.Promises.{Harmless}
 use Rattle.rules.specs.Indexes.{index_of, set_lawful}
-use Rattle.walk.specs.declared.listing.Listing.{Listing}
+use Rattle.walk.specs.Listings as listings
 use Rattle.walk.specs.Listings.{listing_of}
 
 -- a lawful set has these parts, and this is its listing of the text p
-pub record Listed (east north : List ℤ) (score : List ℕ) (g : Grid) (order entries : List ℕ) (at : Listing) (t : Table) (p : List ℕ) : Type 0 where
+pub record Listed (east north : List ℤ) (score : List ℕ) (g : Grid) (order entries : List ℕ) (at : listings.Listed) (t : Table) (p : List ℕ) : Type 0 where
   pub easts : t.east ≡ east
   pub norths : t.north ≡ north
   pub scores : t.score ≡ score

@@ -1,9 +1,9 @@
 -- One entry as the code reads it on any words; and that some entries stand in words, one after the other.
-use Rattle.std.specs.Prelude.{◌≡◌, Bool, cond, ◌&&◌, List, [], ◌∷◌, ℕ, suc, ◌+◌, ◌*◌, ◌/◌, ltb, leb, length, get_or}
+use Rattle.std.specs.Prelude.{◌≡◌, Bool, cond, ◌&&◌, List, [], ◌∷◌, ℕ, suc, ◌+◌, ◌*◌, ◌/◌, ltb, leb, length, get_or, Result, Ok, Err}
+use Rattle.rules.specs.declared.Broken.{Broken}
 use Rattle.rules.specs.Indexes as rules
 use Rattle.walk.specs.declared.entry.Entry.{Entry}
-use Rattle.walk.specs.declared.entry.EntryRead.{EntryRead}
-use Rattle.walk.specs.declared.entry.EntryRead.TheVariants.{At, Broken}
+use Rattle.walk.specs.Walks.{broken}
 
 -- word k of an entry, counted from 0; 0 outside
 abbrev pub entry_word : List ℕ → ℕ → ℕ → ℕ
@@ -22,9 +22,9 @@ entry_in words number =
 unfoldable pub entry_within : ℕ → Entry → Bool
 entry_within places e = ltb e.region 64 && leb e.past.0 places
 
-unfoldable pub entry_read : List ℕ → ℕ → ℕ → EntryRead
+unfoldable pub entry_read : List ℕ → ℕ → ℕ → Result Entry Broken
 entry_read words places number =
-    cond (ltb number (length words / 4) && entry_within places (entry_in words number)) (At (entry_in words number)) Broken
+    cond (ltb number (length words / 4) && entry_within places (entry_in words number)) (Ok (entry_in words number)) (Err broken)
 
 -- an entry of the rules as the code has it
 abbrev pub as_read : rules.Entry → Entry
@@ -33,4 +33,4 @@ as_read e = record { region = e.region; score = e.score; first = record { 0 = e.
 -- these entries stand in the words, from a number on
 abbrev pub SpelledFrom : List ℕ → ℕ → ℕ → List Entry → Type 0
 SpelledFrom words places number [] = Unit {0}
-SpelledFrom words places number (e ∷ es) = (entry_read words places number ≡ At e) × SpelledFrom words places (suc number) es
+SpelledFrom words places number (e ∷ es) = (entry_read words places number ≡ Ok e) × SpelledFrom words places (suc number) es

@@ -4,7 +4,7 @@ ghost use Rattle.base.specs.Lent.{given};
 ghost use Rattle.walk.specs.Entries.{entry_within, entry_read};
 
 use rules::layout::{BEST_SCORE, ENTRY_WORDS, FIRST_PLACE, PAST_PLACE, REGION};
-use rules::{Grid, OrderPlace};
+use rules::{Broken, Grid, OrderPlace};
 
 // A region, the largest score there, and the run of its stands in the order: from a first place on, short of the one past the last.
 #[derive(Clone, Copy)]
@@ -13,13 +13,6 @@ pub struct Entry {
     pub score: u32,
     pub first: OrderPlace,
     pub past: OrderPlace,
-}
-
-#[derive(Clone, Copy)]
-pub enum EntryRead {
-    At(Entry),
-    // There is no such entry, it has no region, or its run goes past the places.
-    Broken,
 }
 
 // Whether an entry is of a region, and its run within so many places.
@@ -32,12 +25,12 @@ fn within(entry: Entry, places: usize) -> bool
     entry.past.0 as usize <= places
 }
 
-// The entry of a number, in an order of so many places.
-pub fn entry_at(entries: &[u32], number: usize, places: usize) -> EntryRead
+// The entry of a number, in an order of so many places. None is read that is not there, has no region, or whose run goes past the places.
+pub fn entry_at(entries: &[u32], number: usize, places: usize) -> Result<Entry, Broken>
     ensures { result ≡ entry_read (given entries) places number }
 {
     if entries.len() / ENTRY_WORDS <= number {
-        return EntryRead::Broken;
+        return Err(Broken);
     }
     let at = number * ENTRY_WORDS;
     let entry = Entry {
@@ -47,7 +40,7 @@ pub fn entry_at(entries: &[u32], number: usize, places: usize) -> EntryRead
         past: OrderPlace(entries[at + PAST_PLACE]),
     };
     if !within(entry, places) {
-        return EntryRead::Broken;
+        return Err(Broken);
     }
-    EntryRead::At(entry)
+    Ok(entry)
 }

@@ -1,21 +1,17 @@
 -- `agree` meets its contract: the tests are those of the definition.
 -- Assumes nothing.
-use mathlib.Core.Path.{sym}
-use mathlib.Core.Bool.{and-true}
-use borrow.Author.Tests.{lt-leb, le-leb}
-use Rattle.base.specs.Lists.{every}
-use Rattle.base.proofs.Tests.{every_not}
-use Rattle.runs.specs.Sights.{agree}
+use borrow.Author.Rules.{rules}
+use Rattle.runs.proofs.Sights.{many, norths_short, places_short, all_agree}
 use Rattle.runs.proofs.agree.Goals as goal
 
-pub returns-then-east-gt-MOST : goal.returns-then-east-gt-MOST
-unfolding agree
-returns-then-east-gt-MOST c = sym (every_not _ 0 (lt-leb _ _ c.if-east-gt-MOST.true))
+pub returns-then-stands-gt-MOST : goal.returns-then-stands-gt-MOST
+returns-then-stands-gt-MOST c = search (rules, many)
 
-pub returns-then-north-east : goal.returns-then-north-east
-unfolding agree
-returns-then-north-east c = sym (every_not _ 1 (lt-leb _ _ c.if-north-east.true))
+pub returns-then-set-stands : goal.returns-then-set-stands
+returns-then-set-stands c = search (rules, norths_short)
+
+pub returns-then-set-stands-2 : goal.returns-then-set-stands-2
+returns-then-set-stands-2 c = search (rules, places_short)
 
 pub returns : goal.returns
-unfolding agree every
-returns c = rw (le-leb _ 1024 c.if-east-gt-MOST.false, le-leb _ _ c.if-north-east.false) (sym (and-true _))
+returns c = search (rules, all_agree)

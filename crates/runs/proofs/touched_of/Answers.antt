@@ -18,10 +18,10 @@ pub returns-then-is_empty : goal.returns-then-is_empty
 returns-then-is_empty c = search (rules, none_wanted, holds)
 
 pub note-requires : goal.note-requires
-note-requires c = omega (arith, c.count.ensures, listed_few c.args.regions)
+note-requires c = omega (arith, c.count.ensures, listed_few c.args.listing.regions)
 
-pub returns-then-not-note : goal.returns-then-not-note
-returns-then-not-note c = search (rules, notes_break, holds)
+pub returns-in_err-note : goal.returns-in_err-note
+returns-in_err-note c = search (rules, notes_break, holds)
 
 pub returns : goal.returns
 returns c = search (rules, notes_show, holds, not-false)

@@ -8,11 +8,11 @@ use Rattle.runs.proofs.touched_regions.Goals as goal
 pub returns-then-not-rect_lawful : goal.returns-then-not-rect_lawful
 returns-then-not-rect_lawful c = search (rules, look_11, breaks)
 
-pub returns-in-Entries : goal.returns-in-Entries
-returns-in-Entries c = search (rules, look_entries, holds)
+pub returns-in-Some : goal.returns-in-Some
+returns-in-Some c = search (rules, look_entries, holds)
 
-pub returns-in-Nowhere : goal.returns-in-Nowhere
-returns-in-Nowhere c = search (rules, look_nowhere, holds)
+pub returns-in-None : goal.returns-in-None
+returns-in-None c = search (rules, look_nowhere, holds)
 
-pub returns-in-Broken : goal.returns-in-Broken
-returns-in-Broken c = search (rules, look_broken, holds)
+pub returns-in_err-listing : goal.returns-in_err-listing
+returns-in_err-listing c = search (rules, look_broken, holds)

@@ -2,7 +2,7 @@
 use borrow.Author.Rules.{rules}
 use Prim.Native.Nat.{◌+◌, ◌*◌}
 use native.Mathlib.Omega.{arith}
-use Rattle.walk.proofs.Steps.{outside, too_far, begin, done, found, broken, onward}
+use Rattle.walk.proofs.Steps.{outside, too_far, begin, done, found, backward, onward}
 use Rattle.walk.proofs.child_of.Goals as goal
 
 pub returns-then-all-p : goal.returns-then-all-p
@@ -18,7 +18,7 @@ pub returns-then-nodes-c : goal.returns-then-nodes-c
 returns-then-nodes-c c = search (rules, found)
 
 pub returns-then-next-c : goal.returns-then-next-c
-returns-then-next-c c = search (rules, broken)
+returns-then-next-c c = search (rules, backward)
 
 pub loop-c-preserved : goal.loop-c-preserved
 loop-c-preserved c = search (rules, onward)

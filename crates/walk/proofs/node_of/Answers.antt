@@ -3,17 +3,17 @@ use borrow.Author.Rules.{rules}
 use Rattle.walk.proofs.Steps.{walk_begins, walk_ends, walk_on, walk_stops, walk_breaks}
 use Rattle.walk.proofs.node_of.Goals as goal
 
-pub loop-i-init : goal.loop-i-init
-loop-i-init c = search (rules, walk_begins)
+pub loop-byte-init : goal.loop-byte-init
+loop-byte-init c = search (rules, walk_begins)
 
-pub returns-in-Nowhere : goal.returns-in-Nowhere
-returns-in-Nowhere c = search (rules, walk_stops)
+pub returns-in_default : goal.returns-in_default
+returns-in_default c = search (rules, walk_stops)
 
-pub returns-in-Broken : goal.returns-in-Broken
-returns-in-Broken c = search (rules, walk_breaks)
+pub returns-in_err-below : goal.returns-in_err-below
+returns-in_err-below c = search (rules, walk_breaks)
 
-pub loop-i-preserved : goal.loop-i-preserved
-loop-i-preserved c = search (rules, walk_on)
+pub loop-byte-preserved : goal.loop-byte-preserved
+loop-byte-preserved c = search (rules, walk_on)
 
 pub returns : goal.returns
-returns c = walk_ends _ _ _ _ c.loop-i.invariant c.loop-i-test.false
+returns c = walk_ends _ _ _ _ c.loop-byte.invariant c.loop-byte-test.false

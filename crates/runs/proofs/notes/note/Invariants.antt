@@ -1,12 +1,7 @@
 -- What the loop of `notes::note` keeps.
-use Prim.Native.Nat.{◌-◌}
 use Rattle.runs.proofs.Noting.{Noting}
 use Rattle.runs.proofs.notes.note.Given as goal
 
 abbrev pub invariant-loop-i : goal.invariant-loop-i
 invariant-loop-i l =
     Noting l.entries l.from l.most l.initial.numbers l.numbers l.i
-
-abbrev pub decreases-loop-i : goal.decreases-loop-i
-decreases-loop-i l =
-    l.most - l.i

@@ -1,0 +1,18 @@
+-- What runs as the code has them come to.
+use Rattle.std.specs.Prelude.{List, ℕ, ℤ}
+use Rattle.grid.specs.Cells.{regions_in}
+use Rattle.runs.specs.declared.Runs.{Runs}
+use Rattle.runs.specs.Sights.{Noted, noted_in, touched_stands}
+
+abbrev pub easts : Runs → List ℤ
+easts r = r.set.table.east.now
+
+abbrev pub norths : Runs → List ℤ
+norths r = r.set.table.north.now
+
+abbrev pub noted : Runs → Noted
+noted r = noted_in (easts r) r.set.index.order.now r.set.index.entries.now r.touched.first r.numbers.now
+
+-- the stands that there are to look at
+abbrev pub stands_there : Runs → List ℕ
+stands_there r = touched_stands (noted r) (regions_in r.touched.regions)
