@@ -5,7 +5,7 @@ ghost use Rattle.node.specs.Visits.{root_cursor, places_at, above_of, Stepped, A
 ghost use Rattle.node.specs.Asks.{StepAsks, PassAsks, AdvanceAsks};
 
 use crate::records::Served;
-use crate::tally::{region_at, value_at, wide};
+use crate::tally::{region_at, value_at};
 use crate::{Gathered, Path, RegionPath, Slots};
 use rules::{Node, Stand};
 
@@ -59,13 +59,9 @@ fn pass(region: &[u8], next: &mut Slots, from: Stand, to: Stand)
     requires { PassAsks region.now next.old from.0 to.0 }
     ensures { next.new ≡ places_at region.now to.0 }
 {
-    let first = from.0;
-    let end = to.0;
-    let mut stand = first;
-    while stand < end {
+    for stand in from.0..to.0 {
         let slot = region_at(region, Stand(stand));
         next[slot] += 1;
-        stand += 1;
     }
 }
 
@@ -85,7 +81,7 @@ pub fn advance(
     requires { AdvanceAsks lengths.now shared.now region.now cursor gathered served next.old (above_of path.old records.old regions.old) }
     ensures { Advanced lengths.now shared.now region.now cursor gathered served next.new (above_of path.old records.old regions.old) (above_of path.new records.new regions.new) result }
 {
-    let place = wide(cursor.length);
+    let place = usize::from(cursor.length);
     path[place] = cursor.number.0;
     records[place] = served.number;
     regions[place] = gathered.bits;

@@ -17,7 +17,7 @@ use ranks::ranks;
 use records::Served;
 use rules::layout::NODE_WORDS;
 use rules::{Grid, Node, Session, Stand};
-use tally::{end_of, grown, tally, value_at, wide, word};
+use tally::{end_of, grown, tally, value_at};
 
 // A number for each region.
 pub type Slots = [u32; Grid::REGIONS];
@@ -65,8 +65,8 @@ fn last_byte(text: &[u8], starts: &[u32], stand: Stand, length: u8) -> u32
     if length == 0 {
         return 0;
     }
-    let at = starts[stand.0 as usize] as usize + wide(length - 1);
-    word(text[at])
+    let at = starts[stand.0 as usize] as usize + usize::from(length - 1);
+    u32::from(text[at])
 }
 
 // What the path has of a node's parent, 0 for the root.
@@ -77,7 +77,7 @@ fn above(path: &Path, length: u8) -> u32
     if length == 0 {
         return 0;
     }
-    path[wide(length - 1)]
+    path[usize::from(length - 1)]
 }
 
 // The number past a node's subtree: those under it are the longer ones of its first stand, and what the stands behind that one add.
@@ -92,7 +92,7 @@ fn past_number(
     requires { PastAsks lengths.now shared.now stand.0 length past.0 number.0 }
     ensures { result.0 ≡ past_number lengths.now shared.now stand.0 length past.0 number.0 }
 {
-    let own = word(value_at(lengths, stand) - length);
+    let own = u32::from(value_at(lengths, stand) - length);
     let behind = Stand(stand.0 + 1);
     let grew = grown(lengths, shared, behind, past);
     Node(number.0 + 1 + own + grew)

@@ -3,7 +3,6 @@ ghost use Rattle.std.specs.Prelude.{◌≡◌, ◌≤◌};
 ghost use Rattle.node.specs.Visits.{kept_in, served_in, halves_of};
 
 use crate::cursor::Cursor;
-use crate::tally::wide;
 use crate::{Path, RegionPath, above};
 use rules::layout::RECORD_WORDS;
 
@@ -22,7 +21,7 @@ pub fn kept(regions: &RegionPath, length: u8, bits: u64) -> u32
     if length == 0 {
         return 1;
     }
-    if regions[wide(length - 1)] == bits {
+    if regions[usize::from(length - 1)] == bits {
         return 0;
     }
     1

@@ -7,8 +7,8 @@ use Rattle.node.proofs.above.Goals as goal
 pub returns-then-length-eq0 : goal.returns-then-length-eq0
 returns-then-length-eq0 c = search (rules, eq-eqb)
 
-pub bounds-path-wide : goal.bounds-path-wide
-bounds-path-wide c = omega (arith, c.wide.ensures)
+pub bounds-path-from : goal.bounds-path-from
+bounds-path-from c = omega (arith, c.from.ensures)
 
 pub returns : goal.returns
-returns c = simp (c.wide.ensures, ne_eqb _ _ c.if-length-eq0.false)
+returns c = simp (c.from.ensures, ne_eqb _ _ c.if-length-eq0.false)

@@ -14,13 +14,13 @@ length_room : (lengths shared : List ℕ) (c : Cursor) (w : ℕ) → Grows lengt
 length_room lengths shared c w g o q = omega (arith, o.long, length-short _ _ g c.stand.0)
 
 pub bounds-path-place : goal.bounds-path-place
-bounds-path-place c = length_room _ _ _ _ c.requires.step.grows c.requires.step.on c.wide-place.ensures
+bounds-path-place c = length_room _ _ _ _ c.requires.step.grows c.requires.step.on c.from-place.ensures
 
 pub bounds-records-place : goal.bounds-records-place
-bounds-records-place c = length_room _ _ _ _ c.requires.step.grows c.requires.step.on c.wide-place.ensures
+bounds-records-place c = length_room _ _ _ _ c.requires.step.grows c.requires.step.on c.from-place.ensures
 
 pub bounds-regions-place : goal.bounds-regions-place
-bounds-regions-place c = length_room _ _ _ _ c.requires.step.grows c.requires.step.on c.wide-place.ensures
+bounds-regions-place c = length_room _ _ _ _ c.requires.step.grows c.requires.step.on c.from-place.ensures
 
 pub returns : goal.returns
-returns c = record { stepped = c.step-further.ensures; places = c.pass.ensures; path = rw c.wide-place.ensures }
+returns c = record { stepped = c.step-further.ensures; places = c.pass.ensures; path = rw c.from-place.ensures }

@@ -19,8 +19,8 @@ region_at-requires-in-loop-past c = (c.requires.0, omega arith)
 pub loop-past-preserved : goal.loop-past-preserved
 loop-past-preserved c = search (rules, ending_more, leb-true, marking_more)
 
-pub returns-else-bytes-shared : goal.returns-else-bytes-shared
-returns-else-bytes-shared c = search (rules, marked, ending_here, leb-false)
+pub returns-then-shared-past : goal.returns-then-shared-past
+returns-then-shared-past c = search (rules, marked, ending_here, leb-false)
 
-pub returns-after-loop-past : goal.returns-after-loop-past
-returns-after-loop-past c = search (rules, marked, ending_last)
+pub returns : goal.returns
+returns c = search (rules, marked, ending_last)

@@ -1,6 +1,4 @@
 -- What the loop of `tally::regions_under` keeps.
-use Prim.Native.Nat.{◌-◌}
-use lib.ListN.{length}
 use Rattle.node.proofs.Ends.{Ending}
 use Rattle.node.proofs.Held.{Marking}
 use Rattle.node.proofs.tally.regions_under.Given as goal
@@ -8,7 +6,3 @@ use Rattle.node.proofs.tally.regions_under.Given as goal
 abbrev pub invariant-loop-past : goal.invariant-loop-past
 invariant-loop-past l =
     Ending l.shared l.first l.bytes l.past × Marking l.region l.first l.bits l.past
-
-abbrev pub decreases-loop-past : goal.decreases-loop-past
-decreases-loop-past l =
-    length l.shared - l.past

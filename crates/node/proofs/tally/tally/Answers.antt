@@ -1,7 +1,13 @@
 -- `node::tally::tally` meets its contract: the loop's invariant is `Tallying`, whose laws are of proofs/Held.antt. Assumes nothing.
 use borrow.Author.Rules.{rules}
 use native.Mathlib.Omega.{arith}
+use mathlib.Core.Path.{◌≡◌}
+use mathlib.Core.Bool.{cond}
+use borrow.Author.Tests.{ne_eqb}
+use Rattle.base.specs.Bits.{bit_at}
+use Rattle.node.specs.Columns.{at}
 use Rattle.node.proofs.Held.{tallying, tallying_more, tallying_end, place_small}
+use Rattle.node.proofs.tally.tally.Goals.{then-known, else-known, then-known-2, else-known-2}
 use Rattle.node.proofs.tally.tally.Goals as goal
 
 pub loop-stand-init : goal.loop-stand-init
@@ -9,16 +15,24 @@ loop-stand-init c = search (rules, tallying)
 
 pub overflow_add-places : goal.overflow_add-places
 overflow_add-places c =
+    let r = c.region_at-slot.result in
+    let place : c.if-known.place ≡ cond (bit_at c.loop-stand.bits r) (at c.loop-stand.places r) (at c.args.next.now r) =
+    elim c.if-known.branch [ | then-known w ↦ rw w.if-known.true w.place-is | else-known w ↦ rw (ne_eqb _ _ w.if-known.false) w.place-is ] in
     omega (
       arith,
-      place_small _ _ _ _ _ _ _ _ _ _ c.loop-stand.invariant (search rules) c.region_at-slot.ensures.0 c.region_at-slot.ensures.1 _ c.chosen.ensures
-          (c.requires.low c.region_at-slot.result c.region_at-slot.ensures.1) (search rules),
+      place_small _ _ _ _ _ _ _ _ _ _ c.loop-stand.invariant (search rules) c.region_at-slot.ensures.0 c.region_at-slot.ensures.1 _ place
+          (c.requires.low r c.region_at-slot.ensures.1) (search rules),
     )
 
 pub loop-stand-preserved : goal.loop-stand-preserved
 loop-stand-preserved c =
+    let r = c.region_at-slot.result in
+    let place : c.if-known.place ≡ cond (bit_at c.loop-stand.bits r) (at c.loop-stand.places r) (at c.args.next.now r) =
+    elim c.if-known.branch [ | then-known w ↦ rw w.if-known.true w.place-is | else-known w ↦ rw (ne_eqb _ _ w.if-known.false) w.place-is ] in
+    let so_far : c.if-known-2.so_far ≡ cond (bit_at c.loop-stand.bits r) (at c.loop-stand.best r) 0 =
+    elim c.if-known-2.branch [ | then-known-2 w ↦ rw w.if-known-2.true w.so_far-is | else-known-2 w ↦ rw (ne_eqb _ _ w.if-known-2.false) w.so_far-is ] in
     tallying_more _ _ _ _ _ _ _ _ _ _ c.loop-stand.invariant (search rules) c.region_at-slot.ensures.0 c.region_at-slot.ensures.1
-    _ c.chosen.ensures _ _ c.chosen-in-loop-stand.ensures c.larger.ensures
+    _ place _ _ so_far c.max.ensures
 
 pub returns : goal.returns
 returns c = search (rules, tallying_end)
