@@ -13,7 +13,7 @@ ghost use Rattle.words.specs.Words.{rooms_of, CountAsks, Counted, WriteAsks, Wro
 
 use node::cursor::{root, step};
 use node::records::kept;
-use node::tally::{grown, regions_under, wide};
+use node::tally::{grown, regions_under};
 use order::places_of;
 pub use order::{has_order, put_order};
 use rules::{Grid, Session, Stand};
@@ -45,7 +45,7 @@ pub fn count(lengths: &[u8], shared: &[u8], region: &[u8], all: u32) -> Counts
         let length = cursor.length;
         let bits = regions_under(shared, region, cursor.stand, length);
         let own = kept(&regions, length, bits);
-        regions[wide(length)] = bits;
+        regions[usize::from(length)] = bits;
         cursor = step(lengths, shared, cursor, u64::count_ones(bits), own);
     }
     Counts {

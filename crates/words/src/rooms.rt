@@ -15,29 +15,14 @@ pub fn put_words(room: &mut [u32], at: usize, words: &[u32])
     requires { at + length words.now ≤ length room.old }
     ensures { room.new ≡ over room.old at words.now }
 {
-    let mut done = 0;
-    while done < words.len() {
-        room[at + done] = words[done];
-        done += 1;
-    }
+    room[at..at + words.len()].copy_from_slice(words);
 }
 
 pub fn has_words(room: &[u32], at: usize, words: &[u32]) -> bool
     requires { (at < 4294967296) × (length words.now ≤ 8) }
     ensures { result ≡ begins words.now (drop at room.now) }
 {
-    let mut done = 0;
-    while done < words.len() {
-        let place = at + done;
-        if room.len() <= place {
-            return false;
-        }
-        if room[place] != words[done] {
-            return false;
-        }
-        done += 1;
-    }
-    true
+    room[at.min(room.len())..].starts_with(words)
 }
 
 // The record of a node with these regions, from a place of the room on, if it keeps one; and whether the room has it there.
@@ -85,11 +70,9 @@ pub fn put_entries(
     requires { (HeldAsks ranked.now held) × (at + held * 4 ≤ length room.old) }
     ensures { room.new ≡ over room.old at (entry_rows (entries_from best.now next.now places.now ranked.now held)) }
 {
-    let mut rank = 0;
-    while rank < held {
-        let row = entry_row(ranked[rank], best, next, places);
+    for (rank, region) in ranked[..held].iter().enumerate() {
+        let row = entry_row(*region, best, next, places);
         put_words(room, at + rank * ENTRY_WORDS, &row);
-        rank += 1;
     }
 }
 
@@ -106,13 +89,11 @@ pub fn has_entries(
     requires { (HeldAsks ranked.now held) × (at < 4294967000) }
     ensures { result ≡ begins (entry_rows (entries_from best.now next.now places.now ranked.now held)) (drop at room.now) }
 {
-    let mut rank = 0;
-    while rank < held {
-        let row = entry_row(ranked[rank], best, next, places);
+    for (rank, region) in ranked[..held].iter().enumerate() {
+        let row = entry_row(*region, best, next, places);
         if !has_words(room, at + rank * ENTRY_WORDS, &row) {
             return false;
         }
-        rank += 1;
     }
     true
 }
