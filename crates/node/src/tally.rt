@@ -1,9 +1,10 @@
 // What lies under a node: where its stands end, how many nodes they make, and what each region holds of them.
-ghost use Rattle.std.specs.Prelude.{◌≡◌, cond, ◌≤◌, ◌<◌, ltb, length};
-ghost use Rattle.node.specs.Columns.{at, Grows, Placed, Ends, span, stands_under, grown_of, bits_among, RegionAt, Tallied};
+ghost use Rattle.std.specs.Prelude.{◌≡◌, ◌≤◌, ◌<◌, length};
+ghost use Rattle.node.specs.Columns.{columns_of, at, Grows, Placed, Ends, stands_under, grown_of, bits_among, RegionAt};
+ghost use Rattle.node.specs.Rows.{Tallies};
 ghost use Rattle.node.specs.Asks.{TallyAsks};
 
-use crate::Slots;
+use crate::{Columns, Work};
 use rules::Stand;
 
 // What a column has of a stand, 0 past the end: the root of an empty table has no stand.
@@ -40,23 +41,24 @@ pub fn end_of(shared: &[u8], stand: Stand, bytes: u8) -> Stand
 }
 
 // How many nodes the stands from first on make, past not among them; none where first is past it.
-pub fn grown(lengths: &[u8], shared: &[u8], first: Stand, past: Stand) -> u32
-    requires { (Grows lengths.now shared.now) × (past.0 ≤ length lengths.now) }
-    ensures { result ≡ grown_of lengths.now shared.now first.0 past.0 }
+pub fn grown(columns: Columns, first: Stand, past: Stand) -> u32
+    requires { (Grows columns.lengths.now columns.shared.now) × (past.0 ≤ length columns.lengths.now) }
+    ensures { result ≡ grown_of columns.entry.lengths.now columns.entry.shared.now first.0 past.0 }
 {
     let mut sum = 0;
     for stand in first.0 as usize..past.0 as usize {
-        sum += u32::from(lengths[stand] - shared[stand]);
+        sum += u32::from(columns.lengths[stand] - columns.shared[stand]);
     }
     sum
 }
 
 // The regions of the stands under the node of a stand's first bytes, a bit for each; none past the end. Counting entries asks for no more,
 // so that the stands are gone through once.
-pub fn regions_under(shared: &[u8], region: &[u8], stand: Stand, bytes: u8) -> u64
-    requires { (Placed region.now) × (length shared.now ≡ length region.now) }
-    ensures { result ≡ bits_among region.now (stands_under shared.now stand.0 bytes) }
+pub fn regions_under(columns: Columns, stand: Stand, bytes: u8) -> u64
+    requires { (Placed columns.region.now) × (length columns.shared.now ≡ length columns.region.now) }
+    ensures { result ≡ bits_among columns.entry.region.now (stands_under columns.entry.shared.now stand.0 bytes) }
 {
+    let Columns { shared, region, .. } = columns;
     let first = stand.0 as usize;
     if shared.len() <= first {
         return 0;
@@ -71,29 +73,24 @@ pub fn regions_under(shared: &[u8], region: &[u8], stand: Stand, bytes: u8) -> u
     bits
 }
 
-// One walk over those stands: their regions as bits, and for each of those regions the largest score and the place past its last stand.
-// A region's slots count only once its bit is set, so nothing is cleared.
-pub fn tally(
-    region: &[u8],
-    score: &[u32],
-    first: Stand,
-    past: Stand,
-    next: &Slots,
-    places: &mut Slots,
-    best: &mut Slots,
-) -> u64
-    requires { TallyAsks region.now score.now first.0 past.0 next.now places.old best.old }
-    ensures { Tallied region.now score.now next.now (span first.0 past.0) places.new best.new result }
-{
-    let mut bits = 0;
-    for stand in first.0..past.0 {
-        let slot = region_at(region, Stand(stand));
-        let known = (bits >> slot) % 2 == 1;
-        let place = if known { places[slot] } else { next[slot] };
-        let so_far = if known { best[slot] } else { 0 };
-        places[slot] = place + 1;
-        best[slot] = so_far.max(score[stand as usize]);
-        bits |= 1u64 << slot;
+impl Work {
+    // One walk over those stands: their regions as bits, and for each of those regions the largest score and the place past its last stand.
+    // A region's slots count only once its bit is set, so nothing is cleared.
+    pub fn tally(&mut self, columns: Columns, first: Stand, past: Stand) -> u64
+        requires { TallyAsks (columns_of columns) first.0 past.0 self.old }
+        ensures { Tallies (columns_of columns.entry) first.0 past.0 self.old self.new result }
+    {
+        let Columns { region, score, .. } = columns;
+        let mut bits = 0;
+        for stand in first.0..past.0 {
+            let slot = region_at(region, Stand(stand));
+            let known = (bits >> slot) % 2 == 1;
+            let place = if known { self.places[slot] } else { self.next[slot] };
+            let so_far = if known { self.best[slot] } else { 0 };
+            self.places[slot] = place + 1;
+            self.best[slot] = so_far.max(score[stand as usize]);
+            bits |= 1u64 << slot;
+        }
+        bits
     }
-    bits
 }

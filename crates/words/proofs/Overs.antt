@@ -22,8 +22,9 @@ use Rattle.base.proofs.Rows as rows
 use Rattle.base.proofs.Begins.{begins_parts}
 use Rattle.node.specs.Columns.{at, Sized, entry_from, entries_from}
 use Rattle.node.specs.Visits.{halves_of}
+use Rattle.node.specs.declared.Work.{Work}
 use Rattle.words.specs.Over.{over}
-use Rattle.words.specs.Words.{entry_rows, kept_words}
+use Rattle.words.specs.Words.{entry_rows, entries_held, kept_words}
 
 -- ---- words in a room that has place for them are stored one after the other
 
@@ -129,28 +130,30 @@ pub length_rows : (l : List Entry) → length (entry_rows l) ≡ length l * 4
 length_rows = rows.length_rows entry_row 4 (λ e. refl)
 
 -- the words of the entries from rank k on
-unfoldable pub slots_from : (best next places ranked : List ℕ) (held k : ℕ) → List ℕ
-slots_from best next places ranked held k = entry_rows (each (entry_from best next places) (drop k (take held ranked)))
+unfoldable pub slots_from : Work → (held k : ℕ) → List ℕ
+slots_from w held k = entry_rows (each (entry_from w.best w.next w.places) (drop k (take held w.ranked)))
 
-module _ (ranked : List ℕ) (held : ℕ) (size : Sized ranked) (few : held ≤ 64) where
-  held_size : length (take held ranked) ≡ held
-  held_size = length-take-le held ranked (omega arith)
+module _ (w : Work) (held : ℕ) (size : Sized w.ranked) (few : held ≤ 64) where
+  abbrev ranked : List ℕ
+  ranked = take held w.ranked
+
+  held_size : length ranked ≡ held
+  held_size = length-take-le held w.ranked (omega arith)
 
   -- a ranked region is a region
-  pub slots_small : (k : ℕ) → ((i : ℕ) → i < held → at ranked i < 64) → k < length (take held ranked) → at (take held ranked) k < 64
-  slots_small k small h = let lt : k < held = omega (arith, held_size) in rw (get_or-take held ranked k 0 lt) (small k lt)
+  pub slots_small : (k : ℕ) → ((i : ℕ) → i < held → at w.ranked i < 64) → k < length ranked → at ranked k < 64
+  slots_small k small h = let lt : k < held = omega (arith, held_size) in rw (get_or-take held w.ranked k 0 lt) (small k lt)
 
-module _ (best next places ranked : List ℕ) (held : ℕ) (size : Sized ranked) (few : held ≤ 64) where
   pub slots_filled : {d : List ℕ} {p q : ℕ} → q ≡ p → p + held * 4 ≤ length d
-      → Filled d p (entry_rows (entries_from best next places ranked held)) d (slots_from best next places ranked held 0) q
+      → Filled d p (entry_rows (entries_held w held)) d (slots_from w held 0) q
   unfolding slots_from entries_from
-  slots_filled e h = filled e (omega (arith, length_rows (each (entry_from best next places) (take held ranked)), length-each (entry_from best next places) (take held ranked), held_size ranked held size few))
+  slots_filled e h = filled e (omega (arith, length_rows (each (entry_from w.best w.next w.places) ranked), length-each (entry_from w.best w.next w.places) ranked, held_size))
 
-  pub slots_next : (k : ℕ) {w : List ℕ} → k < length (take held ranked) → w ≡ entry_row (entry_from best next places (at (take held ranked) k))
-      → Next (slots_from best next places ranked held k) w (slots_from best next places ranked held (k + 1))
+  pub slots_next : (k : ℕ) {row : List ℕ} → k < length ranked → row ≡ entry_row (entry_from w.best w.next w.places (at ranked k))
+      → Next (slots_from w held k) row (slots_from w held (k + 1))
   unfolding slots_from
-  slots_next k h e = record { is = rw (e, add-one k, drop-cons (take held ranked) k 0 h) }
+  slots_next k h e = record { is = rw (e, add-one k, drop-cons ranked k 0 h) }
 
-  pub slots_past : (k : ℕ) → length (take held ranked) ≤ k → slots_from best next places ranked held k ≡ []
+  pub slots_past : (k : ℕ) → length ranked ≤ k → slots_from w held k ≡ []
   unfolding slots_from
-  slots_past k h = rw (drop_of_length-le (take held ranked) {i = k} h)
+  slots_past k h = rw (drop_of_length-le ranked {i = k} h)

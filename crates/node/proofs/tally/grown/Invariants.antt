@@ -4,4 +4,4 @@ use Rattle.node.proofs.tally.grown.Given as goal
 
 abbrev pub invariant-loop-stand : goal.invariant-loop-stand
 invariant-loop-stand l =
-    Growing l.lengths l.shared l.initial.stand l.stand-end l.sum l.stand
+    Growing l.columns.lengths.now l.columns.shared.now l.initial.stand l.stand-end l.sum l.stand

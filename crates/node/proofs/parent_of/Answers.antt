@@ -1,8 +1,8 @@
--- `node::above` meets its contract, by the test that each return comes from. Assumes nothing.
+-- `node::parent_of` meets its contract, by the test that each return comes from. Assumes nothing.
 use borrow.Author.Rules.{rules}
 use native.Mathlib.Omega.{arith}
 use borrow.Author.Tests.{eq-eqb, ne_eqb}
-use Rattle.node.proofs.above.Goals as goal
+use Rattle.node.proofs.parent_of.Goals as goal
 
 pub returns-then-length-eq0 : goal.returns-then-length-eq0
 returns-then-length-eq0 c = search (rules, eq-eqb)
