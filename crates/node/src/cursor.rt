@@ -37,15 +37,14 @@ pub fn step(columns: Columns, cursor: Cursor, held: u32, kept: u32) -> Cursor
     requires { StepAsks columns.lengths.now columns.shared.now cursor held kept }
     ensures { Stepped columns.entry.lengths.now columns.entry.shared.now cursor held kept result }
 {
-    let Columns { lengths, shared, .. } = columns;
     let number = Node(cursor.number.0 + 1);
     let entries = cursor.entries + held;
     let records = cursor.records + kept;
     let mut stand = cursor.stand.0 as usize;
     let mut length = cursor.length + 1;
-    while stand < lengths.len() && lengths[stand] < length {
+    while stand < columns.lengths.len() && columns.lengths[stand] < length {
         stand += 1;
-        length = value_at(shared, Stand(stand as u32)) + 1;
+        length = value_at(columns.shared, Stand(stand as u32)) + 1;
     }
     Cursor {
         stand: Stand(stand as u32),

@@ -58,17 +58,16 @@ pub fn regions_under(columns: Columns, stand: Stand, bytes: u8) -> u64
     requires { (Placed columns.region.now) × (length columns.shared.now ≡ length columns.region.now) }
     ensures { result ≡ bits_among columns.entry.region.now (stands_under columns.entry.shared.now stand.0 bytes) }
 {
-    let Columns { shared, region, .. } = columns;
     let first = stand.0 as usize;
-    if shared.len() <= first {
+    if columns.shared.len() <= first {
         return 0;
     }
-    let mut bits = 1u64 << region_at(region, stand);
-    for past in first + 1..shared.len() {
-        if shared[past] < bytes {
+    let mut bits = 1u64 << region_at(columns.region, stand);
+    for past in first + 1..columns.shared.len() {
+        if columns.shared[past] < bytes {
             return bits;
         }
-        bits |= 1u64 << region_at(region, Stand(past as u32));
+        bits |= 1u64 << region_at(columns.region, Stand(past as u32));
     }
     bits
 }
@@ -80,15 +79,17 @@ impl Work {
         requires { TallyAsks (columns_of columns) first.0 past.0 self.old }
         ensures { Tallies (columns_of columns.entry) first.0 past.0 self.old self.new result }
     {
-        let Columns { region, score, .. } = columns;
         let mut bits = 0;
         for stand in first.0..past.0 {
-            let slot = region_at(region, Stand(stand));
+            let slot = region_at(columns.region, Stand(stand));
             let known = (bits >> slot) % 2 == 1;
-            let place = if known { self.places[slot] } else { self.next[slot] };
-            let so_far = if known { self.best[slot] } else { 0 };
+            let (place, so_far) = if known {
+                (self.places[slot], self.best[slot])
+            } else {
+                (self.next[slot], 0)
+            };
             self.places[slot] = place + 1;
-            self.best[slot] = so_far.max(score[stand as usize]);
+            self.best[slot] = so_far.max(columns.score[stand as usize]);
             bits |= 1u64 << slot;
         }
         bits

@@ -75,13 +75,7 @@ fn before_the_root(columns: Columns) -> Work
 }
 
 // All words of the nodes, the entries and the bit records, in rooms that have place for them.
-pub fn write(
-    columns: Columns,
-    all: u32,
-    nodes: &mut [u32],
-    entries: &mut [u32],
-    bits: &mut [u32],
-)
+pub fn write(columns: Columns, all: u32, nodes: &mut [u32], entries: &mut [u32], bits: &mut [u32])
     requires { WriteAsks (columns_of columns) all (rooms_of nodes.old entries.old bits.old) }
     ensures { WroteAll (columns_of columns.entry) (rooms_of nodes.old entries.old bits.old) (rooms_of nodes.new entries.new bits.new) }
 {

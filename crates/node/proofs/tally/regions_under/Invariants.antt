@@ -5,4 +5,4 @@ use Rattle.node.proofs.tally.regions_under.Given as goal
 
 abbrev pub invariant-loop-past : goal.invariant-loop-past
 invariant-loop-past l =
-    Ending l.shared l.first l.bytes l.past × Marking l.region l.first l.bits l.past
+    Ending l.columns.shared.now l.first l.bytes l.past × Marking l.columns.region.now l.first l.bits l.past
