@@ -49,9 +49,6 @@ module _ (shared : List ℕ) (i l : ℕ) where
   unfolding end_of
   end_none h = rw (drop_of_length-le shared h) (omega arith)
 
-  pub ended : length shared ≤ i → i ≤ length shared → Ends shared i l i
-  ended h k = record { end = sym (end_none h); after = omega arith; within = k }
-
   pub ending_more : (e : ℕ) → Ending shared i l e → e < length shared → l ≤ at shared e → Ending shared i l (e + 1)
   ending_more e s h k =
       let q : front_run l (drop e shared) ≡ suc (front_run l (drop (suc e) shared)) = rw (drop-cons shared e 0 h, le-ltb (at shared e) l k) in
@@ -66,6 +63,14 @@ module _ (shared : List ℕ) (i l : ℕ) where
   ending_last e s h =
       let q : front_run l (drop e shared) ≡ 0 = rw (drop_of_length-le shared h) in
       record { end = omega (arith, s.rest); after = omega (arith, s.after); within = s.within }
+
+  -- no stand behind it shares less; none at all, where i is past the end itself
+  pub ending_all : (e : ℕ) → (i < length shared → Ending shared i l e) → i ≤ length shared → length shared ≤ e → Ends shared i l (length shared)
+  ending_all e s w h =
+      ⊎_elim
+      (λ (q : length shared ≤ i). record { end = omega (arith, end_none q); after = w; within = omega arith })
+      (λ (q : i < length shared). let k : e ≡ length shared = omega (arith, (s q).within) in rw k at (ending_last e (s q) h))
+      (le_or_lt (length shared) i)
 
   pub end_from : i ≤ end_of shared i l
   unfolding end_of

@@ -21,9 +21,10 @@ use Rattle.base.proofs.Words.{bit-asks, word_split, word_less}
 use Rattle.base.proofs.Sorts.{each_sort, length_sort}
 use Rattle.node.specs.declared.cursor.Cursor.{Cursor}
 use Rattle.node.specs.declared.records.Served.{Served}
-use Rattle.node.specs.Columns.{at, Grows, Spelt, Ends, end_of, span, grown_of, held_among, regions_among, bits_among, entry_among, entries_among, entry_from, entries_from, by_best, Tallied, Ranks}
+use Rattle.node.specs.declared.Work.{Work}
+use Rattle.node.specs.Columns.{IndexColumns, at, Grows, Spelt, Ends, end_of, span, grown_of, held_among, regions_among, bits_among, entry_among, entries_among, entry_from, entries_from, by_best, Tallied, Ranks}
 use Rattle.node.specs.Visits.{On, kept_in}
-use Rattle.node.specs.Rows.{last_of, past_number, row_with, Gathers}
+use Rattle.node.specs.Rows.{last_of, past_number, row_with, Tallies, Gathers}
 use Rattle.node.proofs.Ends.{length-short, grown_none, grown_first, end_from, end_after}
 use Rattle.node.proofs.Placing.{regions_are}
 
@@ -62,12 +63,21 @@ module _ (region score next s places best : List ℕ) (bits : ℕ) (t : Tallied 
     count_is : held ≡ length (entries_among region score next s)
     count_is = k.count ∙ ap length ranked_are ∙ sym (entries_held region score next s)
 
-pub gathered : (shared region score next : List ℕ) (i l past bits held : ℕ) (places best ranked : List ℕ)
-    → Ends shared i l past
-    → Tallied region score next (span i past) places best bits
-    → Ranks best (keep (bit_at bits) (up_to regions)) ranked held
-    → Gathers shared region score next i l places best ranked (record { past = record { 0 = past }; bits = bits; held = held })
-gathered shared region score next i l past bits held places best ranked e t k =
+pub gathered : (t : IndexColumns) (c : Cursor) (w w' : Work) (past bits held : ℕ) (ranked : List ℕ)
+    → Ends t.shared c.stand.0 c.length past
+    → Tallies t c.stand.0 past w w' bits
+    → Ranks w'.best (keep (bit_at bits) (up_to regions)) ranked held
+    → Gathers t c w (record w' { ranked = ranked }) (record { past = record { 0 = past }; bits = bits; held = held })
+gathered columns c w w' past bits held ranked e d k =
+    let t = d.tallied in
+    let shared = columns.shared in
+    let region = columns.region in
+    let score = columns.score in
+    let next = w.next in
+    let i = c.stand.0 in
+    let l = c.length in
+    let places = w'.places in
+    let best = w'.best in
     record {
       past = e.end;
       within = e.within;
@@ -79,6 +89,7 @@ gathered shared region score next i l past bits held places best ranked e t k =
       places_size = t.places_size;
       best_size = t.best_size;
       ranked_size = k.size;
+      kept = (d.kept.0, d.kept.1);
     }
 
 -- ---- the two words of its bits

@@ -3,7 +3,7 @@
 use mathlib.Core.Path.{◌≡◌, refl, sym, ap, ◌∙◌}
 use mathlib.Core.Bool.{true, false, not, cond, ◌||◌, or-true, or-false}
 use mathlib.Core.List.{List, [], ◌∷◌, ◌++◌, append-nil}
-use Prim.Native.Nat.{ℕ, ◌+◌, ◌-◌, ◌*◌, ◌%◌, ◌^◌, ◌≤◌, ◌<◌}
+use Prim.Native.Nat.{ℕ, ◌+◌, ◌-◌, ◌*◌, ◌%◌, ◌^◌, ◌≤◌, ◌<◌, max}
 use native.Mathlib.Omega.{arith}
 use native.Mathlib.Nat.{zero-add}
 use lib.Bits.{bit_or}
@@ -11,7 +11,7 @@ use lib.Dec.{eqb, ltb}
 use lib.ListN.{length, set, length-append, length-set}
 use lib.Seq.{get_or-set_same, get_or-set_other}
 use borrow.Table.Steps.{cases}
-use borrow.Author.Tests.{eq-eqb, ne_eqb, eqb-true, eqb-false}
+use borrow.Author.Tests.{eq-eqb, ne_eqb, eqb-true, eqb-false, ltb-true, ltb-false}
 use Rattle.base.specs.Lists.{keep, each, largest, is_empty}
 use Rattle.base.specs.Bits.{word_of, bit_at}
 use Rattle.base.proofs.Tests.{never}
@@ -106,6 +106,9 @@ module _ (shared region : List ℕ) (i l : ℕ) where
 
 -- ---- the tally
 
+larger : (a b : ℕ) → max a b ≡ cond (ltb a b) b a
+larger a b = cases (ltb a b) (λ q. rw q (omega (arith, ltb-true a b q))) (λ q. rw q (omega (arith, ltb-false a b q)))
+
 -- slots that say f of each region that holds one of the stands say it of one stand more, once its region's is stored
 module _ (region s : List ℕ) (k r : ℕ) (q : r ≡ at region k) where
   stored : (slots : List ℕ) (f : ℕ → List ℕ → ℕ) (v : ℕ) → Sized slots → r < 64
@@ -151,7 +154,7 @@ module _ (region score next : List ℕ) (i e : ℕ) where
       pub place_small : at next r ≤ 1024 → e ≤ 1024 → a ≤ 2048
       place_small u v = omega (arith, place_now, stands_few region (span i k) r, length_from i (k - i))
 
-      pub tallying_more : (b m : ℕ) → b ≡ cond (bit_at bits r) (at best r) 0 → m ≡ cond (ltb b (at score k)) (at score k) b
+      pub tallying_more : (b m : ℕ) → b ≡ cond (bit_at bits r) (at best r) 0 → m ≡ max b (at score k)
           → Tallying region score next i e (set places r (a + 1)) (set best r m) (bit_or bits (1 * 2 ^ r % 2 ^ 64)) (k + 1)
       tallying_more b m eb em =
           let seen = span i k in
@@ -163,6 +166,7 @@ module _ (region score next : List ℕ) (i e : ℕ) where
           slot (λ l. largest (each (at score) l)) (at best r) 0 b (s.so_far.most r lt) refl eb in
           let score' : m ≡ largest (each (at score) (stands_in region r (span i k) ++ (k ∷ []))) =
           em
+          ∙ larger b (at score k)
           ∙ ap (λ (x : ℕ). cond (ltb x (at score k)) (at score k) x) top
           ∙ sym (ap largest (each_append (at score) (stands_in region r (span i k)) (k ∷ [])) ∙ largest_last (each (at score) (stands_in region r (span i k))) (at score k)) in
           record {

@@ -2,9 +2,10 @@
 use Rattle.std.specs.Prelude.{◌≡◌, List, ℕ, ◌+◌, ◌≤◌, ◌<◌, length}
 use Rattle.node.specs.declared.cursor.Cursor.{Cursor}
 use Rattle.node.specs.declared.Gathered.{Gathered}
-use Rattle.node.specs.Columns.{at, Grows, Placed, Spelt, Sized, InColumn, end_of, Ranks}
+use Rattle.node.specs.declared.Work.{Work}
+use Rattle.node.specs.Columns.{IndexColumns, at, Grows, Placed, Spelt, Sized, InColumn, end_of, Ranks}
 use Rattle.node.specs.declared.records.Served.{Served}
-use Rattle.node.specs.Visits.{places_at, On, Above, Long}
+use Rattle.node.specs.Visits.{places_at, On, Long}
 
 -- ---- the cursor
 
@@ -20,13 +21,13 @@ pub record PassAsks (region next : List ℕ) (from to : ℕ) : Type 0 where
   pub run : InColumn region from to
   pub places : next ≡ places_at region from
 
-pub record AdvanceAsks (lengths shared region : List ℕ) (c : Cursor) (g : Gathered) (s : Served) (next : List ℕ) (above : Above) : Type 0 where
-  pub step : StepAsks lengths shared c g.held s.kept
+pub record AdvanceAsks (t : IndexColumns) (c : Cursor) (g : Gathered) (s : Served) (w : Work) : Type 0 where
+  pub step : StepAsks t.lengths t.shared c g.held s.kept
   pub held : g.held ≤ 64
-  pub placed : Placed region
-  pub same : length region ≡ length lengths
-  pub places : next ≡ places_at region c.stand.0
-  pub long : Long above
+  pub placed : Placed t.region
+  pub same : length t.region ≡ length t.lengths
+  pub places : w.next ≡ places_at t.region c.stand.0
+  pub long : Long w.above
 
 -- ---- what lies under its node
 
@@ -34,28 +35,28 @@ pub record AdvanceAsks (lengths shared region : List ℕ) (c : Cursor) (g : Gath
 abbrev pub Low : List ℕ → Type 0
 Low next = (r : ℕ) → r < 64 → at next r ≤ 1024
 
-pub record TallyAsks (region score : List ℕ) (first past : ℕ) (next places best : List ℕ) : Type 0 where
-  pub placed : Placed region
-  pub scored : length score ≡ length region
-  pub run : InColumn region first past
-  pub low : Low next
-  pub places_size : Sized places
-  pub best_size : Sized best
+pub record TallyAsks (t : IndexColumns) (first past : ℕ) (w : Work) : Type 0 where
+  pub placed : Placed t.region
+  pub scored : length t.score ≡ length t.region
+  pub run : InColumn t.region first past
+  pub low : Low w.next
+  pub places_size : Sized w.places
+  pub best_size : Sized w.best
 
 pub record SettleAsks (best ranked : List ℕ) (held r : ℕ) : Type 0 where
   pub room : held < 64
   pub small : r < 64
   pub so_far : (l : List ℕ) × Ranks best l ranked held
 
-pub record GatherAsks (shared region score : List ℕ) (i : ℕ) (next places best ranked : List ℕ) : Type 0 where
-  pub placed : Placed region
-  pub scored : length score ≡ length region
-  pub same : length shared ≡ length region
-  pub within : i ≤ length shared
-  pub low : Low next
-  pub places_size : Sized places
-  pub best_size : Sized best
-  pub ranked_size : Sized ranked
+pub record GatherAsks (t : IndexColumns) (c : Cursor) (w : Work) : Type 0 where
+  pub placed : Placed t.region
+  pub scored : length t.score ≡ length t.region
+  pub same : length t.shared ≡ length t.region
+  pub within : c.stand.0 ≤ length t.shared
+  pub low : Low w.next
+  pub places_size : Sized w.places
+  pub best_size : Sized w.best
+  pub ranked_size : Sized w.ranked
 
 -- ---- its row
 
@@ -63,19 +64,19 @@ pub record LastAsks (text starts : List ℕ) (i l : ℕ) : Type 0 where
   pub short : l ≤ 24
   pub inside : 0 < l → (i < length starts) × (at starts i + l ≤ length text)
 
-pub record PastAsks (lengths shared : List ℕ) (i l e j : ℕ) : Type 0 where
+pub record PastAsks (lengths shared : List ℕ) (c : Cursor) (e : ℕ) : Type 0 where
   pub grows : Grows lengths shared
-  pub run : InColumn lengths i e
-  pub low : j < 100000
-  pub long : l ≤ at lengths i
-  pub some : i < length lengths → i < e
+  pub run : InColumn lengths c.stand.0 e
+  pub low : c.number.0 < 100000
+  pub long : c.length ≤ at lengths c.stand.0
+  pub some : c.stand.0 < length lengths → c.stand.0 < e
 
-pub record RowAsks (text starts lengths shared path : List ℕ) (c : Cursor) (e : ℕ) (s : Served) : Type 0 where
-  pub grows : Grows lengths shared
-  pub spelt : Spelt text starts lengths
-  pub on : On lengths shared c
+pub record RowAsks (t : IndexColumns) (path : List ℕ) (c : Cursor) (e : ℕ) (s : Served) : Type 0 where
+  pub grows : Grows t.lengths t.shared
+  pub spelt : Spelt t.text t.starts t.lengths
+  pub on : On t.lengths t.shared c
   pub low : c.number.0 < 100000
   pub size : length path ≡ 25
-  pub past : e ≡ end_of shared c.stand.0 c.length
-  pub within : e ≤ length lengths
+  pub past : e ≡ end_of t.shared c.stand.0 c.length
+  pub within : e ≤ length t.lengths
   pub one : s.kept ≤ 1

@@ -1,11 +1,10 @@
 -- A table's columns, and what lies under a node by them: where its stands end, how many nodes they make, what each region holds.
-use Rattle.std.specs.Borrow.{Bor}
 use Rattle.std.specs.Prelude.{◌≡◌, Bool, true, not, cond, List, [], ◌∷◌, ℕ, suc, ◌+◌, ◌-◌, ◌≤◌, ◌<◌, eqb, ltb, length, take, drop, get_or}
 use Rattle.base.specs.Lists.{from_on, up_to, keep, each, total, largest, is_empty, insert_by, sort_by, leads}
 use Rattle.base.specs.Bits.{word_of}
-use Rattle.base.specs.Lent.{Lent, given}
 use Rattle.rules.specs.Places.{regions}
 use Rattle.rules.specs.Indexes.{Entry, ahead}
+use Rattle.node.specs.declared.Columns as lent
 
 abbrev pub at : List ℕ → ℕ → ℕ
 at l i = get_or l i 0
@@ -36,14 +35,9 @@ abbrev pub index_columns : List ℕ → List ℕ → List ℕ → List ℕ → L
 index_columns text starts lengths shared region score =
     record { text = text; starts = starts; lengths = lengths; shared = shared; region = region; score = score }
 
--- the columns that a call is lent: as its `requires` sees them, and as its `ensures` does
-abbrev pub columns_now : (text starts lengths shared region score : Bor (List ℕ)) → IndexColumns
-columns_now text starts lengths shared region score =
-    index_columns text.now starts.now lengths.now shared.now region.now score.now
-
-abbrev pub columns_in : (text starts lengths shared region score : Lent (List ℕ)) → IndexColumns
-columns_in text starts lengths shared region score =
-    index_columns (given text) (given starts) (given lengths) (given shared) (given region) (given score)
+-- the columns that a call is lent
+abbrev pub columns_of : lent.Columns → IndexColumns
+columns_of c = index_columns c.text.now c.starts.now c.lengths.now c.shared.now c.region.now c.score.now
 
 -- each name inside the text
 pub record Spelt (text starts lengths : List ℕ) : Type 0 where

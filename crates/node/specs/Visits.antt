@@ -2,7 +2,9 @@
 use Rattle.std.specs.Prelude.{◌≡◌, cond, List, [], ◌∷◌, ◌++◌, ℕ, suc, ◌+◌, ◌-◌, ◌/◌, ◌%◌, ◌≤◌, ◌<◌, eqb, ltb, length, set}
 use Rattle.base.specs.Lists.{from_on, up_to, keep, each, each_list}
 use Rattle.rules.specs.Places.{regions}
-use Rattle.node.specs.Columns.{at, grown_of, stands_in}
+use Rattle.node.specs.Columns.{IndexColumns, at, grown_of, stands_in}
+use Rattle.node.specs.declared.Above.{Above}
+use Rattle.node.specs.declared.Work.{Work}
 use Rattle.node.specs.declared.Gathered.{Gathered}
 use Rattle.node.specs.declared.cursor.Cursor.{Cursor}
 use Rattle.node.specs.declared.records.Served.{Served}
@@ -62,12 +64,6 @@ pub record Stepped (lengths shared : List ℕ) (c : Cursor) (held kept : ℕ) (r
 
 -- ---- the nodes above
 
--- what a walk has of them, by the length of their texts: number, bit record and regions
-pub record Above : Type 0 where
-  pub numbers : List ℕ
-  pub records : List ℕ
-  pub regions : List ℕ
-
 abbrev pub above_of : List ℕ → List ℕ → List ℕ → Above
 above_of numbers records regions = record { numbers = numbers; records = records; regions = regions }
 
@@ -99,7 +95,8 @@ abbrev pub halves_of : ℕ → List ℕ
 halves_of bits = bits % 4294967296 ∷ bits / 4294967296 ∷ []
 
 -- r is the cursor past c, with what is lent beside it: the next places, and what lies above, the node itself now with it
-pub record Advanced (lengths shared region : List ℕ) (c : Cursor) (g : Gathered) (s : Served) (next : List ℕ) (above above' : Above) (r : Cursor) : Type 0 where
-  pub stepped : Stepped lengths shared c g.held s.kept r
-  pub places : next ≡ places_at region r.stand.0
-  pub path : above' ≡ on_path above c.length c.number.0 s.number g.bits
+pub record Advanced (t : IndexColumns) (c : Cursor) (g : Gathered) (s : Served) (w w' : Work) (r : Cursor) : Type 0 where
+  pub stepped : Stepped t.lengths t.shared c g.held s.kept r
+  pub places : w'.next ≡ places_at t.region r.stand.0
+  pub path : w'.above ≡ on_path w.above c.length c.number.0 s.number g.bits
+  pub slots : (w'.places ≡ w.places) × (w'.best ≡ w.best) × (w'.ranked ≡ w.ranked)

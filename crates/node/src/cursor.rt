@@ -1,12 +1,13 @@
 // The walk through the nodes in pre-order. A cursor is five numbers by value; what grows with it, the path of the nodes above it and
 // each region's next place in the stand order, is lent beside it, so that counting carries no more of it than it needs.
 ghost use Rattle.std.specs.Prelude.{◌≡◌};
-ghost use Rattle.node.specs.Visits.{root_cursor, places_at, above_of, Stepped, Advanced};
+ghost use Rattle.node.specs.Columns.{columns_of};
+ghost use Rattle.node.specs.Visits.{root_cursor, places_at, Stepped, Advanced};
 ghost use Rattle.node.specs.Asks.{StepAsks, PassAsks, AdvanceAsks};
 
 use crate::records::Served;
-use crate::tally::{region_at, value_at, wide};
-use crate::{Gathered, Path, RegionPath, Slots};
+use crate::tally::{region_at, value_at};
+use crate::{Columns, Gathered, Slots, Work};
 use rules::{Node, Stand};
 
 // The node of a stand's first length bytes, its number, and how many entries and bit records the nodes before it have.
@@ -32,18 +33,18 @@ pub fn root() -> Cursor
 }
 
 // The next node after the cursor's, which has so many entries and keeps so many records.
-pub fn step(lengths: &[u8], shared: &[u8], cursor: Cursor, held: u32, kept: u32) -> Cursor
-    requires { StepAsks lengths.now shared.now cursor held kept }
-    ensures { Stepped lengths.now shared.now cursor held kept result }
+pub fn step(columns: Columns, cursor: Cursor, held: u32, kept: u32) -> Cursor
+    requires { StepAsks columns.lengths.now columns.shared.now cursor held kept }
+    ensures { Stepped columns.entry.lengths.now columns.entry.shared.now cursor held kept result }
 {
     let number = Node(cursor.number.0 + 1);
     let entries = cursor.entries + held;
     let records = cursor.records + kept;
     let mut stand = cursor.stand.0 as usize;
     let mut length = cursor.length + 1;
-    while stand < lengths.len() && lengths[stand] < length {
+    while stand < columns.lengths.len() && columns.lengths[stand] < length {
         stand += 1;
-        length = value_at(shared, Stand(stand as u32)) + 1;
+        length = value_at(columns.shared, Stand(stand as u32)) + 1;
     }
     Cursor {
         stand: Stand(stand as u32),
@@ -59,39 +60,31 @@ fn pass(region: &[u8], next: &mut Slots, from: Stand, to: Stand)
     requires { PassAsks region.now next.old from.0 to.0 }
     ensures { next.new ≡ places_at region.now to.0 }
 {
-    let first = from.0;
-    let end = to.0;
-    let mut stand = first;
-    while stand < end {
+    for stand in from.0..to.0 {
         let slot = region_at(region, Stand(stand));
         next[slot] += 1;
-        stand += 1;
     }
 }
 
-// The next node after the cursor's, of which this was gathered and which is served so, with path and next places brought along.
-pub fn advance(
-    lengths: &[u8],
-    shared: &[u8],
-    region: &[u8],
-    cursor: Cursor,
-    gathered: Gathered,
-    served: Served,
-    next: &mut Slots,
-    path: &mut Path,
-    records: &mut Path,
-    regions: &mut RegionPath,
-) -> Cursor
-    requires { AdvanceAsks lengths.now shared.now region.now cursor gathered served next.old (above_of path.old records.old regions.old) }
-    ensures { Advanced lengths.now shared.now region.now cursor gathered served next.new (above_of path.old records.old regions.old) (above_of path.new records.new regions.new) result }
-{
-    let place = wide(cursor.length);
-    path[place] = cursor.number.0;
-    records[place] = served.number;
-    regions[place] = gathered.bits;
-    let further = step(lengths, shared, cursor, gathered.held as u32, served.kept);
-    let from = cursor.stand;
-    let to = further.stand;
-    pass(region, next, from, to);
-    further
+impl Work {
+    // The next node after the cursor's, of which this was gathered and which is served so, with what lies above and the next places brought
+    // along.
+    pub fn advance(
+        &mut self,
+        columns: Columns,
+        cursor: Cursor,
+        gathered: Gathered,
+        served: Served,
+    ) -> Cursor
+        requires { AdvanceAsks (columns_of columns) cursor gathered served self.old }
+        ensures { Advanced (columns_of columns.entry) cursor gathered served self.old self.new result }
+    {
+        let place = usize::from(cursor.length);
+        self.above.numbers[place] = cursor.number.0;
+        self.above.records[place] = served.number;
+        self.above.regions[place] = gathered.bits;
+        let further = step(columns, cursor, gathered.held as u32, served.kept);
+        pass(columns.region, &mut self.next, cursor.stand, further.stand);
+        further
+    }
 }

@@ -8,6 +8,7 @@ pub mod records;
 pub mod tally;
 
 ghost use Rattle.std.specs.Prelude.{◌≡◌, ◌≤◌};
+ghost use Rattle.node.specs.Columns.{columns_of};
 ghost use Rattle.node.specs.Rows.{last_of, past_number, Gathers, Rowed};
 ghost use Rattle.node.specs.Visits.{above_in};
 ghost use Rattle.node.specs.Asks.{GatherAsks, LastAsks, PastAsks, RowAsks};
@@ -17,16 +18,47 @@ use ranks::ranks;
 use records::Served;
 use rules::layout::NODE_WORDS;
 use rules::{Grid, Node, Session, Stand};
-use tally::{end_of, grown, tally, value_at, wide, word};
+use tally::{end_of, grown, value_at};
+
+// The columns of a table, with a row for each stand: where its name begins in the text, how long the name is and how much of it the name
+// before has too, its region and its score.
+#[derive(Clone, Copy)]
+pub struct Columns<'a> {
+    pub text: &'a [u8],
+    pub starts: &'a [u32],
+    pub lengths: &'a [u8],
+    pub shared: &'a [u8],
+    pub region: &'a [u8],
+    pub score: &'a [u32],
+}
 
 // A number for each region.
 pub type Slots = [u32; Grid::REGIONS];
 
-// Of the node above at each length of text its number, or its bit record.
+// A number for each length of a text, that of the node above which has so long a one.
 pub type Path = [u32; Session::PATH];
 
 // And its regions, as bits.
 pub type RegionPath = [u64; Session::PATH];
+
+// What lies above a node: of each node there the number, the bit record that serves it, and the regions.
+#[derive(Drop)]
+pub struct Above {
+    pub numbers: Path,
+    pub records: Path,
+    pub regions: RegionPath,
+}
+
+// What is kept from node to node, made once: each region's next place in the stand order and what lies above; and slots for what lies
+// under a node, of each region there the place past its last stand and the best score, and those regions in the order of their entries.
+#[derive(Drop)]
+pub struct Work {
+    pub next: Slots,
+    pub above: Above,
+    pub places: Slots,
+    pub best: Slots,
+    pub ranked: Slots,
+}
 
 // The stand past a node's last, its regions as bits, and how many regions and so entries it has.
 #[derive(Clone, Copy)]
@@ -36,25 +68,18 @@ pub struct Gathered {
     pub held: usize,
 }
 
-// What lies under the cursor's node: its regions' places and scores in their slots, and the regions ranked.
-pub fn gather(
-    shared: &[u8],
-    region: &[u8],
-    score: &[u32],
-    cursor: Cursor,
-    next: &Slots,
-    places: &mut Slots,
-    best: &mut Slots,
-    ranked: &mut Slots,
-) -> Gathered
-    requires { GatherAsks shared.now region.now score.now cursor.stand.0 next.now places.old best.old ranked.old }
-    ensures { Gathers shared.now region.now score.now next.now cursor.stand.0 cursor.length places.new best.new ranked.new result }
-{
-    let stand = cursor.stand;
-    let past = end_of(shared, stand, cursor.length);
-    let bits = tally(region, score, stand, past, next, places, best);
-    let held = ranks(bits, best, ranked);
-    Gathered { past, bits, held }
+impl Work {
+    // What lies under the cursor's node: its regions' places and scores in their slots, and the regions ranked.
+    pub fn gather(&mut self, columns: Columns, cursor: Cursor) -> Gathered
+        requires { GatherAsks (columns_of columns) cursor self.old }
+        ensures { Gathers (columns_of columns.entry) cursor self.old self.new result }
+    {
+        let stand = cursor.stand;
+        let past = end_of(columns.shared, stand, cursor.length);
+        let bits = self.tally(columns, stand, past);
+        let held = ranks(bits, &self.best, &mut self.ranked);
+        Gathered { past, bits, held }
+    }
 }
 
 // The last byte of a node, 0 for the root.
@@ -65,58 +90,50 @@ fn last_byte(text: &[u8], starts: &[u32], stand: Stand, length: u8) -> u32
     if length == 0 {
         return 0;
     }
-    let at = starts[stand.0 as usize] as usize + wide(length - 1);
-    word(text[at])
+    let at = starts[stand.0 as usize] as usize + usize::from(length - 1);
+    u32::from(text[at])
 }
 
 // What the path has of a node's parent, 0 for the root.
-fn above(path: &Path, length: u8) -> u32
+fn parent_of(path: &Path, length: u8) -> u32
     requires { length ≤ 24 }
     ensures { result ≡ above_in path.now length }
 {
     if length == 0 {
         return 0;
     }
-    path[wide(length - 1)]
+    path[usize::from(length - 1)]
 }
 
-// The number past a node's subtree: those under it are the longer ones of its first stand, and what the stands behind that one add.
-fn past_number(
-    lengths: &[u8],
-    shared: &[u8],
-    stand: Stand,
-    length: u8,
-    past: Stand,
-    number: Node,
-) -> Node
-    requires { PastAsks lengths.now shared.now stand.0 length past.0 number.0 }
-    ensures { result.0 ≡ past_number lengths.now shared.now stand.0 length past.0 number.0 }
+// The number past the subtree of the cursor's node: those under it are the longer ones of its first stand, and what the stands behind that
+// one add.
+fn past_number(columns: Columns, cursor: Cursor, past: Stand) -> Node
+    requires { PastAsks columns.lengths.now columns.shared.now cursor past.0 }
+    ensures { result.0 ≡ past_number columns.entry.lengths.now columns.entry.shared.now cursor.stand.0 cursor.length past.0 cursor.number.0 }
 {
-    let own = word(value_at(lengths, stand) - length);
+    let stand = cursor.stand;
+    let own = u32::from(value_at(columns.lengths, stand) - cursor.length);
     let behind = Stand(stand.0 + 1);
-    let grew = grown(lengths, shared, behind, past);
-    Node(number.0 + 1 + own + grew)
+    let grew = grown(columns, behind, past);
+    Node(cursor.number.0 + 1 + own + grew)
 }
 
 // The words of the cursor's node, whose stands end here and which is served so, in the order of rules::layout.
 pub fn row(
-    text: &[u8],
-    starts: &[u32],
-    lengths: &[u8],
-    shared: &[u8],
-    path: &Path,
+    columns: Columns,
+    above: &Above,
     cursor: Cursor,
     past: Stand,
     served: Served,
 ) -> [u32; NODE_WORDS]
-    requires { RowAsks text.now starts.now lengths.now shared.now path.now cursor past.0 served }
-    ensures { Rowed text.now starts.now lengths.now shared.now path.now cursor past.0 served result }
+    requires { RowAsks (columns_of columns) above.now.numbers cursor past.0 served }
+    ensures { Rowed (columns_of columns.entry) above.now.numbers cursor past.0 served result }
 {
     let stand = cursor.stand;
     let length = cursor.length;
-    let parent = above(path, length);
-    let last_byte = last_byte(text, starts, stand, length);
-    let past_node = past_number(lengths, shared, stand, length, past, cursor.number);
+    let parent = parent_of(&above.numbers, length);
+    let last_byte = last_byte(columns.text, columns.starts, stand, length);
+    let past_node = past_number(columns, cursor, past);
     [
         parent,
         last_byte,

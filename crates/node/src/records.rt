@@ -3,8 +3,7 @@ ghost use Rattle.std.specs.Prelude.{◌≡◌, ◌≤◌};
 ghost use Rattle.node.specs.Visits.{kept_in, served_in, halves_of};
 
 use crate::cursor::Cursor;
-use crate::tally::wide;
-use crate::{Path, RegionPath, above};
+use crate::{Above, RegionPath, parent_of};
 use rules::layout::RECORD_WORDS;
 
 // The record that serves a node, and how many it keeps: one, or none where that record is its parent's.
@@ -22,27 +21,29 @@ pub fn kept(regions: &RegionPath, length: u8, bits: u64) -> u32
     if length == 0 {
         return 1;
     }
-    if regions[wide(length - 1)] == bits {
+    if regions[usize::from(length - 1)] == bits {
         return 0;
     }
     1
 }
 
-// The record that serves the cursor's node, which has these regions: the next one, or that of the node above it.
-pub fn serve(records: &Path, regions: &RegionPath, cursor: Cursor, bits: u64) -> Served
-    requires { cursor.length ≤ 24 }
-    ensures { result ≡ served_in records.now regions.now cursor.length cursor.records bits }
-{
-    let kept = kept(regions, cursor.length, bits);
-    if kept == 1 {
-        return Served {
-            number: cursor.records,
+impl Above {
+    // The record that serves the cursor's node, which has these regions: the next one, or that of the node above it.
+    pub fn serve(&self, cursor: Cursor, bits: u64) -> Served
+        requires { cursor.length ≤ 24 }
+        ensures { result ≡ served_in self.now.records self.now.regions cursor.length cursor.records bits }
+    {
+        let kept = kept(&self.regions, cursor.length, bits);
+        if kept == 1 {
+            return Served {
+                number: cursor.records,
+                kept,
+            };
+        }
+        Served {
+            number: parent_of(&self.records, cursor.length),
             kept,
-        };
-    }
-    Served {
-        number: above(records, cursor.length),
-        kept,
+        }
     }
 }
 

@@ -1,23 +1,11 @@
 // What lies under a node: where its stands end, how many nodes they make, and what each region holds of them.
-ghost use Rattle.std.specs.Prelude.{◌≡◌, cond, ◌≤◌, ◌<◌, ltb, length};
-ghost use Rattle.node.specs.Columns.{at, Grows, Placed, Ends, span, stands_under, grown_of, bits_among, RegionAt, Tallied};
+ghost use Rattle.std.specs.Prelude.{◌≡◌, ◌≤◌, ◌<◌, length};
+ghost use Rattle.node.specs.Columns.{columns_of, at, Grows, Placed, Ends, stands_under, grown_of, bits_among, RegionAt};
+ghost use Rattle.node.specs.Rows.{Tallies};
 ghost use Rattle.node.specs.Asks.{TallyAsks};
 
-use crate::Slots;
+use crate::{Columns, Work};
 use rules::Stand;
-
-// A byte of a column as a place, and as a word of the index.
-pub fn wide(byte: u8) -> usize
-    ensures { result ≡ byte }
-{
-    byte as usize
-}
-
-pub fn word(byte: u8) -> u32
-    ensures { result ≡ byte }
-{
-    byte as u32
-}
 
 // What a column has of a stand, 0 past the end: the root of an empty table has no stand.
 pub fn value_at(column: &[u8], stand: Stand) -> u8
@@ -35,7 +23,7 @@ pub fn region_at(region: &[u8], stand: Stand) -> usize
     requires { (Placed region.now) × (stand.0 < length region.now) }
     ensures { RegionAt region.now stand.0 result }
 {
-    wide(region[stand.0 as usize])
+    usize::from(region[stand.0 as usize])
 }
 
 // The first stand past this one that shares less than so many bytes with the one before; this one itself past the end.
@@ -44,87 +32,66 @@ pub fn end_of(shared: &[u8], stand: Stand, bytes: u8) -> Stand
     ensures { Ends shared.now stand.0 bytes result.0 }
 {
     let first = stand.0 as usize;
-    if shared.len() <= first {
-        return stand;
+    for past in first + 1..shared.len() {
+        if shared[past] < bytes {
+            return Stand(past as u32);
+        }
     }
-    let mut past = first + 1;
-    while past < shared.len() && bytes <= shared[past] {
-        past += 1;
-    }
-    Stand(past as u32)
+    Stand(shared.len() as u32)
 }
 
 // How many nodes the stands from first on make, past not among them; none where first is past it.
-pub fn grown(lengths: &[u8], shared: &[u8], first: Stand, past: Stand) -> u32
-    requires { (Grows lengths.now shared.now) × (past.0 ≤ length lengths.now) }
-    ensures { result ≡ grown_of lengths.now shared.now first.0 past.0 }
+pub fn grown(columns: Columns, first: Stand, past: Stand) -> u32
+    requires { (Grows columns.lengths.now columns.shared.now) × (past.0 ≤ length columns.lengths.now) }
+    ensures { result ≡ grown_of columns.entry.lengths.now columns.entry.shared.now first.0 past.0 }
 {
-    let mut sum: u32 = 0;
-    let end = past.0;
-    let mut stand = first.0;
-    while stand < end {
-        let row = stand as usize;
-        sum += word(lengths[row] - shared[row]);
-        stand += 1;
+    let mut sum = 0;
+    for stand in first.0 as usize..past.0 as usize {
+        sum += u32::from(columns.lengths[stand] - columns.shared[stand]);
     }
     sum
 }
 
 // The regions of the stands under the node of a stand's first bytes, a bit for each; none past the end. Counting entries asks for no more,
 // so that the stands are gone through once.
-pub fn regions_under(shared: &[u8], region: &[u8], stand: Stand, bytes: u8) -> u64
-    requires { (Placed region.now) × (length shared.now ≡ length region.now) }
-    ensures { result ≡ bits_among region.now (stands_under shared.now stand.0 bytes) }
+pub fn regions_under(columns: Columns, stand: Stand, bytes: u8) -> u64
+    requires { (Placed columns.region.now) × (length columns.shared.now ≡ length columns.region.now) }
+    ensures { result ≡ bits_among columns.entry.region.now (stands_under columns.entry.shared.now stand.0 bytes) }
 {
     let first = stand.0 as usize;
-    if shared.len() <= first {
+    if columns.shared.len() <= first {
         return 0;
     }
-    let mut bits = 1u64 << region_at(region, stand);
-    let mut past = first + 1;
-    while past < shared.len() && bytes <= shared[past] {
-        bits |= 1u64 << region_at(region, Stand(past as u32));
-        past += 1;
+    let mut bits = 1u64 << region_at(columns.region, stand);
+    for past in first + 1..columns.shared.len() {
+        if columns.shared[past] < bytes {
+            return bits;
+        }
+        bits |= 1u64 << region_at(columns.region, Stand(past as u32));
     }
     bits
 }
 
-fn chosen(known: bool, here: u32, fresh: u32) -> u32
-    ensures { result ≡ cond known here fresh }
-{
-    if known { here } else { fresh }
-}
-
-fn larger(one: u32, other: u32) -> u32
-    ensures { result ≡ cond (ltb one other) other one }
-{
-    if one < other { other } else { one }
-}
-
-// One walk over those stands: their regions as bits, and for each of those regions the largest score and the place past its last stand.
-// A region's slots count only once its bit is set, so nothing is cleared.
-pub fn tally(
-    region: &[u8],
-    score: &[u32],
-    first: Stand,
-    past: Stand,
-    next: &Slots,
-    places: &mut Slots,
-    best: &mut Slots,
-) -> u64
-    requires { TallyAsks region.now score.now first.0 past.0 next.now places.old best.old }
-    ensures { Tallied region.now score.now next.now (span first.0 past.0) places.new best.new result }
-{
-    let mut bits: u64 = 0;
-    let end = past.0;
-    let mut stand = first.0;
-    while stand < end {
-        let slot = region_at(region, Stand(stand));
-        let known = (bits >> slot) % 2 == 1;
-        places[slot] = chosen(known, places[slot], next[slot]) + 1;
-        best[slot] = larger(chosen(known, best[slot], 0), score[stand as usize]);
-        bits |= 1u64 << slot;
-        stand += 1;
+impl Work {
+    // One walk over those stands: their regions as bits, and for each of those regions the largest score and the place past its last stand.
+    // A region's slots count only once its bit is set, so nothing is cleared.
+    pub fn tally(&mut self, columns: Columns, first: Stand, past: Stand) -> u64
+        requires { TallyAsks (columns_of columns) first.0 past.0 self.old }
+        ensures { Tallies (columns_of columns.entry) first.0 past.0 self.old self.new result }
+    {
+        let mut bits = 0;
+        for stand in first.0..past.0 {
+            let slot = region_at(columns.region, Stand(stand));
+            let known = (bits >> slot) % 2 == 1;
+            let (place, so_far) = if known {
+                (self.places[slot], self.best[slot])
+            } else {
+                (self.next[slot], 0)
+            };
+            self.places[slot] = place + 1;
+            self.best[slot] = so_far.max(columns.score[stand as usize]);
+            bits |= 1u64 << slot;
+        }
+        bits
     }
-    bits
 }

@@ -12,8 +12,9 @@ use Rattle.node.specs.declared.cursor.Cursor.{Cursor}
 use Rattle.node.specs.Columns.{IndexColumns, bits_among}
 use Rattle.node.specs.Visits.{Visit, root_cursor, kept_in, served_in}
 use Rattle.node.specs.Rows.{stands_at, bits_at, entries_at}
-use Rattle.words.specs.declared.turn.Compared.TheVariants.{Same, Different}
-use Rattle.words.specs.Words.{Trail, root_trail, served_at, trail_past, rows_from, records_from, entry_words_from, node_words_of, entry_words_of, bit_words_of, Rooms, has_words, CheckAsks, ComparesAll, visit_of, trail_of, Work, Moved, has_row, has_entries, has_record, has_node}
+use Rattle.std.specs.Prelude.{Option, Some, None}
+use Rattle.node.specs.declared.Work.{Work}
+use Rattle.words.specs.Words.{Trail, root_trail, served_at, trail_past, rows_from, records_from, entry_words_from, node_words_of, entry_words_of, bit_words_of, Rooms, has_words, CheckAsks, ComparesAll, visit_of, trail_of, Moved, has_row, has_entries, has_record, has_node}
 use Rattle.words.proofs.Overs.{From, part, from_more, from_end, length_rows}
 use Rattle.words.proofs.Walks.{rest_of, entries_held_at, Counting, counting, counting_more, counting_end, Carrying, carrying_more, rows_first, records_first, entries_first, going_end, length-row, record_length}
 
@@ -60,7 +61,7 @@ module _ {t : IndexColumns} {all : ℕ} {rooms : Rooms} {w : Work} {c : Cursor} 
 
   module _ (s : Checking t all rooms w c) where
     module _ (lt : c.number.0 < all) where
-      pub checking_not : every (has_node t c w rooms) ≡ false → ComparesAll t rooms Different
+      pub checking_not : every (has_node t c w rooms) ≡ false → ComparesAll t rooms None
       checking_not q =
           let n = part s.rows (rows_first s.carried lt) in
           let e = part s.own (entries_first s.carried lt) in
@@ -81,7 +82,7 @@ module _ {t : IndexColumns} {all : ℕ} {rooms : Rooms} {w : Work} {c : Cursor} 
             kept = rw (p.visits, m.trail, p.records) (from_more s.kept (records_first s.carried lt) (omega (arith, record_length t (trail_of c w) (visit_of c))) (every-at _ 2 q));
           }
 
-    pub checking_end : all ≤ c.number.0 → ComparesAll t rooms (Same c)
+    pub checking_end : all ≤ c.number.0 → ComparesAll t rooms (Some c)
     checking_end h =
         let none = going_end s.carried.way h in
         let all : has_words t rooms ≡ true = every_of _ (sym (from_end s.rows (rw none)), (sym (from_end s.own (rw none)), (sym (from_end s.kept (rw none)), tt))) in

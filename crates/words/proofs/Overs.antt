@@ -1,24 +1,30 @@
 -- How words are put into a room or compared with it, part after part, by what is left of them.
 -- Assumes nothing.
 use mathlib.Core.Path.{◌≡◌, refl, sym, ap, ◌∙◌}
-use mathlib.Core.Bool.{true, false, ◌&&◌}
+use mathlib.Core.Logic.{⊎_elim}
+use mathlib.Core.Bool.{Bool, true, false, ◌&&◌}
 use mathlib.Core.List.{List, [], ◌∷◌, ◌++◌, append_assoc}
-use Prim.Native.Nat.{ℕ, suc, ◌+◌, ◌*◌, ◌≤◌, ◌<◌}
+use Prim.Native.Nat.{ℕ, suc, ◌+◌, ◌-◌, ◌*◌, ◌≤◌, ◌<◌, min}
 use native.Mathlib.Omega.{arith}
 use native.Mathlib.Numerals.{add-one}
 use native.Mathlib.Nat.{add-zero}
-use lib.ListN.{length, take, drop, set, length-append, take-append-drop, drop_of_length-le}
-use lib.Seq.{sets, length-sets, sets-eq, drop-drop, length-take-le, drop-cons, get_or-take}
+use lib.ListN.{length, take, drop, set, length-append, take-append-drop, drop_of_length-le, length-drop}
+use lib.Seq.{take_all, sets, length-sets, sets-eq, drop-drop, length-take-le, drop-cons, get_or-take}
 use borrow.Author.Tests.{eq-eqb, ne_eqb}
+use borrow.Rule.Slice.PartMut.{put_mid}
+use lib.Dec.{eqb}
+use Rattle.std.specs.List.{starts_with}
 use Rattle.base.specs.Lists.{each, begins}
 use Rattle.rules.specs.Indexes.{Entry, entry_row}
+use Rattle.base.proofs.Tests.{le_or_lt}
 use Rattle.base.proofs.Members.{length-each}
 use Rattle.base.proofs.Rows as rows
 use Rattle.base.proofs.Begins.{begins_parts}
 use Rattle.node.specs.Columns.{at, Sized, entry_from, entries_from}
 use Rattle.node.specs.Visits.{halves_of}
+use Rattle.node.specs.declared.Work.{Work}
 use Rattle.words.specs.Over.{over}
-use Rattle.words.specs.Words.{entry_rows, kept_words}
+use Rattle.words.specs.Words.{entry_rows, entries_held, kept_words}
 
 -- ---- words in a room that has place for them are stored one after the other
 
@@ -95,21 +101,28 @@ module _ {room : List ℕ} {p : ℕ} {words rest : List ℕ} {q : ℕ} (f : From
   pub from_end : rest ≡ [] → true ≡ begins words (drop p room)
   from_end e = sym (f.is ∙ rw e)
 
--- ---- word after word
+-- ---- by the library's own words
 
-pub word_next : (w : List ℕ) (k : ℕ) → k < length w → Next (drop k w) (at w k ∷ []) (drop (k + 1) w)
-word_next w k h = record { is = rw (add-one k) (drop-cons w k 0 h) }
+-- a part of a room that was written, and one that is compared
+pub put_over : (d : List ℕ) (p : ℕ) (w v : List ℕ) → v ≡ w → put_mid p (p + length w - p) d v ≡ over d p w
+unfolding over
+put_over d p w v e = let k : p + length w - p ≡ length w = omega arith in rw (e, k, drop-drop (length w) p d)
 
-module _ (room : List ℕ) (x q : ℕ) where
-  pub word_short : length room ≤ q → begins (x ∷ []) (drop q room) ≡ false
-  word_short h = rw (drop_of_length-le room h)
+starts_begins : (w n : List ℕ) → starts_with eqb n w ≡ begins w n
+starts_begins [] n = refl
+starts_begins (a ∷ w) [] = refl
+starts_begins (a ∷ w) (b ∷ n) = ap (λ (r : Bool). eqb a b && r) (starts_begins w n)
 
-  module _ (h : q < length room) where
-    pub word_not : (at room q ≡ x → ⊥) → begins (x ∷ []) (drop q room) ≡ false
-    word_not ne = rw (drop-cons room q 0 h, ne_eqb x (at room q) (λ e. ne (sym e)))
-
-    pub word_same : at room q ≡ x → begins (x ∷ []) (drop q room) ≡ true
-    word_same e = rw (drop-cons room q 0 h, eq-eqb x (at room q) (sym e))
+-- from place p on, which may be past the end
+pub starts_there : (d w : List ℕ) (p m : ℕ) {r : Bool} → m ≡ min p (length d) → r ≡ starts_with eqb (take (length d - m) (drop m d)) w → r ≡ begins w (drop p d)
+starts_there d w p m {r} e f =
+    let there : drop m d ≡ drop p d =
+    ⊎_elim
+    (λ (q : length d ≤ p). drop_of_length-le d {i = m} (omega (arith, e)) ∙ sym (drop_of_length-le d q))
+    (λ (q : p < length d). let k : m ≡ p = omega (arith, e) in ap (λ (n : ℕ). drop n d) k)
+    (le_or_lt (length d) p) in
+    let all : take (length d - m) (drop m d) ≡ drop p d = take_all (length d - m) (drop m d) (omega (arith, length-drop m d)) ∙ there in
+    (rw all at f) ∙ starts_begins w (drop p d)
 
 -- ---- entry after entry, out of the slots of the ranked regions
 
@@ -117,23 +130,30 @@ pub length_rows : (l : List Entry) → length (entry_rows l) ≡ length l * 4
 length_rows = rows.length_rows entry_row 4 (λ e. refl)
 
 -- the words of the entries from rank k on
-unfoldable pub slots_from : (best next places ranked : List ℕ) (held k : ℕ) → List ℕ
-slots_from best next places ranked held k = entry_rows (each (entry_from best next places) (drop k (take held ranked)))
+unfoldable pub slots_from : Work → (held k : ℕ) → List ℕ
+slots_from w held k = entry_rows (each (entry_from w.best w.next w.places) (drop k (take held w.ranked)))
 
-module _ (best next places ranked : List ℕ) (held : ℕ) (size : Sized ranked) (few : held ≤ 64) where
-  held_size : length (take held ranked) ≡ held
-  held_size = length-take-le held ranked (omega arith)
+module _ (w : Work) (held : ℕ) (size : Sized w.ranked) (few : held ≤ 64) where
+  abbrev ranked : List ℕ
+  ranked = take held w.ranked
+
+  held_size : length ranked ≡ held
+  held_size = length-take-le held w.ranked (omega arith)
+
+  -- a ranked region is a region
+  pub slots_small : (k : ℕ) → ((i : ℕ) → i < held → at w.ranked i < 64) → k < length ranked → at ranked k < 64
+  slots_small k small h = let lt : k < held = omega (arith, held_size) in rw (get_or-take held w.ranked k 0 lt) (small k lt)
 
   pub slots_filled : {d : List ℕ} {p q : ℕ} → q ≡ p → p + held * 4 ≤ length d
-      → Filled d p (entry_rows (entries_from best next places ranked held)) d (slots_from best next places ranked held 0) q
+      → Filled d p (entry_rows (entries_held w held)) d (slots_from w held 0) q
   unfolding slots_from entries_from
-  slots_filled e h = filled e (omega (arith, length_rows (each (entry_from best next places) (take held ranked)), length-each (entry_from best next places) (take held ranked), held_size))
+  slots_filled e h = filled e (omega (arith, length_rows (each (entry_from w.best w.next w.places) ranked), length-each (entry_from w.best w.next w.places) ranked, held_size))
 
-  pub slots_next : (k : ℕ) {w : List ℕ} → k < held → w ≡ entry_row (entry_from best next places (at ranked k))
-      → Next (slots_from best next places ranked held k) w (slots_from best next places ranked held (k + 1))
+  pub slots_next : (k : ℕ) {row : List ℕ} → k < length ranked → row ≡ entry_row (entry_from w.best w.next w.places (at ranked k))
+      → Next (slots_from w held k) row (slots_from w held (k + 1))
   unfolding slots_from
-  slots_next k h e = record { is = rw (e, add-one k, drop-cons (take held ranked) k 0 (omega (arith, held_size)), get_or-take held ranked k 0 h) }
+  slots_next k h e = record { is = rw (e, add-one k, drop-cons ranked k 0 h) }
 
-  pub slots_past : (k : ℕ) → held ≤ k → slots_from best next places ranked held k ≡ []
+  pub slots_past : (k : ℕ) → length ranked ≤ k → slots_from w held k ≡ []
   unfolding slots_from
-  slots_past k h = rw (drop_of_length-le (take held ranked) {i = k} (omega (arith, held_size)))
+  slots_past k h = rw (drop_of_length-le ranked {i = k} h)

@@ -18,14 +18,16 @@ use Rattle.base.proofs.Runs.{length_from}
 use Rattle.base.proofs.Rows.{length_parts}
 use Rattle.base.proofs.Words.{ones_word}
 use Rattle.node.specs.declared.cursor.Cursor.{Cursor}
+use Rattle.node.specs.declared.Above.{Above}
+use Rattle.node.specs.declared.Work.{Work}
 use Rattle.node.specs.Columns.{IndexColumns, LawfulColumns, Grows, at, growth, grown_of, held_among, regions_among, bits_among}
-use Rattle.node.specs.Visits.{Visit, new_visits, visits_from, root_cursor, places_at, On, Stepped, Above, Long, on_path, kept_in, served_in}
+use Rattle.node.specs.Visits.{Visit, new_visits, visits_from, root_cursor, places_at, On, Stepped, Long, on_path, kept_in, served_in}
 use Rattle.node.specs.Rows.{stands_at, bits_at, entries_at, row_at}
 use Rattle.node.proofs.Ends.{grown_small}
 use Rattle.node.proofs.Placing.{regions_are}
 use Rattle.node.proofs.Gathering.{entries_held}
 use Rattle.node.proofs.Steps.{visits_first, visits_done}
-use Rattle.words.specs.Words.{entry_rows, Trail, root_trail, served_at, trail_past, row_of, kept_words, own_record, rows_from, records_from, entry_words_from, count_from, kept_from, none_yet, node_count_of, Counted, visit_of, trail_of, Work, work_of, Scratch, Standing, Moved}
+use Rattle.words.specs.Words.{entry_rows, Trail, root_trail, served_at, trail_past, row_of, kept_words, own_record, rows_from, records_from, entry_words_from, count_from, kept_from, none_yet, node_count_of, Counted, visit_of, trail_of, blank_work, Scratch, Standing, Moved}
 use Rattle.words.proofs.Overs.{Next, length_rows}
 
 abbrev pub rest_of : List ℕ → List ℕ → Cursor → List Visit
@@ -168,19 +170,15 @@ pub record Carrying (t : IndexColumns) (all : ℕ) (c : Cursor) (w : Work) : Typ
   pub next_is : w.next ≡ places_at t.region c.stand.0
   pub scratch : Scratch w
 
--- nothing behind it yet
-abbrev pub blank_work : List ℕ → Work
-blank_work next = work_of next none_yet none_yet none_yet (replicate 64 0) (replicate 64 0) (replicate 64 0)
-
-pub blank : (next : List ℕ) → Scratch (blank_work next)
+blank : (next : List ℕ) → Scratch (blank_work next)
 blank next = record { long = record { numbers = refl; records = refl; regions = refl }; places_size = refl; best_size = refl; ranked_size = refl }
 
-pub root-trail : (next : List ℕ) {c : Cursor} → c ≡ root_cursor → trail_of c (blank_work next) ≡ root_trail
-root-trail next r = rw r
+pub root-trail : {next : List ℕ} {c : Cursor} {w : Work} → c ≡ root_cursor → w ≡ blank_work next → trail_of c w ≡ root_trail
+root-trail r e = rw (r, e)
 
 module _ {t : IndexColumns} {all : ℕ} {c : Cursor} {w : Work} where
-  pub carrying : LawfulColumns t → c ≡ root_cursor → all ≡ node_count_of t → w.next ≡ places_at t.region 0 → Scratch w → Carrying t all c w
-  carrying l r e n s = record { way = going r l.grows e; next_is = rw r n; scratch = s }
+  pub carrying : LawfulColumns t → c ≡ root_cursor → all ≡ node_count_of t → w ≡ blank_work (places_at t.region 0) → Carrying t all c w
+  carrying l r e b = record { way = going r l.grows e; next_is = rw (r, b); scratch = rw b (blank (places_at t.region 0)) }
 
   module _ (s : Carrying t all c w) (lt : c.number.0 < all) where
     pub standing : Standing t c w

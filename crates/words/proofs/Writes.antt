@@ -6,10 +6,11 @@ use Prim.Native.Nat.{ℕ, ◌*◌, ◌≤◌, ◌<◌}
 use native.Mathlib.Omega.{arith}
 use lib.ListN.{length, length-append}
 use Rattle.node.specs.declared.cursor.Cursor.{Cursor}
+use Rattle.node.specs.declared.Work.{Work}
 use Rattle.node.specs.Columns.{IndexColumns}
 use Rattle.node.specs.Visits.{Visit, root_cursor}
 use Rattle.node.specs.Rows.{entries_at}
-use Rattle.words.specs.Words.{Trail, root_trail, trail_past, row_of, rows_from, records_from, entry_words_from, node_words_of, entry_words_of, bit_words_of, visits_of, Rooms, visit_of, trail_of, Work, Room, PutTurn, WriteAsks, WroteAll}
+use Rattle.words.specs.Words.{Trail, root_trail, trail_past, row_of, rows_from, records_from, entry_words_from, node_words_of, entry_words_of, bit_words_of, visits_of, Rooms, visit_of, trail_of, Room, PutTurn, WriteAsks, WroteAll}
 use Rattle.words.proofs.Overs.{Filled, filled, filled-room, filled_more, filled_end, length_rows}
 use Rattle.words.proofs.Walks.{rest_of, Carrying, carrying_more, rows_first, records_first, entries_first, going_end, length-row, entries_length, record_length, records_length}
 

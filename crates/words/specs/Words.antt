@@ -1,15 +1,15 @@
 -- The words of all nodes, entries and bit records, from the columns alone, and what a turn of each loop leaves.
-use Rattle.std.specs.Prelude.{◌≡◌, Bool, true, false, cond, List, [], ◌∷◌, ◌++◌, ℕ, suc, ◌+◌, ◌*◌, ◌≤◌, ◌<◌, eqb, length, drop, set, replicate}
+use Rattle.std.specs.Prelude.{◌≡◌, Option, Some, None, Bool, true, false, cond, List, [], ◌∷◌, ◌++◌, ℕ, suc, ◌+◌, ◌*◌, ◌≤◌, ◌<◌, eqb, length, drop, set, replicate}
 use Rattle.base.specs.Lists.{every, each, each_list, total, begins}
 use Rattle.rules.specs.Indexes.{Entry, entry_row}
 use Rattle.node.specs.declared.cursor.Cursor.{Cursor}
 use Rattle.node.specs.declared.records.Served.{Served}
-use Rattle.node.specs.Columns.{IndexColumns, LawfulColumns, Grows, Placed, at, end_of, regions_among, bits_among, Sized}
-use Rattle.node.specs.Visits.{Visit, visits_from, places_at, On, Stepped, Above, above_of, Long, on_path, above_in, kept_in, served_in, halves_of}
+use Rattle.node.specs.declared.Above.{Above}
+use Rattle.node.specs.declared.Work.{Work}
+use Rattle.node.specs.Columns.{IndexColumns, LawfulColumns, Grows, Placed, at, end_of, regions_among, bits_among, entries_from, Sized}
+use Rattle.node.specs.Visits.{Visit, visits_from, places_at, On, Stepped, above_of, Long, on_path, above_in, kept_in, served_in, halves_of}
 use Rattle.node.specs.Rows.{stands_at, bits_at, entries_at, row_at}
 use Rattle.words.specs.declared.Counts.{Counts}
-use Rattle.words.specs.declared.turn.Compared.{Compared}
-use Rattle.words.specs.declared.turn.Compared.TheVariants.{Same, Different}
 use Rattle.words.specs.Over.{over}
 
 abbrev pub entry_rows : List Entry → List ℕ
@@ -143,9 +143,9 @@ abbrev pub has_words : IndexColumns → Rooms → Bool
 has_words t rooms = every (begins (node_words_of t) rooms.nodes ∷ begins (entry_words_of t) rooms.entries ∷ begins (bit_words_of t) rooms.bits ∷ [])
 
 -- the cursor past the last node, if the rooms begin with all words
-pub record ComparesAll (t : IndexColumns) (rooms : Rooms) (v : Compared) : Type 0 where
-  pub same : (r : Cursor) → v ≡ Same r → (has_words t rooms ≡ true) × (r.entries ≡ entry_count_of t) × (r.records ≡ record_count_of t)
-  pub different : v ≡ Different → has_words t rooms ≡ false
+pub record ComparesAll (t : IndexColumns) (rooms : Rooms) (v : Option Cursor) : Type 0 where
+  pub same : (r : Cursor) → v ≡ Some r → (has_words t rooms ≡ true) × (r.entries ≡ entry_count_of t) × (r.records ≡ record_count_of t)
+  pub different : v ≡ None → has_words t rooms ≡ false
 
 -- the first so many ranked are regions
 pub record HeldAsks (ranked : List ℕ) (held : ℕ) : Type 0 where
@@ -158,17 +158,14 @@ pub record HeldAsks (ranked : List ℕ) (held : ℕ) : Type 0 where
 abbrev pub visit_of : Cursor → Visit
 visit_of c = record { stand = c.stand.0; length = c.length }
 
--- what a turn works in: each region's next place, what lies above the node, and a slot for each region's place, score and rank
-pub record Work : Type 0 where
-  pub next : List ℕ
-  pub above : Above
-  pub places : List ℕ
-  pub best : List ℕ
-  pub ranked : List ℕ
+-- what the first turn works in: nothing lies above, and nothing is in the slots
+abbrev pub blank_work : List ℕ → Work
+blank_work next =
+    record { next = next; above = above_of none_yet none_yet none_yet; places = replicate 64 0; best = replicate 64 0; ranked = replicate 64 0 }
 
-abbrev pub work_of : (next path records regions places best ranked : List ℕ) → Work
-work_of next path records regions places best ranked =
-    record { next = next; above = above_of path records regions; places = places; best = best; ranked = ranked }
+-- the entries of the first so many regions ranked in it
+abbrev pub entries_held : Work → ℕ → List Entry
+entries_held w held = entries_from w.best w.next w.places w.ranked held
 
 abbrev pub trail_of : Cursor → Work → Trail
 trail_of c w = record { number = c.number.0; entries = c.entries; records = c.records; above = w.above }
@@ -233,6 +230,6 @@ has_record t c w rooms = begins (own_record t (trail_of c w) (visit_of c)) (drop
 abbrev pub has_node : IndexColumns → Cursor → Work → Rooms → List Bool
 has_node t c w rooms = has_row t c w rooms ∷ has_entries t c rooms ∷ has_record t c w rooms ∷ []
 
-pub record Compares (t : IndexColumns) (c : Cursor) (w w' : Work) (rooms : Rooms) (v : Compared) : Type 0 where
-  pub same : (r : Cursor) → v ≡ Same r → (every (has_node t c w rooms) ≡ true) × Moved t c w r w'
-  pub different : v ≡ Different → every (has_node t c w rooms) ≡ false
+pub record Compares (t : IndexColumns) (c : Cursor) (w w' : Work) (rooms : Rooms) (v : Option Cursor) : Type 0 where
+  pub same : (r : Cursor) → v ≡ Some r → (every (has_node t c w rooms) ≡ true) × Moved t c w r w'
+  pub different : v ≡ None → every (has_node t c w rooms) ≡ false

@@ -7,24 +7,26 @@ pub mod rooms;
 pub mod turn;
 
 ghost use Rattle.std.specs.Prelude.{◌≡◌, length};
-ghost use Rattle.node.specs.Columns.{columns_now, columns_in, Grows};
-ghost use Rattle.node.specs.Visits.{visits_from};
-ghost use Rattle.words.specs.Words.{rooms_of, CountAsks, Counted, WriteAsks, WroteAll, CheckAsks, ComparesAll};
+ghost use Rattle.node.specs.Columns.{columns_of, Grows, Placed};
+ghost use Rattle.node.specs.Visits.{visits_from, places_at};
+ghost use Rattle.words.specs.Words.{blank_work, rooms_of, CountAsks, Counted, WriteAsks, WroteAll, CheckAsks, ComparesAll};
 
-use node::cursor::{root, step};
+use node::cursor::{Cursor, root, step};
 use node::records::kept;
-use node::tally::{grown, regions_under, wide};
+use node::tally::{grown, regions_under};
+use node::{Above, Columns, Work};
 use order::places_of;
 pub use order::{has_order, put_order};
 use rules::{Grid, Session, Stand};
-use turn::{Compared, check_node, write_node};
+use turn::{check_node, write_node};
 
 // How many nodes.
-pub fn count_nodes(lengths: &[u8], shared: &[u8]) -> u32
-    requires { Grows lengths.now shared.now }
-    ensures { result ≡ length (visits_from lengths.now shared.now 0 0) }
+pub fn count_nodes(columns: Columns) -> u32
+    requires { Grows columns.lengths.now columns.shared.now }
+    ensures { result ≡ length (visits_from columns.entry.lengths.now columns.entry.shared.now 0 0) }
 {
-    grown(lengths, shared, Stand(0), Stand(lengths.len() as u32)) + 1
+    let stands = columns.lengths.len() as u32;
+    grown(columns, Stand(0), Stand(stands)) + 1
 }
 
 // How many entries and bit records an index has.
@@ -35,18 +37,18 @@ pub struct Counts {
 }
 
 // Those of all nodes.
-pub fn count(lengths: &[u8], shared: &[u8], region: &[u8], all: u32) -> Counts
-    requires { CountAsks lengths.now shared.now region.now all }
-    ensures { Counted lengths.now shared.now region.now result }
+pub fn count(columns: Columns, all: u32) -> Counts
+    requires { CountAsks columns.lengths.now columns.shared.now columns.region.now all }
+    ensures { Counted columns.entry.lengths.now columns.entry.shared.now columns.entry.region.now result }
 {
     let mut regions = [0u64; Session::PATH];
     let mut cursor = root();
     while cursor.number.0 < all {
         let length = cursor.length;
-        let bits = regions_under(shared, region, cursor.stand, length);
+        let bits = regions_under(columns, cursor.stand, length);
         let own = kept(&regions, length, bits);
-        regions[wide(length)] = bits;
-        cursor = step(lengths, shared, cursor, u64::count_ones(bits), own);
+        regions[usize::from(length)] = bits;
+        cursor = step(columns, cursor, u64::count_ones(bits), own);
     }
     Counts {
         entries: cursor.entries,
@@ -54,100 +56,52 @@ pub fn count(lengths: &[u8], shared: &[u8], region: &[u8], all: u32) -> Counts
     }
 }
 
-// All words of the nodes, the entries and the bit records, in rooms that have place for them.
-pub fn write(
-    text: &[u8],
-    starts: &[u32],
-    lengths: &[u8],
-    shared: &[u8],
-    region: &[u8],
-    score: &[u32],
-    all: u32,
-    nodes: &mut [u32],
-    entries: &mut [u32],
-    bits: &mut [u32],
-)
-    requires { WriteAsks (columns_now text starts lengths shared region score) all (rooms_of nodes.old entries.old bits.old) }
-    ensures { WroteAll (columns_in text starts lengths shared region score) (rooms_of nodes.old entries.old bits.old) (rooms_of nodes.new entries.new bits.new) }
+// What the first turn works in: nothing lies above the root.
+fn before_the_root(columns: Columns) -> Work
+    requires { Placed columns.region.now }
+    ensures { result ≡ blank_work (places_at columns.entry.region.now 0) }
 {
-    let mut next = places_of(region);
-    let mut path = [0u32; Session::PATH];
-    let mut records = [0u32; Session::PATH];
-    let mut regions = [0u64; Session::PATH];
-    let mut places = [0u32; Grid::REGIONS];
-    let mut best = [0u32; Grid::REGIONS];
-    let mut ranked = [0u32; Grid::REGIONS];
-    let mut cursor = root();
-    while cursor.number.0 < all {
-        cursor = write_node(
-            text,
-            starts,
-            lengths,
-            shared,
-            region,
-            score,
-            cursor,
-            &mut next,
-            &mut path,
-            &mut records,
-            &mut regions,
-            &mut places,
-            &mut best,
-            &mut ranked,
-            nodes,
-            entries,
-            bits,
-        );
+    Work {
+        next: places_of(columns.region),
+        above: Above {
+            numbers: [0u32; Session::PATH],
+            records: [0u32; Session::PATH],
+            regions: [0u64; Session::PATH],
+        },
+        places: [0u32; Grid::REGIONS],
+        best: [0u32; Grid::REGIONS],
+        ranked: [0u32; Grid::REGIONS],
     }
 }
 
-// Whether rooms begin with all words of the nodes, the entries and the bit records; the cursor past the last node has then counted them.
+// All words of the nodes, the entries and the bit records, in rooms that have place for them.
+pub fn write(columns: Columns, all: u32, nodes: &mut [u32], entries: &mut [u32], bits: &mut [u32])
+    requires { WriteAsks (columns_of columns) all (rooms_of nodes.old entries.old bits.old) }
+    ensures { WroteAll (columns_of columns.entry) (rooms_of nodes.old entries.old bits.old) (rooms_of nodes.new entries.new bits.new) }
+{
+    let mut work = before_the_root(columns);
+    let mut cursor = root();
+    while cursor.number.0 < all {
+        cursor = write_node(columns, cursor, &mut work, nodes, entries, bits);
+    }
+}
+
+// The cursor past the last node, which has counted them all, if the rooms begin with all words of the nodes, the entries and the bit
+// records.
 pub fn check(
-    text: &[u8],
-    starts: &[u32],
-    lengths: &[u8],
-    shared: &[u8],
-    region: &[u8],
-    score: &[u32],
+    columns: Columns,
     all: u32,
     nodes: &[u32],
     entries: &[u32],
     bits: &[u32],
-) -> Compared
-    requires { CheckAsks (columns_now text starts lengths shared region score) all }
-    ensures { ComparesAll (columns_in text starts lengths shared region score) (rooms_of nodes.now entries.now bits.now) result }
+) -> Option<Cursor>
+    requires { CheckAsks (columns_of columns) all }
+    ensures { ComparesAll (columns_of columns.entry) (rooms_of nodes.now entries.now bits.now) result }
 {
-    let mut next = places_of(region);
-    let mut path = [0u32; Session::PATH];
-    let mut records = [0u32; Session::PATH];
-    let mut regions = [0u64; Session::PATH];
-    let mut places = [0u32; Grid::REGIONS];
-    let mut best = [0u32; Grid::REGIONS];
-    let mut ranked = [0u32; Grid::REGIONS];
+    let mut work = before_the_root(columns);
     let mut here = root();
     while here.number.0 < all {
-        let Compared::Same(further) = check_node(
-            text,
-            starts,
-            lengths,
-            shared,
-            region,
-            score,
-            here,
-            &mut next,
-            &mut path,
-            &mut records,
-            &mut regions,
-            &mut places,
-            &mut best,
-            &mut ranked,
-            nodes,
-            entries,
-            bits,
-        ) else {
-            return Compared::Different;
-        };
-        here = further;
+        here = check_node(columns, here, &mut work, nodes, entries, bits)?;
     }
-    Compared::Same(here)
+    Some(here)
 }

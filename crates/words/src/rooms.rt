@@ -2,11 +2,11 @@
 ghost use Rattle.std.specs.Prelude.{◌≡◌, ◌+◌, ◌*◌, ◌≤◌, ◌<◌, length, drop};
 ghost use Rattle.base.specs.Lists.{begins};
 ghost use Rattle.rules.specs.Indexes.{entry_row};
-ghost use Rattle.node.specs.Columns.{entry_from, entries_from};
+ghost use Rattle.node.specs.Columns.{entry_from};
 ghost use Rattle.words.specs.Over.{over};
-ghost use Rattle.words.specs.Words.{entry_rows, kept_words, HeldAsks};
+ghost use Rattle.words.specs.Words.{entry_rows, entries_held, kept_words, HeldAsks};
 
-use node::Slots;
+use node::Work;
 use node::records::halves;
 use rules::layout::ENTRY_WORDS;
 
@@ -15,29 +15,13 @@ pub fn put_words(room: &mut [u32], at: usize, words: &[u32])
     requires { at + length words.now ≤ length room.old }
     ensures { room.new ≡ over room.old at words.now }
 {
-    let mut done = 0;
-    while done < words.len() {
-        room[at + done] = words[done];
-        done += 1;
-    }
+    room[at..at + words.len()].copy_from_slice(words);
 }
 
 pub fn has_words(room: &[u32], at: usize, words: &[u32]) -> bool
-    requires { (at < 4294967296) × (length words.now ≤ 8) }
     ensures { result ≡ begins words.now (drop at room.now) }
 {
-    let mut done = 0;
-    while done < words.len() {
-        let place = at + done;
-        if room.len() <= place {
-            return false;
-        }
-        if room[place] != words[done] {
-            return false;
-        }
-        done += 1;
-    }
-    true
+    room[at.min(room.len())..].starts_with(words)
 }
 
 // The record of a node with these regions, from a place of the room on, if it keeps one; and whether the room has it there.
@@ -53,7 +37,6 @@ pub fn put_record(room: &mut [u32], at: usize, kept: u32, bits: u64)
 }
 
 pub fn has_record(room: &[u32], at: usize, kept: u32, bits: u64) -> bool
-    requires { at < 4294967296 }
     ensures { result ≡ begins (kept_words kept bits) (drop at room.now) }
 {
     if kept != 1 {
@@ -64,55 +47,35 @@ pub fn has_record(room: &[u32], at: usize, kept: u32, bits: u64) -> bool
 }
 
 // A region's entry, in the order of rules::layout: the region, its largest score, its first place and the place past its last.
-fn entry_row(region: u32, best: &Slots, next: &Slots, places: &Slots) -> [u32; ENTRY_WORDS]
+fn entry_row(region: u32, work: &Work) -> [u32; ENTRY_WORDS]
     requires { region < 64 }
-    ensures { result ≡ entry_row (entry_from best.now next.now places.now region) }
+    ensures { result ≡ entry_row (entry_from work.now.best work.now.next work.now.places region) }
 {
     let slot = region as usize;
-    [region, best[slot], next[slot], places[slot]]
+    [region, work.best[slot], work.next[slot], work.places[slot]]
 }
 
 // The entries of the first held ranked regions, from a place of the room on.
-pub fn put_entries(
-    room: &mut [u32],
-    at: usize,
-    ranked: &Slots,
-    held: usize,
-    best: &Slots,
-    next: &Slots,
-    places: &Slots,
-)
-    requires { (HeldAsks ranked.now held) × (at + held * 4 ≤ length room.old) }
-    ensures { room.new ≡ over room.old at (entry_rows (entries_from best.now next.now places.now ranked.now held)) }
+pub fn put_entries(room: &mut [u32], at: usize, work: &Work, held: usize)
+    requires { (HeldAsks work.now.ranked held) × (at + held * 4 ≤ length room.old) }
+    ensures { room.new ≡ over room.old at (entry_rows (entries_held work.now held)) }
 {
-    let mut rank = 0;
-    while rank < held {
-        let row = entry_row(ranked[rank], best, next, places);
+    for (rank, region) in work.ranked[..held].iter().enumerate() {
+        let row = entry_row(*region, work);
         put_words(room, at + rank * ENTRY_WORDS, &row);
-        rank += 1;
     }
 }
 
 // Whether the room has them there.
-pub fn has_entries(
-    room: &[u32],
-    at: usize,
-    ranked: &Slots,
-    held: usize,
-    best: &Slots,
-    next: &Slots,
-    places: &Slots,
-) -> bool
-    requires { (HeldAsks ranked.now held) × (at < 4294967000) }
-    ensures { result ≡ begins (entry_rows (entries_from best.now next.now places.now ranked.now held)) (drop at room.now) }
+pub fn has_entries(room: &[u32], at: usize, work: &Work, held: usize) -> bool
+    requires { (HeldAsks work.now.ranked held) × (at < 4294967000) }
+    ensures { result ≡ begins (entry_rows (entries_held work.now held)) (drop at room.now) }
 {
-    let mut rank = 0;
-    while rank < held {
-        let row = entry_row(ranked[rank], best, next, places);
+    for (rank, region) in work.ranked[..held].iter().enumerate() {
+        let row = entry_row(*region, work);
         if !has_words(room, at + rank * ENTRY_WORDS, &row) {
             return false;
         }
-        rank += 1;
     }
     true
 }

@@ -12,10 +12,10 @@ pub bounds-starts-stand : goal.bounds-starts-stand
 bounds-starts-stand c = omega (arith, c.requires.inside (omega arith))
 
 pub overflow_add-at : goal.overflow_add-at
-overflow_add-at c = omega (arith, c.requires.inside (omega arith), c.wide.ensures)
+overflow_add-at c = omega (arith, c.requires.inside (omega arith), c.from.ensures)
 
 pub bounds-text-at : goal.bounds-text-at
-bounds-text-at c = omega (arith, c.requires.inside (omega arith), c.wide.ensures)
+bounds-text-at c = omega (arith, c.requires.inside (omega arith), c.from.ensures)
 
 pub returns : goal.returns
-returns c = c.word.ensures ∙ simp (c.wide.ensures, ne_eqb _ _ c.if-length-eq0.false)
+returns c = c.from-2.ensures ∙ simp (c.from.ensures, ne_eqb _ _ c.if-length-eq0.false)

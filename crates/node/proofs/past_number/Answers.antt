@@ -16,19 +16,19 @@ overflow_add-behind c = omega (arith, c.requires.run, c.requires.grows.few)
 
 pub overflow_add-result-2 : goal.overflow_add-result-2
 overflow_add-result-2 c =
-    let own = length-short _ _ c.requires.grows c.args.stand.0 in
-    let grew = grown_small _ _ c.requires.grows (c.args.stand.0 + 1) c.args.past.0 c.requires.run.1 in
-    omega (arith, c.word-own.ensures, c.value_at.ensures, c.grown-grew.ensures, c.requires.low)
+    let own = length-short _ _ c.requires.grows c.args.cursor.stand.0 in
+    let grew = grown_small _ _ c.requires.grows (c.args.cursor.stand.0 + 1) c.args.past.0 c.requires.run.1 in
+    omega (arith, c.from-own.ensures, c.value_at.ensures, c.grown-grew.ensures, c.requires.low)
 
 pub overflow_add-result-3 : goal.overflow_add-result-3
 overflow_add-result-3 c =
-    let own = length-short _ _ c.requires.grows c.args.stand.0 in
-    let grew = grown_small _ _ c.requires.grows (c.args.stand.0 + 1) c.args.past.0 c.requires.run.1 in
-    omega (arith, c.word-own.ensures, c.value_at.ensures, c.grown-grew.ensures, c.requires.low)
+    let own = length-short _ _ c.requires.grows c.args.cursor.stand.0 in
+    let grew = grown_small _ _ c.requires.grows (c.args.cursor.stand.0 + 1) c.args.past.0 c.requires.run.1 in
+    omega (arith, c.from-own.ensures, c.value_at.ensures, c.grown-grew.ensures, c.requires.low)
 
 pub returns : goal.returns
 returns c =
     let a = c.args in
-    let is = past_is _ _ c.requires.grows a.stand.0 a.length a.past.0 a.number.0 c.requires.long c.requires.some c.requires.run.1 in
-    let grew = c.grown-grew.ensures ∙ ap (λ (i : ℕ). grown_of a.lengths.now a.shared.now i a.past.0) (add-one a.stand.0) in
-    omega (arith, is, grew, c.word-own.ensures, c.value_at.ensures)
+    let is = past_is _ _ c.requires.grows a.cursor.stand.0 a.cursor.length a.past.0 a.cursor.number.0 c.requires.long c.requires.some c.requires.run.1 in
+    let grew = c.grown-grew.ensures ∙ ap (λ (i : ℕ). grown_of a.columns.lengths.now a.columns.shared.now i a.past.0) (add-one a.cursor.stand.0) in
+    omega (arith, is, grew, c.from-own.ensures, c.value_at.ensures)

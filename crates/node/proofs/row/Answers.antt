@@ -3,8 +3,8 @@ use borrow.Author.Rules.{rules}
 use Rattle.node.proofs.Gathering.{length_fits, spelt-at, past_after, row_is}
 use Rattle.node.proofs.row.Goals as goal
 
-pub above-parent-requires : goal.above-parent-requires
-above-parent-requires c = search (rules, length_fits)
+pub parent_of-parent-requires : goal.parent_of-parent-requires
+parent_of-parent-requires c = search (rules, length_fits)
 
 pub last_byte-last_byte-requires : goal.last_byte-last_byte-requires
 last_byte-last_byte-requires c =
@@ -20,5 +20,5 @@ past_number-past_node-requires c =
 pub returns : goal.returns
 returns c =
     let a = c.args in
-    row_is a.text.now a.starts.now a.lengths.now a.shared.now a.cursor.number.0 a.cursor.entries a.cursor.stand.0 a.cursor.length a.past.0 _ _ _ _ a.served
-    c.above-parent.ensures c.last_byte-last_byte.ensures c.past_number-past_node.ensures
+    row_is a.columns.text.now a.columns.starts.now a.columns.lengths.now a.columns.shared.now a.cursor.number.0 a.cursor.entries a.cursor.stand.0 a.cursor.length a.past.0 _ _ _ _ a.served
+    c.parent_of-parent.ensures c.last_byte-last_byte.ensures c.past_number-past_node.ensures

@@ -1,6 +1,6 @@
 -- `words::check` meets its contract: the loop's invariant is `Checking`, whose laws are of proofs/Checks.antt. Assumes nothing.
 use native.Mathlib.Omega.{arith}
-use Rattle.words.proofs.Walks.{blank, carrying, standing, root-trail}
+use Rattle.words.proofs.Walks.{carrying, standing, root-trail}
 use Rattle.words.proofs.Checks.{checking, checking_not, checking_more, checking_end}
 use Rattle.words.proofs.check.Goals as goal
 
@@ -8,20 +8,21 @@ pub loop-here-init : goal.loop-here-init
 loop-here-init c =
     let p = c.requires in
     let r = c.root-here.ensures in
-    checking (root-trail c.places_of-next.result r) r p (carrying p.lawful r p.count c.places_of-next.ensures (blank c.places_of-next.result))
+    let b = c.before_the_root-work.ensures in
+    checking (root-trail r b) r p (carrying p.lawful r p.count b)
 
 pub check_node-requires : goal.check_node-requires
 check_node-requires c = record { lawful = c.requires.lawful; standing = standing c.loop-here.invariant.carried c.loop-here-test.true }
 
-pub returns-in_default : goal.returns-in_default
-returns-in_default c = checking_not c.loop-here.invariant c.loop-here-test.true (c.check_node.ensures.different c.in_default.is)
+pub returns-in_err-here : goal.returns-in_err-here
+returns-in_err-here c = rw c.from_residual.ensures (checking_not c.loop-here.invariant c.loop-here-test.true (c.check_node.ensures.different c.in_err-here.was))
 
 pub loop-here-smaller : goal.loop-here-smaller
-loop-here-smaller c = omega (arith, (c.check_node.ensures.same c.in-Same.further c.in-Same.is).1.stepped.number, c.loop-here-test.true)
+loop-here-smaller c = omega (arith, (c.check_node.ensures.same _ c.in_ok-here.was).1.stepped.number, c.loop-here-test.true)
 
 pub loop-here-preserved : goal.loop-here-preserved
 loop-here-preserved c =
-    let same = c.check_node.ensures.same c.in-Same.further c.in-Same.is in
+    let same = c.check_node.ensures.same _ c.in_ok-here.was in
     checking_more c.loop-here.invariant c.loop-here-test.true same.0 same.1
 
 pub returns : goal.returns

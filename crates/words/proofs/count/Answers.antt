@@ -16,15 +16,10 @@ regions_under-bits-requires c = let p = c.requires in (p.placed, p.grows.same �
 pub kept-own-requires : goal.kept-own-requires
 kept-own-requires c = length_fits _ _ c.requires.grows c.loop-cursor.cursor (c.loop-cursor.invariant.way.on c.loop-cursor-test.true)
 
-pub offset_bounds-regions-wide : goal.offset_bounds-regions-wide
-offset_bounds-regions-wide c =
+pub bounds-regions-from : goal.bounds-regions-from
+bounds-regions-from c =
     let short : c.loop-cursor.cursor.length ≤ 24 = length_fits _ _ c.requires.grows c.loop-cursor.cursor (c.loop-cursor.invariant.way.on c.loop-cursor-test.true) in
-    omega (arith, c.wide.ensures, short)
-
-pub bounds-regions-wide : goal.bounds-regions-wide
-bounds-regions-wide c =
-    let short : c.loop-cursor.cursor.length ≤ 24 = length_fits _ _ c.requires.grows c.loop-cursor.cursor (c.loop-cursor.invariant.way.on c.loop-cursor-test.true) in
-    omega (arith, c.wide.ensures, short, c.loop-cursor.invariant.size)
+    omega (arith, c.from.ensures, short, c.loop-cursor.invariant.size)
 
 pub step-cursor-requires : goal.step-cursor-requires
 step-cursor-requires c =
@@ -45,7 +40,7 @@ loop-cursor-preserved c =
     let lt = c.loop-cursor-test.true in
     let bits = c.regions_under-bits.ensures in
     let own = c.kept-own.ensures in
-    counting_more s lt bits own (held_is s lt bits own) (ap (λ (l : ℕ). set c.loop-cursor.regions l c.regions_under-bits.result) c.wide.ensures) c.step-cursor.ensures
+    counting_more s lt bits own (held_is s lt bits own) (ap (λ (l : ℕ). set c.loop-cursor.regions l c.regions_under-bits.result) c.from.ensures) c.step-cursor.ensures
 
 pub returns : goal.returns
 returns c = counting_end c.loop-cursor.invariant c.loop-cursor-test.false

@@ -5,7 +5,7 @@ use Rattle.words.proofs.count.Given as goal
 
 abbrev pub invariant-loop-cursor : goal.invariant-loop-cursor
 invariant-loop-cursor l =
-    Counting l.lengths l.shared l.region l.all l.regions l.cursor
+    Counting l.columns.lengths.now l.columns.shared.now l.columns.region.now l.all l.regions l.cursor
 
 abbrev pub decreases-loop-cursor : goal.decreases-loop-cursor
 decreases-loop-cursor l =

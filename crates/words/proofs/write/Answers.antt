@@ -1,5 +1,5 @@
 -- `words::write` meets its contract: the loop's invariant is `Writing`, whose laws are of proofs/Writes.antt. Assumes nothing.
-use Rattle.words.proofs.Walks.{blank, carrying, standing, root-trail}
+use Rattle.words.proofs.Walks.{carrying, standing, root-trail}
 use Rattle.words.proofs.Writes.{writing, writing_room, writing_more, writing_end}
 use Rattle.words.proofs.write.Goals as goal
 
@@ -7,7 +7,8 @@ pub loop-cursor-init : goal.loop-cursor-init
 loop-cursor-init c =
     let p = c.requires in
     let r = c.root-cursor.ensures in
-    writing (root-trail c.places_of-next.result r) r p (carrying p.lawful r p.count c.places_of-next.ensures (blank c.places_of-next.result))
+    let b = c.before_the_root-work.ensures in
+    writing (root-trail r b) r p (carrying p.lawful r p.count b)
 
 pub write_node-cursor-requires : goal.write_node-cursor-requires
 write_node-cursor-requires c =

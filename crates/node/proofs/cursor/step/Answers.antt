@@ -4,7 +4,7 @@ use native.Mathlib.Omega.{arith}
 use Prim.Native.Nat.{◌+◌}
 use Rattle.node.proofs.Ends.{length-short, shared_short}
 use Rattle.node.proofs.Steps.{stepping, stepping_more, stepped}
-use Rattle.node.proofs.cursor.step.Goals.{then-loop-stand-test+else-lengths-stand, else-loop-stand-test}
+use Rattle.node.proofs.cursor.step.Goals.{then-loop-stand-test+else-columns-stand, else-loop-stand-test}
 use Rattle.node.proofs.cursor.step.Goals as goal
 
 pub overflow_add-length : goal.overflow_add-length
@@ -24,7 +24,7 @@ returns c =
     stepped _ _ c.requires.grows c.args.cursor _ _ _ _ c.loop-stand.invariant
     (
     λ h. elim c.loop-stand-test.branch [
-      | then-loop-stand-test+else-lengths-stand w ↦ w.if-lengths-stand.false
+      | then-loop-stand-test+else-columns-stand w ↦ w.if-columns-stand.false
       | else-loop-stand-test w ↦ absurd (omega (arith, h, w.loop-stand-test.false))
     ]
     )

@@ -6,8 +6,8 @@ use Rattle.node.proofs.cursor.step.Given as goal
 
 abbrev pub invariant-loop-stand : goal.invariant-loop-stand
 invariant-loop-stand l =
-    Stepping l.lengths l.shared l.initial.stand l.initial.length l.number.0 l.stand l.length
+    Stepping l.columns.lengths.now l.columns.shared.now l.initial.stand l.initial.length l.number.0 l.stand l.length
 
 abbrev pub decreases-loop-stand : goal.decreases-loop-stand
 decreases-loop-stand l =
-    length l.lengths - l.stand
+    length l.columns.lengths.now - l.stand

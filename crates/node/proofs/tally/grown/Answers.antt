@@ -7,14 +7,14 @@ use Rattle.node.proofs.tally.grown.Goals as goal
 pub loop-stand-init : goal.loop-stand-init
 loop-stand-init c = search (rules, growing)
 
-pub overflow_sub-lengths : goal.overflow_sub-lengths
-overflow_sub-lengths c = c.requires.0.part c.loop-stand.stand (search rules)
+pub overflow_sub-columns : goal.overflow_sub-columns
+overflow_sub-columns c = c.requires.0.part c.loop-stand.stand (search rules)
 
 pub overflow_add-sum : goal.overflow_add-sum
 overflow_add-sum c =
     omega (
       arith,
-      growing_fits _ _ _ _ _ _ _ c.requires.0 (search rules) c.loop-stand.invariant (search rules) c.word-sum.ensures,
+      growing_fits _ _ _ _ _ _ _ c.requires.0 (search rules) c.loop-stand.invariant (search rules) c.from-sum.ensures,
     )
 
 pub loop-stand-preserved : goal.loop-stand-preserved

@@ -4,4 +4,4 @@ use native.Mathlib.Omega.{arith}
 use Rattle.node.proofs.tally.region_at.Goals as goal
 
 pub returns : goal.returns
-returns c = (c.wide.ensures, omega (arith, c.requires.0.inside c.args.stand.0 (search rules), c.wide.ensures))
+returns c = (c.from.ensures, omega (arith, c.requires.0.inside c.args.stand.0 (search rules), c.from.ensures))

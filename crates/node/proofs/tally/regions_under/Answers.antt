@@ -7,8 +7,8 @@ use Rattle.node.proofs.Ends.{ending, ending_more, ending_here, ending_last}
 use Rattle.node.proofs.Held.{marking, marking_more, marked_none, marked}
 use Rattle.node.proofs.tally.regions_under.Goals as goal
 
-pub returns-then-shared-first : goal.returns-then-shared-first
-returns-then-shared-first c = search (rules, marked_none)
+pub returns-then-columns-first : goal.returns-then-columns-first
+returns-then-columns-first c = search (rules, marked_none)
 
 pub loop-past-init : goal.loop-past-init
 loop-past-init c = (ending _ _ _ (search rules), marking_more _ _ _ _ _ (marking _ _) c.region_at.ensures.0 c.region_at.ensures.1)
@@ -19,8 +19,8 @@ region_at-requires-in-loop-past c = (c.requires.0, omega arith)
 pub loop-past-preserved : goal.loop-past-preserved
 loop-past-preserved c = search (rules, ending_more, leb-true, marking_more)
 
-pub returns-else-bytes-shared : goal.returns-else-bytes-shared
-returns-else-bytes-shared c = search (rules, marked, ending_here, leb-false)
+pub returns-then-columns-past : goal.returns-then-columns-past
+returns-then-columns-past c = search (rules, marked, ending_here, leb-false)
 
-pub returns-after-loop-past : goal.returns-after-loop-past
-returns-after-loop-past c = search (rules, marked, ending_last)
+pub returns : goal.returns
+returns c = search (rules, marked, ending_last)

@@ -1,14 +1,8 @@
 -- What the loop of `tally::regions_under` keeps.
-use Prim.Native.Nat.{◌-◌}
-use lib.ListN.{length}
 use Rattle.node.proofs.Ends.{Ending}
 use Rattle.node.proofs.Held.{Marking}
 use Rattle.node.proofs.tally.regions_under.Given as goal
 
 abbrev pub invariant-loop-past : goal.invariant-loop-past
 invariant-loop-past l =
-    Ending l.shared l.first l.bytes l.past × Marking l.region l.first l.bits l.past
-
-abbrev pub decreases-loop-past : goal.decreases-loop-past
-decreases-loop-past l =
-    length l.shared - l.past
+    Ending l.columns.shared.now l.first l.bytes l.past × Marking l.columns.region.now l.first l.bits l.past

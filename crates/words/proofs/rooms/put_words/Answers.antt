@@ -1,14 +1,6 @@
--- `words::rooms::put_words` meets its contract: the loop's invariant is `Filled`, word after word, by the laws of proofs/Overs.antt. Assumes nothing.
-use native.Mathlib.Omega.{arith}
-use lib.ListN.{drop_of_length-le}
-use Rattle.words.proofs.Overs.{over-set, filled, filled_more, filled_end, word_next}
+-- `words::rooms::put_words` meets its contract: a part of the room is written. Assumes nothing.
+use Rattle.words.proofs.Overs.{put_over}
 use Rattle.words.proofs.rooms.put_words.Goals as goal
 
-pub loop-done-init : goal.loop-done-init
-loop-done-init c = filled (omega arith) c.requires
-
-pub loop-done-preserved : goal.loop-done-preserved
-loop-done-preserved c = filled_more c.loop-done.invariant (word_next _ _ c.loop-done-test.true) (over-set _ _ _ (omega arith)) (omega arith)
-
 pub returns : goal.returns
-returns c = filled_end c.loop-done.invariant (drop_of_length-le _ c.loop-done-test.false)
+returns c = put_over _ _ _ _ c.copy_from_slice.ensures.after

@@ -15,9 +15,6 @@ serve-served-requires c = length_fits _ _ c.requires.lawful.grows c.args.cursor 
 pub row-words-requires : goal.row-words-requires
 row-words-requires c = row-asks c.requires c.gather-gathered.ensures c.serve-served.ensures
 
-pub has_words-requires : goal.has_words-requires
-has_words-requires c = (omega (arith, c.requires.standing.low), omega (arith, row_size c.requires c.gather-gathered.ensures c.serve-served.ensures c.row-words.ensures))
-
 pub returns-then-not-has_words : goal.returns-then-not-has_words
 returns-then-not-has_words c = row_differs c.requires c.gather-gathered.ensures c.serve-served.ensures c.row-words.ensures (sym c.has_words.ensures ∙ c.if-not-has_words.true)
 
@@ -26,9 +23,6 @@ has_entries-requires c = let g = c.gather-gathered.ensures in (search rules, ome
 
 pub returns-then-not-has_entries : goal.returns-then-not-has_entries
 returns-then-not-has_entries c = entries_differ c.requires c.gather-gathered.ensures c.serve-served.ensures (sym c.has_entries.ensures ∙ c.if-not-has_entries.true)
-
-pub has_record-requires : goal.has_record-requires
-has_record-requires c = omega (arith, c.requires.standing.low, c.requires.standing.fewer)
 
 pub returns-then-not-has_record : goal.returns-then-not-has_record
 returns-then-not-has_record c = record_differs c.requires c.gather-gathered.ensures c.serve-served.ensures (sym c.has_record.ensures ∙ c.if-not-has_record.true)
