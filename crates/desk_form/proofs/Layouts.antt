@@ -27,9 +27,6 @@ module _ {A : Type 0} where
       let n : length (w ++ (x ∷ [])) ≡ suc (length w) = length-append w (x ∷ []) ∙ omega arith in
       rw (drop-cons room (length w) x h, n) (set_at w (get_or room (length w) x) (drop (suc (length w)) room) x (length w) refl ∙ sym (append_snoc w x (drop (suc (length w)) room)))
 
-  laid_long : (w room : List A) → length w ≤ length room → length (laid_over w room) ≡ length room
-  laid_long w room h = omega (arith, length-append w (drop (length w) room), length-drop (length w) room)
-
 -- bytes put right behind
 laid_put : (w room s text : List ℕ) (r : ℕ) → Puts s (laid_over w room) (length w) text r → text ≡ laid_over (w ++ s) room
 laid_put w room s text r p =
@@ -87,19 +84,19 @@ module _ (stands : List StandLines) (s : StandLines) (rooms now : Table) (is : n
       (rw (c, is) (column (λ s. s.north) stands s rooms.north (omega arith)))
       (rw (c, is) (column (λ s. s.score) stands s rooms.score (omega arith)))
 
--- the parts of a table have their full lengths
+-- the parts of a table have room for as many stands as an input has at most
 pub record Rooms (t : Table) : Type 0 where
-  pub text : length t.text ≡ 16384
-  pub starts : length t.starts ≡ 65
-  pub east : length t.east ≡ 64
-  pub north : length t.north ≡ 64
-  pub score : length t.score ≡ 64
+  pub starts : 64 < length t.starts
+  pub east : 64 ≤ length t.east
+  pub north : 64 ≤ length t.north
+  pub score : 64 ≤ length t.score
 
 -- the readers of the stands that are left, behind those that were read
 pub before : List StandLines → List StandLines → List ℕ → Got (List StandLines)
 before stands more = got (stands ++ more)
 
 pub record Laying (l : List ℕ) (at n : ℕ) (rooms now : Table) (bytes next i : ℕ) : Type 0 where
+  pub room : Rooms rooms
   pub stands : List StandLines
   pub count : length stands ≡ i
   pub few : i ≤ n
@@ -148,6 +145,7 @@ module _ (l : List ℕ) (at n : ℕ) (rooms : Table) where
   unfolding before onward laid_table table_from starts_from
   lay_none r room z =
       record {
+        room = room;
         stands = [];
         count = refl;
         few = omega arith;
@@ -165,17 +163,15 @@ module _ (l : List ℕ) (at n : ℕ) (rooms : Table) where
     packs : bytes + length (part from past l) ≤ behind
     packs = omega (arith, name_fits next behind (record { name = part from past l; east = x; north = y; score = value }) s.within f.reached, s.packed)
 
-    pub grows : bytes + length (part from past l) ≤ length l
-    grows = omega (arith, packs, f.reached.within)
-
-    pub lay_one : RoomFor l at n → Rooms rooms → i < n → (text starts : List ℕ) (east north : List ℤ) (score : List ℕ) (r : ℕ)
+    pub lay_one : RoomFor l at n → i < n → (text starts : List ℕ) (east north : List ℤ) (score : List ℕ) (r : ℕ)
         → Puts (part from past l) now.text bytes text r → starts ≡ set now.starts (i + 1) r → east ≡ set now.east i x
         → north ≡ set now.north i y → score ≡ set now.score i value
         → Laying l at n rooms (table_of text starts east north score) r behind (i + 1)
     unfolding onward stand
-    lay_one r room h text starts east north score end p b c d e =
+    lay_one r h text starts east north score end p b c d e =
         let names : length (joined_names (s.stands ++ (stand ∷ []))) ≡ length (joined_names s.stands) + length (part from past l) = ap length (names_snoc s.stands stand) ∙ length-append (joined_names s.stands) (part from past l) in
         record {
+          room = s.room;
           stands = s.stands ++ (stand ∷ []);
           count = length-append s.stands (stand ∷ []) ∙ ap (λ m. m + 1) s.count;
           few = omega arith;
@@ -183,7 +179,7 @@ module _ (l : List ℕ) (at n : ℕ) (rooms : Table) where
           packed = omega (arith, packs, p.next);
           counted = omega (arith, names, p.next, s.counted);
           rest = s.rest ∙ turn _ i next s.stands h f.reached.is ∙ onward_more (all_stands (n - (i + 1)) (drop behind l)) s.stands stand;
-          is = same_table refl b c d e ∙ table_more s.stands stand rooms now s.is text bytes end i p s.counted (sym s.count) (omega (arith, r.few, room.starts)) (omega (arith, r.few, room.east)) (omega (arith, r.few, room.north)) (omega (arith, r.few, room.score));
+          is = same_table refl b c d e ∙ table_more s.stands stand rooms now s.is text bytes end i p s.counted (sym s.count) (omega (arith, r.few, s.room.starts)) (omega (arith, r.few, s.room.east)) (omega (arith, r.few, s.room.north)) (omega (arith, r.few, s.room.score));
         }
 
 -- the first start is stored before the loop
