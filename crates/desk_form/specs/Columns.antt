@@ -1,5 +1,5 @@
 -- What an input is to the finder: its stands as the columns of a table, and where the question's text lies.
-use Rattle.std.specs.Prelude.{List, [], ◌∷◌, ◌++◌, ℕ, ◌+◌, length, drop}
+use Rattle.std.specs.Prelude.{List, [], ◌∷◌, ◌++◌, ℕ, ◌+◌, length, take, drop}
 use Rattle.base.specs.Lists.{each, each_list}
 use Rattle.rules.specs.Tables.{Table, table_of}
 use Rattle.lines.specs.Writing.{ascii}
@@ -28,6 +28,10 @@ table_from stands =
 -- the table that the lent parts hold
 abbrev pub parts_table : Parts → Table
 parts_table p = table_of p.text p.starts p.east p.north p.score
+
+-- the first so many stands of it, whose names have so many bytes
+abbrev pub fronts : ℕ → ℕ → Table → Table
+fronts bytes stands t = table_of (take bytes t.text) (take (stands + 1) t.starts) (take stands t.east) (take stands t.north) (take stands t.score)
 
 -- a lent part after these were written at its start
 abbrev pub laid_over : {A : Type 0} → List A → List A → List A

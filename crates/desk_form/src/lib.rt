@@ -5,13 +5,15 @@
 mod columns;
 mod group;
 
+ghost use Rattle.std.specs.Prelude.{◌≡◌, ◌≤◌};
 ghost use Rattle.base.specs.Lent.{given};
-ghost use Rattle.desk_form.specs.Columns.{parts_table};
+ghost use Rattle.rules.specs.Tables.{lent_table};
+ghost use Rattle.desk_form.specs.Columns.{parts_table, fronts};
 ghost use Rattle.desk_form.specs.Answers.{ReadsInput};
 
 use columns::read_stands;
 use group::{read_opening, read_question};
-use rules::{Grid, Ranking, Refusal};
+use rules::{Grid, Ranking, Refusal, Table};
 
 // What an input says: how many stands it has and how many bytes their names, the grid, where in the input the question's text
 // begins and past its end, and what is asked for.
@@ -48,6 +50,23 @@ pub struct Parts {
     pub east: [i32; Reading::STANDS_ROOM],
     pub north: [i32; Reading::STANDS_ROOM],
     pub score: [u32; Reading::STANDS_ROOM],
+}
+
+impl Parts {
+    // The table of the first so many stands, whose names have so many bytes.
+    pub fn table(&self, bytes: usize, stands: usize) -> Table<'_>
+        requires short { bytes ≤ 16384 }
+        requires few { stands ≤ 64 }
+        ensures { lent_table result ≡ fronts bytes stands (parts_table self.now) }
+    {
+        Table {
+            text: &self.text[..bytes],
+            starts: &self.starts[..stands + 1],
+            east: &self.east[..stands],
+            north: &self.north[..stands],
+            score: &self.score[..stands],
+        }
+    }
 }
 
 // Reads an input whole. The stands go to the lent parts of a table.
