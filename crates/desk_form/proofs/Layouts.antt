@@ -5,7 +5,7 @@ use mathlib.Core.List.{List, [], ◌∷◌, ◌++◌, append_assoc, append-nil}
 use Prim.Native.Nat.{ℕ, suc, ◌+◌, ◌-◌, ◌≤◌, ◌<◌}
 use native.Mathlib.Omega.{arith}
 use lib.IntN.{ℤ}
-use lib.ListN.{length, drop, get_or, set, length-append, length-drop, length-set, take-append-drop}
+use lib.ListN.{length, drop, get_or, set, length-append, length-drop, take-append-drop}
 use lib.Seq.{drop-set-lt, drop-cons, set_at, take-append_seam, drop-append-add, drop-drop, append_snoc}
 use Rattle.base.specs.Lists.{each}
 use Rattle.base.proofs.Members.{length-each, each_append, each_list-append}
@@ -26,9 +26,6 @@ module _ {A : Type 0} where
   laid_store w room x h =
       let n : length (w ++ (x ∷ [])) ≡ suc (length w) = length-append w (x ∷ []) ∙ omega arith in
       rw (drop-cons room (length w) x h, n) (set_at w (get_or room (length w) x) (drop (suc (length w)) room) x (length w) refl ∙ sym (append_snoc w x (drop (suc (length w)) room)))
-
-  laid_long : (w room : List A) → length w ≤ length room → length (laid_over w room) ≡ length room
-  laid_long w room h = omega (arith, length-append w (drop (length w) room), length-drop (length w) room)
 
 -- bytes put right behind
 laid_put : (w room s text : List ℕ) (r : ℕ) → Puts s (laid_over w room) (length w) text r → text ≡ laid_over (w ++ s) room
@@ -87,11 +84,19 @@ module _ (stands : List StandLines) (s : StandLines) (rooms now : Table) (is : n
       (rw (c, is) (column (λ s. s.north) stands s rooms.north (omega arith)))
       (rw (c, is) (column (λ s. s.score) stands s rooms.score (omega arith)))
 
+-- the parts of a table have room for as many stands as an input has at most
+pub record Rooms (t : Table) : Type 0 where
+  pub starts : 64 < length t.starts
+  pub east : 64 ≤ length t.east
+  pub north : 64 ≤ length t.north
+  pub score : 64 ≤ length t.score
+
 -- the readers of the stands that are left, behind those that were read
 pub before : List StandLines → List StandLines → List ℕ → Got (List StandLines)
 before stands more = got (stands ++ more)
 
 pub record Laying (l : List ℕ) (at n : ℕ) (rooms now : Table) (bytes next i : ℕ) : Type 0 where
+  pub room : Rooms rooms
   pub stands : List StandLines
   pub count : length stands ≡ i
   pub few : i ≤ n
@@ -136,10 +141,11 @@ module _ (l : List ℕ) (at n : ℕ) (rooms : Table) where
       let e = ap length (stand_law.sound (drop next l) s (drop behind l) r.is).1 in
       omega (arith, simp (length-append, length-drop) at e, r.within)
 
-  pub lay_none : RoomFor l at n rooms → rooms.starts ≡ laid_over (0 ∷ []) rooms.starts → Laying l at n rooms rooms 0 at 0
+  pub lay_none : RoomFor l at n → Rooms rooms → rooms.starts ≡ laid_over (0 ∷ []) rooms.starts → Laying l at n rooms rooms 0 at 0
   unfolding before onward laid_table table_from starts_from
-  lay_none r z =
+  lay_none r room z =
       record {
+        room = room;
         stands = [];
         count = refl;
         few = omega arith;
@@ -157,10 +163,7 @@ module _ (l : List ℕ) (at n : ℕ) (rooms : Table) where
     packs : bytes + length (part from past l) ≤ behind
     packs = omega (arith, name_fits next behind (record { name = part from past l; east = x; north = y; score = value }) s.within f.reached, s.packed)
 
-    pub grows : bytes + length (part from past l) ≤ length l
-    grows = omega (arith, packs, f.reached.within)
-
-    pub lay_one : RoomFor l at n rooms → i < n → (text starts : List ℕ) (east north : List ℤ) (score : List ℕ) (r : ℕ)
+    pub lay_one : RoomFor l at n → i < n → (text starts : List ℕ) (east north : List ℤ) (score : List ℕ) (r : ℕ)
         → Puts (part from past l) now.text bytes text r → starts ≡ set now.starts (i + 1) r → east ≡ set now.east i x
         → north ≡ set now.north i y → score ≡ set now.score i value
         → Laying l at n rooms (table_of text starts east north score) r behind (i + 1)
@@ -168,6 +171,7 @@ module _ (l : List ℕ) (at n : ℕ) (rooms : Table) where
     lay_one r h text starts east north score end p b c d e =
         let names : length (joined_names (s.stands ++ (stand ∷ []))) ≡ length (joined_names s.stands) + length (part from past l) = ap length (names_snoc s.stands stand) ∙ length-append (joined_names s.stands) (part from past l) in
         record {
+          room = s.room;
           stands = s.stands ++ (stand ∷ []);
           count = length-append s.stands (stand ∷ []) ∙ ap (λ m. m + 1) s.count;
           few = omega arith;
@@ -175,45 +179,13 @@ module _ (l : List ℕ) (at n : ℕ) (rooms : Table) where
           packed = omega (arith, packs, p.next);
           counted = omega (arith, names, p.next, s.counted);
           rest = s.rest ∙ turn _ i next s.stands h f.reached.is ∙ onward_more (all_stands (n - (i + 1)) (drop behind l)) s.stands stand;
-          is = same_table refl b c d e ∙ table_more s.stands stand rooms now s.is text bytes end i p s.counted (sym s.count) (omega (arith, r.starts)) (omega (arith, r.east)) (omega (arith, r.north)) (omega (arith, r.score));
+          is = same_table refl b c d e ∙ table_more s.stands stand rooms now s.is text bytes end i p s.counted (sym s.count) (omega (arith, r.few, s.room.starts)) (omega (arith, r.few, s.room.east)) (omega (arith, r.few, s.room.north)) (omega (arith, r.few, s.room.score));
         }
-
--- the lent parts keep their lengths
-pub record SameLong (now rooms : Table) : Type 0 where
-  pub text : length now.text ≡ length rooms.text
-  pub starts : length now.starts ≡ length rooms.starts
-  pub east : length now.east ≡ length rooms.east
-  pub north : length now.north ≡ length rooms.north
-  pub score : length now.score ≡ length rooms.score
-
-pub lay_long : (l : List ℕ) (at n : ℕ) (rooms now : Table) (bytes next i : ℕ) → RoomFor l at n rooms → Laying l at n rooms now bytes next i → SameLong now rooms
-unfolding laid_table table_from
-lay_long l at n rooms now bytes next i r s =
-    let few : length s.stands ≤ n = omega (arith, s.count, s.few) in
-    let short : length (joined_names s.stands) ≤ length rooms.text = omega (arith, s.counted, s.packed, s.within, r.text) in
-    let starts : length (starts_from 0 s.stands) ≤ length rooms.starts = omega (arith, length_starts 0 s.stands, r.starts) in
-    let east : length (each (λ s. s.east) s.stands) ≤ length rooms.east = omega (arith, length-each (λ s. s.east) s.stands, r.east) in
-    let north : length (each (λ s. s.north) s.stands) ≤ length rooms.north = omega (arith, length-each (λ s. s.north) s.stands, r.north) in
-    let score : length (each (λ s. s.score) s.stands) ≤ length rooms.score = omega (arith, length-each (λ s. s.score) s.stands, r.score) in
-    rw s.is (record { text = laid_long (joined_names s.stands) rooms.text short; starts = laid_long (starts_from 0 s.stands) rooms.starts starts; east = laid_long (each (λ s. s.east) s.stands) rooms.east east; north = laid_long (each (λ s. s.north) s.stands) rooms.north north; score = laid_long (each (λ s. s.score) s.stands) rooms.score score })
 
 -- the first start is stored before the loop
 pub first_start : (s : List ℕ) → 0 < length s → set s 0 0 ≡ laid_over (0 ∷ []) (set s 0 0)
 first_start [] h = absurd (omega arith)
 first_start (x ∷ s) h = refl
-
-pub with_first : (l : List ℕ) (at n : ℕ) (text starts : List ℕ) (east north : List ℤ) (score : List ℕ) → RoomFor l at n (table_of text starts east north score)
-    → RoomFor l at n (table_of text (set starts 0 0) east north score)
-with_first l at n text starts east north score r =
-    record { within = r.within; short = r.short; text = r.text; starts = rw (length-set starts 0 0) r.starts; east = r.east; north = r.north; score = r.score }
-
--- so each part keeps its length while stands are laid behind that first start
-pub kept_long : (l : List ℕ) (at n : ℕ) (text starts : List ℕ) (east north : List ℤ) (score : List ℕ) (now : Table) (bytes next i : ℕ)
-    → RoomFor l at n (table_of text starts east north score) → Laying l at n (table_of text (set starts 0 0) east north score) now bytes next i
-    → SameLong now (table_of text starts east north score)
-kept_long l at n text starts east north score now bytes next i r s =
-    let h = lay_long l at n (table_of text (set starts 0 0) east north score) now bytes next i (with_first l at n text starts east north score r) s in
-    record { text = h.text; starts = h.starts ∙ length-set {A = ℕ} starts 0 0; east = h.east; north = h.north; score = h.score }
 
 -- and is part of what is laid
 over_first : (w s : List ℕ) → 0 < length w → laid_over w (set s 0 0) ≡ laid_over w s

@@ -1,9 +1,9 @@
 -- What an input is to the finder: its stands as the columns of a table, and where the question's text lies.
-use Rattle.std.specs.Prelude.{List, [], ◌∷◌, ◌++◌, ℕ, ◌+◌, ℤ, length, drop}
+use Rattle.std.specs.Prelude.{List, [], ◌∷◌, ◌++◌, ℕ, ◌+◌, length, take, drop}
 use Rattle.base.specs.Lists.{each, each_list}
-use Rattle.base.specs.Lent.{LentMut, after}
 use Rattle.rules.specs.Tables.{Table, table_of}
 use Rattle.lines.specs.Writing.{ascii}
+use Rattle.desk_form.specs.declared.Parts.{Parts}
 use Rattle.desk_form.specs.Form.{StandLines, Input, grid_text, stand_text}
 
 -- the names one after the other
@@ -25,9 +25,13 @@ table_from stands =
       score = each (λ s. s.score) stands;
     }
 
--- the table that the lent parts hold when the call returns
-abbrev pub table_after : LentMut (List ℕ) → LentMut (List ℕ) → LentMut (List ℤ) → LentMut (List ℤ) → LentMut (List ℕ) → Table
-table_after text starts east north score = table_of (after text) (after starts) (after east) (after north) (after score)
+-- the table that the lent parts hold
+abbrev pub parts_table : Parts → Table
+parts_table p = table_of p.text p.starts p.east p.north p.score
+
+-- the first so many stands of it, whose names have so many bytes
+abbrev pub fronts : ℕ → ℕ → Table → Table
+fronts bytes stands t = table_of (take bytes t.text) (take (stands + 1) t.starts) (take stands t.east) (take stands t.north) (take stands t.score)
 
 -- a lent part after these were written at its start
 abbrev pub laid_over : {A : Type 0} → List A → List A → List A

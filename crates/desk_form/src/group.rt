@@ -1,134 +1,95 @@
 // Lines that belong together: the grid's, a stand's, the question's. Each group is read where it begins, in the order of its lines.
-ghost use Rattle.std.specs.Prelude.{◌≤◌, length};
+ghost use Rattle.std.specs.Prelude.{◌≤◌, length, drop};
 ghost use Rattle.base.specs.Lent.{given};
 ghost use Rattle.lines.specs.Writing.{ascii};
-ghost use Rattle.desk_form.specs.Says.{SaysOpening, SaysStand, SaysQuestion};
+ghost use Rattle.lines.specs.Says.{Says};
+ghost use Rattle.desk_form.specs.Reads.{grid_lines};
+ghost use Rattle.desk_form.specs.Says.{SaysStand, SaysQuestion};
 
 use crate::Reading;
-use lines::{Bytes, Signed, Unsigned, bytes_line, signed_line, unsigned_line};
+use lines::{bytes_line, signed_line, unsigned_line};
 use rules::{Grid, Place, Ranking};
+use std::ops::Range;
 
-// The grid, how many stands follow, and where their lines begin.
-#[derive(Clone, Copy)]
-pub enum Opening {
-    Lines {
-        grid: Grid,
-        stands: u32,
-        next: usize,
-    },
-    Malformed,
+// A stand, its name as a part of the input.
+#[derive(Drop)]
+pub struct StandRead {
+    pub name: Range<usize>,
+    pub east: i32,
+    pub north: i32,
+    pub score: u32,
 }
 
-// A stand, its name as a part of the input, and where the next lines begin; or the first of its four lines that is not as it
-// should be, from 0.
+// The first of a stand's four lines that is not as it should be, from 0.
 #[derive(Clone, Copy)]
-pub enum StandRead {
-    Lines {
-        from: usize,
-        past: usize,
-        east: i32,
-        north: i32,
-        score: u32,
-        next: usize,
-    },
-    Malformed(u32),
+pub struct TornLine(pub u32);
+
+// The question, its text as a part of the input.
+#[derive(Drop)]
+pub struct Question {
+    pub text: Range<usize>,
+    pub ranking: Ranking,
 }
 
-// The question, its text as a part of the input, and where its lines end.
-#[derive(Clone, Copy)]
-pub enum Question {
-    Lines {
-        from: usize,
-        past: usize,
-        ranking: Ranking,
-        next: usize,
-    },
-    Malformed,
-}
-
-pub fn read_opening(input: &[u8]) -> Opening
-    ensures { SaysOpening (given input) result }
+// The grid and how many stands follow, and where their lines begin.
+pub fn read_opening(input: &[u8]) -> Option<((Grid, u32), usize)>
+    ensures { Says (given input) (grid_lines (given input)) result }
 {
-    let Signed::Number(west, at) = signed_line(input, 0, b"west=") else {
-        return Opening::Malformed;
-    };
-    let Signed::Number(south, at) = signed_line(input, at, b"south=") else {
-        return Opening::Malformed;
-    };
-    let Unsigned::Number(cell, at) = unsigned_line(input, at, b"cell=", Reading::NUMBER_MOST) else {
-        return Opening::Malformed;
-    };
-    let Unsigned::Number(stands, at) = unsigned_line(input, at, b"stands=", Reading::STANDS_MOST)
-    else {
-        return Opening::Malformed;
-    };
-    Opening::Lines {
-        grid: Grid { west, south, cell },
-        stands,
-        next: at,
-    }
+    let (west, at) = signed_line(input, 0, b"west=")?;
+    let (south, at) = signed_line(input, at, b"south=")?;
+    let (cell, at) = unsigned_line(input, at, b"cell=", Reading::NUMBER_MOST)?;
+    let (stands, at) = unsigned_line(input, at, b"stands=", Reading::STANDS_MOST)?;
+    Some(((Grid { west, south, cell }, stands), at))
 }
 
-// A stand's four lines, by the keys of the first and the last of them. The question begins with four like them, by other keys.
-fn read_by(input: &[u8], at: usize, first: &[u8], last: &[u8]) -> StandRead
+// A stand's four lines, by the keys of the first and the last of them, and where the next lines begin. The question begins with four like
+// them, by other keys.
+fn read_by(
+    input: &[u8],
+    at: usize,
+    first: &[u8],
+    last: &[u8],
+) -> Result<(StandRead, usize), TornLine>
     requires { at ≤ length input.now }
     ensures { SaysStand (given input) at (given first) (given last) result }
 {
-    let Bytes::Part(from, past) = bytes_line(input, at, first) else {
-        return StandRead::Malformed(0);
-    };
-    let Signed::Number(east, at) = signed_line(input, past + 1, b"east=") else {
-        return StandRead::Malformed(1);
-    };
-    let Signed::Number(north, at) = signed_line(input, at, b"north=") else {
-        return StandRead::Malformed(2);
-    };
-    let Unsigned::Number(score, next) = unsigned_line(input, at, last, Reading::NUMBER_MOST) else {
-        return StandRead::Malformed(3);
-    };
-    StandRead::Lines {
-        from,
-        past,
+    let name = bytes_line(input, at, first).ok_or(TornLine(0))?;
+    let (east, at) = signed_line(input, name.end + 1, b"east=").ok_or(TornLine(1))?;
+    let (north, at) = signed_line(input, at, b"north=").ok_or(TornLine(2))?;
+    let (score, at) = unsigned_line(input, at, last, Reading::NUMBER_MOST).ok_or(TornLine(3))?;
+    let stand = StandRead {
+        name,
         east,
         north,
         score,
-        next,
-    }
+    };
+    Ok((stand, at))
 }
 
-pub fn read_stand(input: &[u8], at: usize) -> StandRead
+pub fn read_stand(input: &[u8], at: usize) -> Result<(StandRead, usize), TornLine>
     requires { at ≤ length input.now }
     ensures { SaysStand (given input) at (ascii "name=") (ascii "score=") result }
 {
     read_by(input, at, b"name=", b"score=")
 }
 
-pub fn read_question(input: &[u8], at: usize) -> Question
+// The question, and where its lines end.
+pub fn read_question(input: &[u8], at: usize) -> Option<(Question, usize)>
     requires { at ≤ length input.now }
     ensures { SaysQuestion (given input) at result }
 {
-    let StandRead::Lines {
-        from,
-        past,
+    let (four, at) = read_by(input, at, b"text=", b"weight=").ok()?;
+    let (k, at) = unsigned_line(input, at, b"k=", Reading::NUMBER_MOST)?;
+    let StandRead {
+        name: text,
         east,
         north,
         score: weight,
-        next,
-    } = read_by(input, at, b"text=", b"weight=")
-    else {
-        return Question::Malformed;
+    } = four;
+    let ranking = Ranking {
+        place: Place { east, north },
+        weight,
+        k,
     };
-    let Unsigned::Number(k, next) = unsigned_line(input, next, b"k=", Reading::NUMBER_MOST) else {
-        return Question::Malformed;
-    };
-    Question::Lines {
-        from,
-        past,
-        ranking: Ranking {
-            place: Place { east, north },
-            weight,
-            k,
-        },
-        next,
-    }
+    Some((Question { text, ranking }, at))
 }

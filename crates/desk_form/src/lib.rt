@@ -5,28 +5,26 @@
 mod columns;
 mod group;
 
+ghost use Rattle.std.specs.Prelude.{◌≡◌, ◌≤◌};
 ghost use Rattle.base.specs.Lent.{given};
-ghost use Rattle.rules.specs.Tables.{table_of};
-ghost use Rattle.desk_form.specs.Columns.{table_after};
+ghost use Rattle.rules.specs.Tables.{lent_table};
+ghost use Rattle.desk_form.specs.Columns.{parts_table, fronts};
 ghost use Rattle.desk_form.specs.Answers.{ReadsInput};
 
-use columns::{Stands, read_stands};
-use group::{Opening, Question, read_opening, read_question};
-use rules::{Grid, Ranking, Refusal};
+use columns::read_stands;
+use group::{read_opening, read_question};
+use rules::{Grid, Ranking, Refusal, Table};
 
 // What an input says: how many stands it has and how many bytes their names, the grid, where in the input the question's text
 // begins and past its end, and what is asked for.
 #[derive(Clone, Copy)]
-pub enum Reading {
-    Of {
-        stands: usize,
-        bytes: usize,
-        grid: Grid,
-        from: usize,
-        past: usize,
-        ranking: Ranking,
-    },
-    Refused(Refusal),
+pub struct Reading {
+    pub stands: usize,
+    pub bytes: usize,
+    pub grid: Grid,
+    pub from: usize,
+    pub past: usize,
+    pub ranking: Ranking,
 }
 
 impl Reading {
@@ -45,47 +43,52 @@ impl Reading {
     pub const NUMBER_MOST: u32 = 65_535;
 }
 
+// The parts of a table with room for any input's stands.
+pub struct Parts {
+    pub text: [u8; Reading::BYTES_MOST],
+    pub starts: [u32; Reading::STARTS_ROOM],
+    pub east: [i32; Reading::STANDS_ROOM],
+    pub north: [i32; Reading::STANDS_ROOM],
+    pub score: [u32; Reading::STANDS_ROOM],
+}
+
+impl Parts {
+    // The table of the first so many stands, whose names have so many bytes.
+    pub fn table(&self, bytes: usize, stands: usize) -> Table<'_>
+        requires short { bytes ≤ 16384 }
+        requires few { stands ≤ 64 }
+        ensures { lent_table result ≡ fronts bytes stands (parts_table self.now) }
+    {
+        Table {
+            text: &self.text[..bytes],
+            starts: &self.starts[..stands + 1],
+            east: &self.east[..stands],
+            north: &self.north[..stands],
+            score: &self.score[..stands],
+        }
+    }
+}
+
 // Reads an input whole. The stands go to the lent parts of a table.
-pub fn read_input(
-    input: &[u8],
-    text: &mut [u8; Reading::BYTES_MOST],
-    starts: &mut [u32; Reading::STARTS_ROOM],
-    east: &mut [i32; Reading::STANDS_ROOM],
-    north: &mut [i32; Reading::STANDS_ROOM],
-    score: &mut [u32; Reading::STANDS_ROOM],
-) -> Reading
-    ensures { ReadsInput (given input) (table_of text.old starts.old east.old north.old score.old) result (table_after text starts east north score) }
+pub fn read_input(input: &[u8], parts: &mut Parts) -> Result<Reading, Refusal>
+    ensures { ReadsInput (given input) (parts_table parts.old) result (parts_table parts.new) }
 {
     if Reading::BYTES_MOST < input.len() {
-        return Reading::Refused(Refusal::InputMalformed);
+        return Err(Refusal::InputMalformed);
     }
-    let Opening::Lines { grid, stands, next } = read_opening(input) else {
-        return Reading::Refused(Refusal::InputMalformed);
-    };
+    let ((grid, stands), next) = read_opening(input).ok_or(Refusal::InputMalformed)?;
     let stands = stands as usize;
-    let Stands::Laid { bytes, next } = read_stands(
-        input, next, stands, text, starts, east, north, score,
-    ) else {
-        return Reading::Refused(Refusal::InputMalformed);
-    };
-    let Question::Lines {
-        from,
-        past,
-        ranking,
-        next,
-    } = read_question(input, next)
-    else {
-        return Reading::Refused(Refusal::InputMalformed);
-    };
+    let (bytes, next) = read_stands(input, next, stands, parts).ok_or(Refusal::InputMalformed)?;
+    let (question, next) = read_question(input, next).ok_or(Refusal::InputMalformed)?;
     if next != input.len() {
-        return Reading::Refused(Refusal::InputMalformed);
+        return Err(Refusal::InputMalformed);
     }
-    Reading::Of {
+    Ok(Reading {
         stands,
         bytes,
         grid,
-        from,
-        past,
-        ranking,
-    }
+        from: question.text.start,
+        past: question.text.end,
+        ranking: question.ranking,
+    })
 }

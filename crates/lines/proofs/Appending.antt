@@ -1,38 +1,13 @@
--- Bytes put one behind the other: Copying is the invariant of the loop that puts them; two puts in a row are one.
+-- Bytes put one behind the other: two puts in a row are one.
 -- Assumes nothing.
 use mathlib.Core.Path.{◌≡◌, refl, sym, ap, ◌∙◌}
 use mathlib.Core.List.{List, [], ◌++◌, append_assoc, append-nil}
-use Prim.Native.Nat.{ℕ, ◌+◌, ◌≤◌, ◌<◌}
-use native.Mathlib.Numerals.{add-one}
+use Prim.Native.Nat.{ℕ, ◌+◌, ◌≤◌}
 use native.Mathlib.Omega.{arith}
-use lib.ListN.{length, take, drop, get_or, set, length-append, length-set}
-use lib.Seq.{paste, paste-zero, paste-suc, take-paste, drop-paste, take-length, drop-drop}
+use lib.ListN.{length, take, drop, length-append}
+use lib.Seq.{drop-drop}
 use Rattle.lines.specs.Writing.{ascii, line}
-use Rattle.lines.specs.Puts.{RoomAt, Puts}
-
-pub record Copying (out : List ℕ) (at : ℕ) (bytes now : List ℕ) (i : ℕ) : Type 0 where
-  pub within : i ≤ length bytes
-  pub is : now ≡ paste out at bytes i
-  pub long : length now ≡ length out
-
-module _ (out : List ℕ) (at : ℕ) (bytes : List ℕ) where
-  pub copy_none : Copying out at bytes out 0
-  copy_none = record { within = omega arith; is = paste-zero out at bytes; long = refl }
-
-  pub copy_one : (now : List ℕ) (i : ℕ) → RoomAt out at bytes → i < length bytes → Copying out at bytes now i
-      → Copying out at bytes (set now (at + i) (get_or bytes i 0)) (i + 1)
-  copy_one now i room h s =
-      record { within = omega arith; is = rw (s.is, add-one) (paste-suc out at bytes i 0 (omega arith) h); long = length-set now (at + i) (get_or bytes i 0) ∙ s.long }
-
-  pub copied : (now : List ℕ) (i : ℕ) → RoomAt out at bytes → length bytes ≤ i → Copying out at bytes now i → Puts bytes out at now (at + i)
-  copied now i room h s =
-      let e : i ≡ length bytes = omega (arith, s.within) in
-      rw (s.is, e)
-      (record {
-        next = refl;
-        front = take-paste out at bytes (length bytes) (omega arith) (omega arith) ∙ ap (λ l. take at out ++ l) (take-length bytes);
-        rest = drop-paste out at bytes (length bytes) (omega arith) (omega arith);
-      })
+use Rattle.lines.specs.Puts.{Puts}
 
 pub none_put : (out : List ℕ) (at : ℕ) → Puts [] out at out at
 none_put out at = record { next = omega arith; front = sym (append-nil (take at out)); rest = refl }

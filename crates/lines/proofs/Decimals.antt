@@ -4,7 +4,8 @@ use mathlib.Core.Path.{◌≡◌, refl, sym, ap, ◌∙◌}
 use mathlib.Core.Logic.{inl, inr, ⊎_elim}
 use mathlib.Core.Bool.{true, false, true≢false}
 use mathlib.Core.List.{List, [], ◌∷◌, ◌++◌, append_assoc, append-nil}
-use mathlib.Core.Option.{Option, none, some, none-ne-some}
+use Rattle.std.specs.Prelude.{Option, Some, None}
+use Rattle.std.proofs.lemmas.Option.{none-some}
 use Prim.Native.Nat.{ℕ, zero, suc, ◌+◌, ◌-◌, ◌*◌, ◌/◌, ◌%◌, ◌≤◌, ◌<◌}
 use native.Mathlib.Omega.{arith}
 use lib.IntN.{ℤ, pos, negsuc}
@@ -75,25 +76,25 @@ fitting most value b f = every_of _ (le-leb 48 b f.low, (le-leb b 57 f.high, (le
 digit : (most value d : ℕ) → d < 10 → value * 10 + d ≤ most → digit_fits most value (48 + d) ≡ true
 digit most value d h k = fitting most value (48 + d) (record { low = omega arith; high = omega arith; few = omega arith })
 
-grown_more : (most value a b : ℕ) (l : List ℕ) → grown_by most value l ≡ some a → digit_fits most a b ≡ true → grown_by most value (l ++ (b ∷ [])) ≡ some (grown a b)
+grown_more : (most value a b : ℕ) (l : List ℕ) → grown_by most value l ≡ Some a → digit_fits most a b ≡ true → grown_by most value (l ++ (b ∷ [])) ≡ Some (grown a b)
 unfolding grown_by
 grown_more most value a b [] e f = let s : value ≡ a = cc in rw (s, f)
-grown_more most value a b (c ∷ l) e f = let s = tested (digit_fits most value c) (none-ne-some a) e in rw s.0 (grown_more most (grown value c) a b l s.1 f)
+grown_more most value a b (c ∷ l) e f = let s = tested (digit_fits most value c) (none-some a) e in rw s.0 (grown_more most (grown value c) a b l s.1 f)
 
 -- the digits of a number in range are gathered to it
-grown_back : (most n : ℕ) → n ≤ most → grown_by most 0 (decimal_of n) ≡ some n
+grown_back : (most n : ℕ) → n ≤ most → grown_by most 0 (decimal_of n) ≡ Some n
 unfolding grown_by
 grown_back most =
-    by_digits (λ n. n ≤ most → grown_by most 0 (decimal_of n) ≡ some n)
-    (λ n h k. rw (small n h, digit most 0 n h (omega arith)) (ap some (omega arith)))
-    (λ a d h k below l. rw (longer a d h k) (grown_more most 0 a (48 + d) (decimal_of a) (below (omega arith)) (digit most a d k l) ∙ ap some (omega arith)))
+    by_digits (λ n. n ≤ most → grown_by most 0 (decimal_of n) ≡ Some n)
+    (λ n h k. rw (small n h, digit most 0 n h (omega arith)) (ap Some (omega arith)))
+    (λ a d h k below l. rw (longer a d h k) (grown_more most 0 a (48 + d) (decimal_of a) (below (omega arith)) (digit most a d k l) ∙ ap Some (omega arith)))
 
 -- and what is gathered on from a number goes on its digits
-grown-on : (most a n : ℕ) (l : List ℕ) → 0 < a → a ≤ most → grown_by most a l ≡ some n → (n ≤ most) × (decimal_of a ++ l ≡ decimal_of n)
+grown-on : (most a n : ℕ) (l : List ℕ) → 0 < a → a ≤ most → grown_by most a l ≡ Some n → (n ≤ most) × (decimal_of a ++ l ≡ decimal_of n)
 unfolding grown_by
 grown-on most a n [] h k e = let s : a ≡ n = cc in (rw s at k, rw s (append-nil (decimal_of n)))
 grown-on most a n (b ∷ l) h k e =
-    let t = tested _ (none-ne-some n) e in
+    let t = tested _ (none-some n) e in
     let f = fits most a b t.0 in
     let r = grown-on most (grown a b) n l (omega arith) f.few t.1 in
     let s : 48 + (b - 48) ≡ b = omega (arith, f.low) in
@@ -137,12 +138,12 @@ decimal_line =
     no_feed d (inr i) = elim i [ ]
 
 module _ (most : ℕ) where
-  number_back : (n : ℕ) → n ≤ most → decimal_in most (decimal_of n) ≡ some n
+  number_back : (n : ℕ) → n ≤ most → decimal_in most (decimal_of n) ≡ Some n
   unfolding decimal_in
   number_back n h = rw (decimal_well n) (grown_back most n h)
 
   -- past the first digit, which is a number of its own
-  first : (n b : ℕ) (l : List ℕ) → well_led (b ∷ l) ≡ true → Fits most 0 b → grown_by most (grown 0 b) l ≡ some n → (n ≤ most) × (b ∷ l ≡ decimal_of n)
+  first : (n b : ℕ) (l : List ℕ) → well_led (b ∷ l) ≡ true → Fits most 0 b → grown_by most (grown 0 b) l ≡ Some n → (n ≤ most) × (b ∷ l ≡ decimal_of n)
   unfolding well_led grown_by
   first n b [] led f e =
       let s : grown 0 b ≡ n = cc in
@@ -155,50 +156,50 @@ module _ (most : ℕ) where
       (r.0, rw (small (grown 0 b) (omega (arith, f.high)), t) at r.1)
 
   -- what is read as a number has a first digit
-  begun : (n b : ℕ) (l : List ℕ) → decimal_in most (b ∷ l) ≡ some n → (well_led (b ∷ l) ≡ true) × Fits most 0 b × (grown_by most (grown 0 b) l ≡ some n)
+  begun : (n b : ℕ) (l : List ℕ) → decimal_in most (b ∷ l) ≡ Some n → (well_led (b ∷ l) ≡ true) × Fits most 0 b × (grown_by most (grown 0 b) l ≡ Some n)
   unfolding decimal_in grown_by
   begun n b l e =
-      let s = tested _ (none-ne-some n) e in
-      let t = tested _ (none-ne-some n) s.1 in
+      let s = tested _ (none-some n) e in
+      let t = tested _ (none-some n) s.1 in
       (s.0, fits most 0 b t.0, t.1)
 
-  number_sound : (n : ℕ) (l : List ℕ) → decimal_in most l ≡ some n → (n ≤ most) × (l ≡ decimal_of n)
+  number_sound : (n : ℕ) (l : List ℕ) → decimal_in most l ≡ Some n → (n ≤ most) × (l ≡ decimal_of n)
   unfolding decimal_in well_led
-  number_sound n [] e = absurd (none-ne-some n e)
+  number_sound n [] e = absurd (none-some n e)
   number_sound n (b ∷ l) e = let s = begun n b l e in first n b l s.0 s.1 s.2
 
-  number_plain : (n : ℕ) (l : List ℕ) → decimal_in most l ≡ some n → begins (ascii "-") l ≡ false
+  number_plain : (n : ℕ) (l : List ℕ) → decimal_in most l ≡ Some n → begins (ascii "-") l ≡ false
   number_plain n [] e = refl
   number_plain n (b ∷ l) e = let s = begun n b l e in rw (ne_eqb 45 b (λ q. omega (arith, s.1.low)))
 
   pub decimal_law : ValueBack decimal_of (λ n. n ≤ most) (decimal_in most)
   decimal_law = record { back = number_back; sound = number_sound }
 
-signed_back : (z : ℤ) → Signed32 z → signed_in (signed_of z) ≡ some z
+signed_back : (z : ℤ) → Signed32 z → signed_in (signed_of z) ≡ Some z
 unfolding signed_in signed_of Signed32
 signed_back (pos n) h =
     let e = number_back 2147483647 n (omega arith) in
     rw (number_plain 2147483647 n (decimal_of n) e, e)
 signed_back (negsuc n) h = rw (number_back 2147483648 (suc n) (omega arith))
 
-below_zero : (z : ℤ) (l : List ℕ) (o : Option ℕ) → decimal_in 2147483648 l ≡ o → negated o ≡ some z → Signed32 z × (ascii "-" ++ l ≡ signed_of z)
+below_zero : (z : ℤ) (l : List ℕ) (o : Option ℕ) → decimal_in 2147483648 l ≡ o → negated o ≡ Some z → Signed32 z × (ascii "-" ++ l ≡ signed_of z)
 unfolding signed_of Signed32
-below_zero z l none q e = absurd (none-ne-some z e)
-below_zero z l (some zero) q e = absurd (none-ne-some z e)
-below_zero z l (some (suc n)) q e =
+below_zero z l None q e = absurd (none-some z e)
+below_zero z l (Some zero) q e = absurd (none-some z e)
+below_zero z l (Some (suc n)) q e =
     let s = number_sound 2147483648 (suc n) l q in
     let t : z ≡ negsuc n = cc in
     rw t (omega (arith, s.0), ap (λ m. 45 ∷ m) s.1)
 
-from_zero : (z : ℤ) (l : List ℕ) (o : Option ℕ) → decimal_in 2147483647 l ≡ o → positive o ≡ some z → Signed32 z × (l ≡ signed_of z)
+from_zero : (z : ℤ) (l : List ℕ) (o : Option ℕ) → decimal_in 2147483647 l ≡ o → positive o ≡ Some z → Signed32 z × (l ≡ signed_of z)
 unfolding signed_of Signed32
-from_zero z l none q e = absurd (none-ne-some z e)
-from_zero z l (some n) q e =
+from_zero z l None q e = absurd (none-some z e)
+from_zero z l (Some n) q e =
     let s = number_sound 2147483647 n l q in
     let t : z ≡ pos n = cc in
     rw t (omega (arith, s.0), s.1)
 
-signed_sound : (z : ℤ) (l : List ℕ) → signed_in l ≡ some z → Signed32 z × (l ≡ signed_of z)
+signed_sound : (z : ℤ) (l : List ℕ) → signed_in l ≡ Some z → Signed32 z × (l ≡ signed_of z)
 unfolding signed_in
 signed_sound z [] e = from_zero z [] _ refl e
 signed_sound z (b ∷ l) e =

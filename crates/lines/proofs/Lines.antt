@@ -3,7 +3,7 @@
 use mathlib.Core.Path.{◌≡◌, refl, sym, ap, ◌∙◌, ap₂}
 use mathlib.Core.Logic.{⊎_elim}
 use mathlib.Core.List.{List, [], ◌∷◌, ◌++◌, append_assoc}
-use mathlib.Core.Option.{Option, none, some}
+use Rattle.std.specs.Prelude.{Option, Some, None}
 use Prim.Native.Nat.{ℕ, suc, ◌<◌}
 use native.Mathlib.Numerals.{add-one}
 use native.Mathlib.Omega.{arith}
@@ -78,8 +78,8 @@ bytes_law key = record { back = back; sound = sound }
 module _ {A : Type 0} (key : List ℕ) {write : A → List ℕ} {InOrder : A → Type 0} {read : List ℕ → Option A} (law : ValueBack write InOrder read) (one : (a : A) → OneLine (write a)) where
   of_value : (l v rest₀ : List ℕ) (o : Option A) (a : A) (rest : List ℕ) → l ≡ line key v ++ rest₀ → read v ≡ o → valued o rest₀ ≡ got a rest
       → InOrder a × (l ≡ line key (write a) ++ rest)
-  of_value l v rest₀ none a rest s q e = lost e
-  of_value l v rest₀ (some a') a rest s q e =
+  of_value l v rest₀ None a rest s q e = lost e
+  of_value l v rest₀ (Some a') a rest s q e =
       let w = law.sound a' v q in
       as_got (λ b m. InOrder b × (l ≡ line key (write b) ++ m)) a' a rest₀ rest e (w.0, rw w.1 at s)
 

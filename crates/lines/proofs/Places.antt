@@ -1,71 +1,86 @@
 -- Readers at a place of the input: what the tests that the code makes there say of the lines that begin there.
 -- Assumes nothing.
-use mathlib.Core.Path.{◌≡◌, refl, ◌∙◌}
+use mathlib.Core.Path.{◌≡◌, refl, sym, ap, ◌∙◌}
 use mathlib.Core.Bool.{true, false}
 use mathlib.Core.List.{List, [], ◌∷◌}
-use mathlib.Core.Option.{Option, none, some}
-use Prim.Native.Nat.{ℕ, suc, ◌+◌, ◌-◌, ◌≤◌, ◌<◌}
+use Rattle.std.specs.Prelude.{Option, Some, None, cond, position}
+use Rattle.std.specs.List.{position_or_len}
+use Rattle.std.specs.Cmp.Lexicographic.{pointwise}
+use Rattle.std.proofs.lemmas.List.Recursion.{is_position_or_len}
+use Prim.Native.Nat.{ℕ, suc, ◌+◌, ◌-◌, ◌<◌}
 use native.Mathlib.Omega.{arith}
-use lib.Dec.{eqb}
+use lib.Dec.{eqb, ltb}
 use lib.ListN.{length, take, drop, get_or, length-drop}
 use lib.Seq.{take_all, drop-drop}
 use borrow.Table.Steps.{cases}
-use borrow.Author.Tests.{lt-ltb, le-ltb, eq-eqb, ne_eqb}
+use borrow.Author.Tests.{ltb-true, eq-eqb, ne_eqb, eqb-true, eqb-false}
 use Rattle.base.specs.Lists.{begins, position_in}
-use Rattle.base.proofs.Begins.{begins-length}
-use Rattle.lines.specs.Reads.{nothing, onward, to_feed, bytes_line, value_line, grown_by, well_led, decimal_in}
+use Rattle.std.proofs.lemmas.Option.{none-some, cond_some}
+use Rattle.lines.specs.Reads.{got, nothing, onward, to_feed, bytes_line, value_line, grown_by, well_led, decimal_in}
 use Rattle.lines.specs.Says.{part, Reached, PartReached}
 
-position_le : (x : ℕ) (l : List ℕ) → position_in x l ≤ length l
-position_le x [] = omega arith
-position_le x (y ∷ l) = cases (eqb x y) (λ q. rw q (omega arith)) (λ q. rw q (omega (arith, position_le x l)))
+-- the library's tests of a list's beginning, and of a number in it
+eqb_swap : (x y : ℕ) → eqb y x ≡ eqb x y
+eqb_swap x y = cases (eqb x y) (λ q. rw q (eq-eqb y x (sym (eqb-true x y q)))) (λ q. rw q (ne_eqb y x (λ e. eqb-false x y q (sym e))))
 
--- from a place on: the first line feed, or the input's end
-module _ (l : List ℕ) (from past : ℕ) (is : past ≡ from + position_in 10 (drop from l)) (h : from ≤ length l) where
-  no_feed : past ≡ length l → to_feed (drop from l) ≡ nothing
-  unfolding to_feed
-  no_feed e = rw (le-ltb (position_in 10 (drop from l)) (length (drop from l)) (omega (arith, length-drop from l)))
+pub key_test : (key l : List ℕ) → pointwise eqb (take (length key) l) key ≡ begins key l
+key_test [] l = refl
+key_test (x ∷ key) [] = refl
+key_test (x ∷ key) (y ∷ l) = rw (eqb_swap x y, key_test key l)
 
-  fed : (past ≡ length l → ⊥) → PartReached l from (to_feed (drop from l)) from past
-  unfolding to_feed
-  fed n =
-      let p : position_in 10 (drop from l) < length (drop from l) = omega (arith, length-drop from l, position_le 10 (drop from l), n) in
-      let a : past - from ≡ position_in 10 (drop from l) = omega (arith, is) in
-      let b : from + suc (position_in 10 (drop from l)) ≡ past + 1 = omega (arith, is) in
-      record { begun = refl; forward = omega (arith, is); reached = record { within = omega (arith, is, length-drop from l); is = rw (lt-ltb _ _ p, drop-drop (suc (position_in 10 (drop from l))) from l, b, a) } }
+feed_place : (l : List ℕ) → position_in 10 l ≡ position_or_len (λ b. eqb b 10) l
+feed_place = is_position_or_len (position_in 10) (λ b. eqb b 10) refl (λ y l. rw (eqb_swap 10 y) (ap (λ n. cond (eqb 10 y) 0 n) (omega arith)))
 
--- the bytes from `at` on, as a part that ends where the input does
+no_feed : (l : List ℕ) → None ≡ position (λ b. eqb b 10) l → to_feed l ≡ nothing
+unfolding to_feed
+no_feed l e =
+    rw (feed_place l)
+    (cases (ltb (position_or_len (λ b. eqb b 10) l) (length l)) (λ q. absurd (none-some _ (rw q at e))) (λ q. rw q))
+
+fed : (l : List ℕ) (n : ℕ) → Some n ≡ position (λ b. eqb b 10) l → (to_feed l ≡ got (take n l) (drop (suc n) l)) × (n < length l)
+unfolding to_feed
+fed l n e =
+    let s = cond_some _ _ _ (sym e) in
+    rw (feed_place l, s.0, s.1) (refl, ltb-true _ _ (rw s.1 at s.0))
+
+-- a line from `at` on, by the library's test of its key and what is behind it
 module _ (l key : List ℕ) (at : ℕ) where
   whole : take (length l - at) (drop at l) ≡ drop at l
   whole = take_all (length l - at) (drop at l) (omega (arith, length-drop at l))
 
-  pub key_missing : begins key (take (length l - at) (drop at l)) ≡ false → bytes_line key (drop at l) ≡ nothing
+  pub key_missing : pointwise eqb (take (length key) (take (length l - at) (drop at l))) key ≡ false → bytes_line key (drop at l) ≡ nothing
   unfolding bytes_line
-  key_missing e = rw (rw whole at e)
+  key_missing e = rw (rw (whole, key_test key (drop at l)) at e)
 
-  pub key_fits : at ≤ length l → begins key (take (length l - at) (drop at l)) ≡ true → at + length key ≤ length l
-  key_fits h e = omega (arith, begins-length key (drop at l) (rw whole at e), length-drop at l)
+  module _ (rest : List ℕ) (key-is : pointwise eqb (take (length key) (take (length l - at) (drop at l))) key ≡ true) (is : rest ≡ drop (length key) (take (length l - at) (drop at l))) where
+    after_key : bytes_line key (drop at l) ≡ to_feed rest
+    unfolding bytes_line
+    after_key = rw (rw (whole, key_test key (drop at l)) at key-is, is, whole)
 
-  after_key : begins key (take (length l - at) (drop at l)) ≡ true → bytes_line key (drop at l) ≡ to_feed (drop (at + length key) l)
-  unfolding bytes_line
-  after_key e = rw (rw whole at e, drop-drop (length key) at l)
+    pub feed_missing : None ≡ position (λ b. eqb b 10) rest → bytes_line key (drop at l) ≡ nothing
+    feed_missing e = after_key ∙ no_feed rest e
 
-  -- with the first line feed past it, or the input's end
-  module _ (past : ℕ) (key-is : begins key (take (length l - at) (drop at l)) ≡ true) (h : at + length key ≤ length l) (is : past ≡ at + length key + position_in 10 (drop (at + length key) l)) where
-    pub feed_missing : past ≡ length l → bytes_line key (drop at l) ≡ nothing
-    feed_missing e = after_key key-is ∙ no_feed l (at + length key) past is h e
-
-    pub line_there : (past ≡ length l → ⊥) → PartReached l (at + length key) (bytes_line key (drop at l)) (at + length key) past
-    line_there n = rw (after_key key-is) (fed l (at + length key) past is h n)
+    pub line_there : (n : ℕ) → Some n ≡ position (λ b. eqb b 10) rest → PartReached l (at + length key) (bytes_line key (drop at l)) (at + length key) (at + length key + n)
+    line_there n e =
+        let f = fed rest n e in
+        let there : rest ≡ drop (at + length key) l = is ∙ rw whole (drop-drop (length key) at l) in
+        let long : length rest ≡ length l - (at + length key) = ap length there ∙ length-drop (at + length key) l in
+        let a : at + length key + n - (at + length key) ≡ n = omega arith in
+        let b : at + length key + n + 1 ≡ at + length key + suc n = omega arith in
+        record {
+          begun = refl;
+          forward = omega arith;
+          reached = record { within = omega (arith, f.1); is = after_key ∙ f.0 ∙ rw (a, b, there, drop-drop (suc n) (at + length key) l) };
+        }
 
 -- a number's digits, by how many there are and the first of them
 module _ (most : ℕ) where
-  pub no_digit : (l : List ℕ) → length l ≡ 0 → decimal_in most l ≡ none
+  pub no_digit : (l : List ℕ) → length l ≡ 0 → decimal_in most l ≡ None
   unfolding decimal_in well_led
   no_digit [] e = refl
   no_digit (b ∷ l) e = absurd (omega arith)
 
-  pub leading_zero : (l : List ℕ) → 1 < length l → get_or l 0 0 ≡ 48 → decimal_in most l ≡ none
+  pub leading_zero : (l : List ℕ) → 1 < length l → get_or l 0 0 ≡ 48 → decimal_in most l ≡ None
   unfolding decimal_in well_led
   leading_zero [] h e = absurd (omega arith)
   leading_zero (b ∷ []) h e = absurd (omega arith)
@@ -90,10 +105,10 @@ module _ {A : Type 0} (read : List ℕ → Option A) (key rest : List ℕ) where
   value_missing e = rw e
 
   module _ (l : List ℕ) (keyed from past : ℕ) (there : PartReached l keyed (bytes_line key rest) from past) where
-    pub value_broken : read (part from past l) ≡ none → value_line read key rest ≡ nothing
+    pub value_broken : read (part from past l) ≡ None → value_line read key rest ≡ nothing
     unfolding value_line onward
     value_broken e = rw (there.reached.is, e)
 
-    pub value_there : (a : A) → read (part from past l) ≡ some a → Reached l (value_line read key rest) a (past + 1)
+    pub value_there : (a : A) → read (part from past l) ≡ Some a → Reached l (value_line read key rest) a (past + 1)
     unfolding value_line onward
     value_there a e = record { within = there.reached.within; is = rw (there.reached.is, e) }

@@ -1,7 +1,6 @@
 -- What the code computes: readers of bytes that give what they got and the bytes behind it, or nothing.
 -- That they take exactly what Writing writes is said in Back.
-use Rattle.std.specs.Prelude.{Bool, true, false, cond, not, List, [], ◌∷◌, ℕ, zero, suc, ◌+◌, ◌-◌, ◌*◌, ℤ, pos, negsuc, eqb, leb, ltb, length, take, drop}
-use Rattle.std.proofs.Math.Option.{Option, none, some}
+use Rattle.std.specs.Prelude.{Option, Some, None, Bool, true, false, cond, not, List, [], ◌∷◌, ℕ, zero, suc, ◌+◌, ◌-◌, ◌*◌, ℤ, pos, negsuc, eqb, leb, ltb, length, take, drop}
 use Rattle.base.specs.Lists.{every, begins, position_in}
 use Rattle.lines.specs.Writing.{ascii}
 
@@ -33,8 +32,8 @@ bytes_line key l = cond (begins key l) (to_feed (drop (length key) l)) nothing
 
 -- one with a value that is read by itself
 abbrev pub valued : {A : Type 0} → Option A → Reader A
-valued none l = nothing
-valued (some a) l = got a l
+valued None l = nothing
+valued (Some a) l = got a l
 
 unfoldable pub value_line : {A : Type 0} → (List ℕ → Option A) → List ℕ → Reader A
 value_line read key = do
@@ -49,8 +48,8 @@ unfoldable pub digit_fits : ℕ → ℕ → ℕ → Bool
 digit_fits most value b = every (leb 48 b ∷ leb b 57 ∷ leb (grown value b) most ∷ [])
 
 unfoldable pub grown_by : ℕ → ℕ → List ℕ → Option ℕ
-grown_by most value [] = some value
-grown_by most value (b ∷ l) = cond (digit_fits most value b) (grown_by most (grown value b) l) none
+grown_by most value [] = Some value
+grown_by most value (b ∷ l) = cond (digit_fits most value b) (grown_by most (grown value b) l) None
 
 -- whether there is a first digit, which is 0 only if it is the last
 unfoldable pub well_led : List ℕ → Bool
@@ -59,17 +58,17 @@ well_led (b ∷ []) = true
 well_led (b ∷ c ∷ l) = not (eqb b 48)
 
 unfoldable pub decimal_in : ℕ → List ℕ → Option ℕ
-decimal_in most l = cond (well_led l) (grown_by most 0 l) none
+decimal_in most l = cond (well_led l) (grown_by most 0 l) None
 
 -- below 0; none for "-0"
 abbrev pub negated : Option ℕ → Option ℤ
-negated none = none
-negated (some zero) = none
-negated (some (suc n)) = some (negsuc n)
+negated None = None
+negated (Some zero) = None
+negated (Some (suc n)) = Some (negsuc n)
 
 abbrev pub positive : Option ℕ → Option ℤ
-positive none = none
-positive (some n) = some (pos n)
+positive None = None
+positive (Some n) = Some (pos n)
 
 unfoldable pub signed_in : List ℕ → Option ℤ
 signed_in l = cond (begins (ascii "-") l) (negated (decimal_in 2147483648 (drop 1 l))) (positive (decimal_in 2147483647 l))

@@ -1,17 +1,9 @@
 -- What an answer of the code says of what its reader got: the same value, and the place where the bytes behind it begin.
-use Rattle.std.specs.Prelude.{◌≡◌, List, ℕ, ◌+◌, ◌-◌, ◌≤◌, ℤ, length, take, drop}
-use Rattle.std.proofs.Math.Option.{Option, none, some}
+use Rattle.std.specs.Prelude.{◌≡◌, Option, Some, None, List, ℕ, ◌+◌, ◌-◌, ◌≤◌, length, take, drop}
+use Rattle.std.specs.Fn.{Shared, FnReturnsAt}
+use Rattle.std.specs.Borrow.{Bor}
+use Rattle.std.specs.declared.ops.Range.{Range}
 use Rattle.lines.specs.Reads.{Got, got, nothing}
-use Rattle.lines.specs.declared.reading.Bytes.{Bytes}
-use Rattle.lines.specs.declared.reading.Bytes.TheVariants as bytes
-use Rattle.lines.specs.declared.reading.Unsigned.{Unsigned}
-use Rattle.lines.specs.declared.reading.Unsigned.TheVariants as unsigned
-use Rattle.lines.specs.declared.reading.Signed.{Signed}
-use Rattle.lines.specs.declared.reading.Signed.TheVariants as signed
-use Rattle.lines.specs.declared.reading.Decimal.{Decimal}
-use Rattle.lines.specs.declared.reading.Decimal.TheVariants as decimal
-use Rattle.lines.specs.declared.reading.SignedDecimal.{SignedDecimal}
-use Rattle.lines.specs.declared.reading.SignedDecimal.TheVariants as signed_decimal
 
 -- the bytes from one place of the input to another
 abbrev pub part : ℕ → ℕ → List ℕ → List ℕ
@@ -28,22 +20,14 @@ pub record PartReached (input : List ℕ) (keyed : ℕ) (f : Got (List ℕ)) (fr
   pub forward : from ≤ past
   pub reached : Reached input f (part from past input) (past + 1)
 
-abbrev pub SaysBytes : List ℕ → ℕ → Got (List ℕ) → Bytes → Type 0
-SaysBytes input keyed f (bytes.Part from past) = PartReached input keyed f from past
-SaysBytes input keyed f bytes.Malformed = f ≡ nothing
+abbrev pub SaysBytes : List ℕ → ℕ → Got (List ℕ) → Option (Range ℕ) → Type 0
+SaysBytes input keyed f (Some value) = PartReached input keyed f value.start value.end
+SaysBytes input keyed f None = f ≡ nothing
 
-abbrev pub SaysUnsigned : List ℕ → Got ℕ → Unsigned → Type 0
-SaysUnsigned input f (unsigned.Number n next) = Reached input f n next
-SaysUnsigned input f unsigned.Malformed = f ≡ nothing
+abbrev pub Says : {A : Type 0} → List ℕ → Got A → Option (A × ℕ) → Type 0
+Says input f (Some line) = Reached input f line.0 line.1
+Says input f None = f ≡ nothing
 
-abbrev pub SaysSigned : List ℕ → Got ℤ → Signed → Type 0
-SaysSigned input f (signed.Number n next) = Reached input f n next
-SaysSigned input f signed.Malformed = f ≡ nothing
-
-abbrev pub said_number : Option ℕ → Decimal
-said_number none = decimal.Malformed
-said_number (some n) = decimal.Number n
-
-abbrev pub said_signed : Option ℤ → SignedDecimal
-said_signed none = signed_decimal.Malformed
-said_signed (some n) = signed_decimal.Number n
+-- a call of this closure on some bytes gives what is read of them
+abbrev pub ReadsBy : {F A : Type 0} → Shared F (Bor (List ℕ) × Unit {0}) (Option A) → F → (List ℕ → Option A) → Type 0
+ReadsBy g f read = (bytes : List ℕ) (r : Option _) → FnReturnsAt g f bytes r → r ≡ read bytes

@@ -7,12 +7,9 @@ pub fn put(out: &mut [u8], at: usize, bytes: &[u8]) -> usize
     requires { RoomAt out.old at bytes.now }
     ensures { Puts (given bytes) out.old at out.new result }
 {
-    let mut i = 0;
-    while i < bytes.len() {
-        out[at + i] = bytes[i];
-        i += 1;
-    }
-    at + i
+    let past = at + bytes.len();
+    out[at..past].copy_from_slice(bytes);
+    past
 }
 
 // A line whose value may be any bytes.

@@ -4,56 +4,61 @@ use native.Mathlib.Omega.{arith}
 use mir.Syntax.{w32}
 use mir.Facts.{to_z-of_z}
 use borrow.Author.Rules.{rules}
+use Rattle.std.proofs.lemmas.Result.{err_from_is_err_and}
 use Rattle.lines.specs.Reads.{onward}
 use Rattle.desk_form.specs.Reads.{stand_by, past, first_bad}
+use Rattle.desk_form.proofs.Readings.{torn_at}
 use Rattle.desk_form.proofs.group.read_by.Goals as goal
 
-pub returns-in_default : goal.returns-in_default
+pub returns-in_err-name : goal.returns-in_err-name
 unfolding stand_by first_bad past onward
-returns-in_default c = let e = c.in_default.ensures in record { none = rw e; bad = rw e; of_four = omega arith }
+returns-in_err-name c =
+    let p = err_from_is_err_and c.from_residual.result c.from_residual.ensures.1 in
+    let torn = torn_at _ _ _ c.in_err-name.ensures.value in
+    let e = rw torn.0 at c.bytes_line.ensures in
+    rw (p.1, p.2, torn.1) (record { none = rw e; bad = rw e; of_four = omega arith })
 
-pub overflow_add-past : goal.overflow_add-past
-overflow_add-past c = omega (arith, c.in-Part.ensures.reached.within)
-
-pub signed_line-requires : goal.signed_line-requires
-signed_line-requires c = c.in-Part.ensures.reached.within
-
-pub returns-in_default-signed_line : goal.returns-in_default-signed_line
+pub returns-in_err-east : goal.returns-in_err-east
 unfolding stand_by first_bad past onward
-returns-in_default-signed_line c =
-    let b = c.in-Part.ensures.reached.is in
-    let e = c.in_default-signed_line.ensures in
-    record { none = rw (b, e); bad = rw (b, e); of_four = omega arith }
+returns-in_err-east c =
+    let p = err_from_is_err_and c.from_residual-in_err-east.result c.from_residual-in_err-east.ensures.1 in
+    let torn = torn_at _ _ _ c.in_err-east.ensures.value in
+    let name = (rw c.in_ok-name.ensures.ok_part at c.bytes_line.ensures).reached.is in
+    let e = rw torn.0 at c.signed_line.ensures in
+    rw (p.1, p.2, torn.1) (record { none = rw (name, e); bad = rw (name, e); of_four = omega arith })
 
-pub signed_line-requires-2 : goal.signed_line-requires-2
-signed_line-requires-2 c = c.in-Number.ensures.within
-
-pub returns-in_default-signed_line-2 : goal.returns-in_default-signed_line-2
+pub returns-in_err-north : goal.returns-in_err-north
 unfolding stand_by first_bad past onward
-returns-in_default-signed_line-2 c =
-    let b = c.in-Part.ensures.reached.is in
-    let x = c.in-Number.ensures.is in
-    let e = c.in_default-signed_line-2.ensures in
-    record { none = rw (b, x, e); bad = rw (b, x, e); of_four = omega arith }
+returns-in_err-north c =
+    let p = err_from_is_err_and c.from_residual-in_err-north.result c.from_residual-in_err-north.ensures.1 in
+    let torn = torn_at _ _ _ c.in_err-north.ensures.value in
+    let name = (rw c.in_ok-name.ensures.ok_part at c.bytes_line.ensures).reached.is in
+    let east = (rw c.in_ok-east.ensures.ok_part at c.signed_line.ensures).is in
+    let e = rw torn.0 at c.signed_line-2.ensures in
+    rw (p.1, p.2, torn.1) (record { none = rw (name, east, e); bad = rw (name, east, e); of_four = omega arith })
 
-pub unsigned_line-requires : goal.unsigned_line-requires
-unsigned_line-requires c = c.in-Number-signed_line.ensures.within
-
-pub returns-in_default-unsigned_line : goal.returns-in_default-unsigned_line
+pub returns-in_err-score : goal.returns-in_err-score
 unfolding stand_by first_bad past onward
-returns-in_default-unsigned_line c =
-    let b = c.in-Part.ensures.reached.is in
-    let x = c.in-Number.ensures.is in
-    let y = c.in-Number-signed_line.ensures.is in
-    let e = c.in_default-unsigned_line.ensures in
-    record { none = rw (b, x, y, e); bad = rw (b, x, y, e); of_four = omega arith }
+returns-in_err-score c =
+    let p = err_from_is_err_and c.from_residual-in_err-score.result c.from_residual-in_err-score.ensures.1 in
+    let torn = torn_at _ _ _ c.in_err-score.ensures.value in
+    let name = (rw c.in_ok-name.ensures.ok_part at c.bytes_line.ensures).reached.is in
+    let east = (rw c.in_ok-east.ensures.ok_part at c.signed_line.ensures).is in
+    let north = (rw c.in_ok-north.ensures.ok_part at c.signed_line-2.ensures).is in
+    let e = rw torn.0 at c.unsigned_line.ensures in
+    rw (p.1, p.2, torn.1) (record { none = rw (name, east, north, e); bad = rw (name, east, north, e); of_four = omega arith })
 
 pub returns : goal.returns
 unfolding stand_by onward
 returns c =
-    let b = c.in-Part.ensures in
-    let x = c.in-Number.ensures in
-    let y = c.in-Number-signed_line.ensures in
-    let score = c.in-Number-unsigned_line.ensures in
-    rw (to_z-of_z {w = w32} {z = c.in-Number.east} (search rules), to_z-of_z {w = w32} {z = c.in-Number-signed_line.north} (search rules))
-    (record { begun = b.begun; forward = b.forward; inside = omega (arith, b.reached.within); reached = record { within = score.within; is = rw (b.reached.is, x.is, y.is, score.is) } })
+    let name = rw c.in_ok-name.ensures.ok_part at c.bytes_line.ensures in
+    let east = rw c.in_ok-east.ensures.ok_part at c.signed_line.ensures in
+    let north = rw c.in_ok-north.ensures.ok_part at c.signed_line-2.ensures in
+    let score = rw c.in_ok-score.ensures.ok_part at c.unsigned_line.ensures in
+    rw (to_z-of_z {w = w32} {z = c.in_ok-east.east} (search rules), to_z-of_z {w = w32} {z = c.in_ok-north.north} (search rules))
+    (record {
+      begun = name.begun;
+      forward = name.forward;
+      inside = omega (arith, name.reached.within);
+      reached = record { within = score.within; is = rw (name.reached.is, east.is, north.is, score.is) };
+    })

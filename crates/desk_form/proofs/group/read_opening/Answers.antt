@@ -7,35 +7,26 @@ use Rattle.lines.specs.Reads.{onward}
 use Rattle.desk_form.specs.Reads.{grid_lines}
 use Rattle.desk_form.proofs.group.read_opening.Goals as goal
 
-pub returns-in_default : goal.returns-in_default
+pub returns-in_err-west : goal.returns-in_err-west
 unfolding grid_lines onward
-returns-in_default c = rw c.in_default.ensures
+returns-in_err-west c = rw (c.from_residual.ensures, c.in_err-west.ensures)
 
-pub signed_line-requires-2 : goal.signed_line-requires-2
-signed_line-requires-2 c = c.in-Number.ensures.within
-
-pub returns-in_default-signed_line : goal.returns-in_default-signed_line
+pub returns-in_err-south : goal.returns-in_err-south
 unfolding grid_lines onward
-returns-in_default-signed_line c = rw (c.in-Number.ensures.is, c.in_default-signed_line.ensures)
+returns-in_err-south c = rw (c.from_residual-in_err-south.ensures, c.in_ok-west.ensures.is, c.in_err-south.ensures)
 
-pub unsigned_line-requires : goal.unsigned_line-requires
-unsigned_line-requires c = c.in-Number-signed_line.ensures.within
-
-pub returns-in_default-unsigned_line : goal.returns-in_default-unsigned_line
+pub returns-in_err-cell : goal.returns-in_err-cell
 unfolding grid_lines onward
-returns-in_default-unsigned_line c = rw (c.in-Number.ensures.is, c.in-Number-signed_line.ensures.is, c.in_default-unsigned_line.ensures)
+returns-in_err-cell c = rw (c.from_residual-in_err-cell.ensures, c.in_ok-west.ensures.is, c.in_ok-south.ensures.is, c.in_err-cell.ensures)
 
-pub unsigned_line-requires-2 : goal.unsigned_line-requires-2
-unsigned_line-requires-2 c = c.in-Number-unsigned_line.ensures.within
-
-pub returns-in_default-unsigned_line-2 : goal.returns-in_default-unsigned_line-2
+pub returns-in_err-stands : goal.returns-in_err-stands
 unfolding grid_lines onward
-returns-in_default-unsigned_line-2 c =
-    rw (c.in-Number.ensures.is, c.in-Number-signed_line.ensures.is, c.in-Number-unsigned_line.ensures.is, c.in_default-unsigned_line-2.ensures)
+returns-in_err-stands c =
+    rw (c.from_residual-in_err-stands.ensures, c.in_ok-west.ensures.is, c.in_ok-south.ensures.is, c.in_ok-cell.ensures.is, c.in_err-stands.ensures)
 
 pub returns : goal.returns
 unfolding grid_lines onward
 returns c =
-    let stands = c.in-Number-unsigned_line-2.ensures in
-    rw (to_z-of_z {w = w32} {z = c.in-Number.west} (search rules), to_z-of_z {w = w32} {z = c.in-Number-signed_line.south} (search rules))
-    (record { within = stands.within; is = rw (c.in-Number.ensures.is, c.in-Number-signed_line.ensures.is, c.in-Number-unsigned_line.ensures.is, stands.is) })
+    let stands = c.in_ok-stands.ensures in
+    rw (to_z-of_z {w = w32} {z = c.in_ok-west.west} (search rules), to_z-of_z {w = w32} {z = c.in_ok-south.south} (search rules))
+    (record { within = stands.within; is = rw (c.in_ok-west.ensures.is, c.in_ok-south.ensures.is, c.in_ok-cell.ensures.is, stands.is) })

@@ -5,23 +5,25 @@ use mir.Facts.{to_z-of_z}
 use borrow.Author.Rules.{rules}
 use Rattle.lines.specs.Reads.{onward}
 use Rattle.desk_form.specs.Reads.{question_lines}
+use Rattle.desk_form.proofs.Readings.{ok_given, ok_missing}
 use Rattle.desk_form.proofs.group.read_question.Goals as goal
 
-pub returns-in_default : goal.returns-in_default
+pub returns-in_err-four : goal.returns-in_err-four
 unfolding question_lines onward
-returns-in_default c = rw c.in_default.ensures.none
+returns-in_err-four c =
+    let torn = ok_missing c.read_by.result c.in_err-four.ensures.value in
+    rw (c.from_residual.ensures, (rw torn.1 at c.read_by.ensures).none)
 
-pub unsigned_line-requires : goal.unsigned_line-requires
-unsigned_line-requires c = c.in-Lines.ensures.reached.within
-
-pub returns-in_default-unsigned_line : goal.returns-in_default-unsigned_line
+pub returns-in_err-k : goal.returns-in_err-k
 unfolding question_lines onward
-returns-in_default-unsigned_line c = rw (c.in-Lines.ensures.reached.is, c.in_default-unsigned_line.ensures)
+returns-in_err-k c =
+    let four = rw (ok_given c.read_by.result _ c.in_ok-four.ensures.value) at c.read_by.ensures in
+    rw (c.from_residual-in_err-k.ensures, four.reached.is, c.in_err-k.ensures)
 
 pub returns : goal.returns
 unfolding question_lines onward
 returns c =
-    let h = c.in-Lines.ensures in
-    let k = c.in-Number.ensures in
-    rw (to_z-of_z {w = w32} {z = c.in-Lines.east} (search rules), to_z-of_z {w = w32} {z = c.in-Lines.north} (search rules))
-    (record { begun = h.begun; forward = h.forward; inside = h.inside; reached = record { within = k.within; is = rw (h.reached.is, k.is) } })
+    let four = rw (ok_given c.read_by.result _ c.in_ok-four.ensures.value) at c.read_by.ensures in
+    let k = c.in_ok-k.ensures in
+    rw (to_z-of_z {w = w32} {z = c.in_ok-four.four.east} (search rules), to_z-of_z {w = w32} {z = c.in_ok-four.four.north} (search rules))
+    (record { begun = four.begun; forward = four.forward; inside = four.inside; reached = record { within = k.within; is = rw (four.reached.is, k.is) } })

@@ -1,14 +1,18 @@
--- `put` copies byte by byte: the invariant is Copying.
+-- `put` copies the bytes over the part of the room that they take.
 -- Assumes nothing.
-use borrow.Author.Rules.{rules}
-use Rattle.lines.proofs.Appending.{copy_none, copy_one, copied}
+use mathlib.Core.Path.{refl, ap, ◌∙◌}
+use mathlib.Core.List.{◌++◌}
+use native.Mathlib.Omega.{arith}
+use lib.ListN.{take}
+use Rattle.std.proofs.lemmas.Slice.{take-put_mid, drop-put_mid}
 use Rattle.lines.proofs.putting.put.Goals as goal
 
-pub loop-i-init : goal.loop-i-init
-loop-i-init c = search (rules, copy_none)
-
-pub loop-i-preserved : goal.loop-i-preserved
-loop-i-preserved c = search (rules, copy_one)
-
 pub returns : goal.returns
-returns c = search (rules, copied)
+returns c =
+    let a = c.args in
+    let same = c.copy_from_slice.ensures.after in
+    record {
+      next = refl;
+      front = take-put_mid a.at _ a.out.now _ _ (rw same (omega arith)) (omega arith) ∙ ap (λ l. take a.at a.out.now ++ l) same;
+      rest = drop-put_mid a.at _ a.out.now _ _ (omega arith) (omega arith) (rw same (omega arith));
+    }
