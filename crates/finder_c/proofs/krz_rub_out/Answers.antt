@@ -1,7 +1,5 @@
--- `finder_c::krz_rub_out` keeps the promise of the step by value, told by its refusal's number. Assumes nothing.
-use Rattle.std.proofs.Common.{rules}
-use Rattle.session.proofs.Promises.{rub_written}
+-- `krz_rub_out` tells the verdict by its refusal's number. Assumes nothing.
 use Rattle.finder_c.proofs.krz_rub_out.Goals as goal
 
 pub returns : goal.returns
-returns c = record { answer = c.rubbed_out-out.result.verdict; promised = rub_written _ _ c.rubbed_out-out.ensures (search (rules, c.rubbed_out-out.type_inv)); same = c.number.ensures }
+returns c = record { answer = c.rub_out.result; promised = c.rub_out.ensures.promise; same = c.number_of.ensures }

@@ -1,7 +1,5 @@
--- `finder_c::krz_type` keeps the promise of the step by value, told by its refusal's number. Assumes nothing.
-use Rattle.std.proofs.Common.{rules}
-use Rattle.session.proofs.Promises.{type_written}
+-- `krz_type` tells the verdict by its refusal's number. Assumes nothing.
 use Rattle.finder_c.proofs.krz_type.Goals as goal
 
 pub returns : goal.returns
-returns c = record { answer = c.with_letter-out.result.verdict; promised = type_written _ _ _ _ c.with_letter-out.ensures (search (rules, c.with_letter-out.type_inv)); same = c.number.ensures }
+returns c = record { answer = c.type_byte.result; promised = c.type_byte.ensures.promise; same = c.number_of.ensures }

@@ -1,27 +1,13 @@
--- `session::rub_out` meets its contract: each return by the tests that lead there (proofs/Steps.antt). Assumes nothing.
-use mathlib.Core.Path.{sym}
-use borrow.Author.Rules.{rules}
-use Rattle.session.specs.Strokes.{shortened}
-use Rattle.session.proofs.Steps.{rubbed_over, rubbed_none, rubbed_last, struck_by}
+-- `session::rub_out` keeps its promise by the step by value: what that gives is written, or nothing is. Assumes nothing.
+use mathlib.Core.Path.{sym, ◌∙◌}
+use Rattle.std.proofs.lemmas.Result.{err_from_is_err_and}
 use Rattle.session.proofs.Promises.{rub_written}
 use Rattle.session.proofs.rub_out.Goals as goal
 
-pub returns-then-len-gt-NAME_MOST-clause-step : goal.returns-then-len-gt-NAME_MOST-clause-step
-returns-then-len-gt-NAME_MOST-clause-step c = struck_by _ _ _ (sym (rubbed_over _ (search rules)))
+pub returns-in_err-session : goal.returns-in_err-session
+returns-in_err-session c =
+    let p = err_from_is_err_and c.from_residual.result c.from_residual.ensures.1 in
+    rw (p.1, p.2) (rub_written _ _ (sym c.in_err-session.was ∙ c.rubbed_out.ensures.step) c.rubbed_out.ensures.places)
 
-pub returns-then-len-gt-NAME_MOST-clause-promise : goal.returns-then-len-gt-NAME_MOST-clause-promise
-returns-then-len-gt-NAME_MOST-clause-promise c = rub_written _ _ (sym (rubbed_over _ (search rules))) (search rules)
-
-pub returns-then-len-eq0-clause-step : goal.returns-then-len-eq0-clause-step
-returns-then-len-eq0-clause-step c = struck_by _ _ _ (sym (rubbed_none _ (search rules)))
-
-pub returns-then-len-eq0-clause-promise : goal.returns-then-len-eq0-clause-promise
-returns-then-len-eq0-clause-promise c = rub_written _ _ (sym (rubbed_none _ (search rules))) (search rules)
-
-pub returns-clause-step : goal.returns-clause-step
-unfolding shortened
-returns-clause-step c = struck_by _ _ _ (sym (rubbed_last _ (search rules) (search rules)))
-
-pub returns-clause-promise : goal.returns-clause-promise
-unfolding shortened
-returns-clause-promise c = rub_written _ _ (sym (rubbed_last _ (search rules) (search rules))) (search rules)
+pub returns : goal.returns
+returns c = rub_written _ _ (sym c.in_ok-session.was ∙ c.rubbed_out.ensures.step) c.rubbed_out.ensures.places

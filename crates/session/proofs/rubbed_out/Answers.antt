@@ -1,0 +1,16 @@
+-- `session::rubbed_out` meets its contract: each return by the tests that lead there (proofs/Steps.antt). Assumes nothing.
+use mathlib.Core.Path.{sym}
+use borrow.Author.Rules.{rules}
+use Rattle.session.specs.Strokes.{shortened}
+use Rattle.session.proofs.Steps.{rubbed_over, rubbed_none, rubbed_last}
+use Rattle.session.proofs.rubbed_out.Goals as goal
+
+pub returns-then-len-gt-NAME_MOST-clause-step : goal.returns-then-len-gt-NAME_MOST-clause-step
+returns-then-len-gt-NAME_MOST-clause-step c = sym (rubbed_over _ (search rules))
+
+pub returns-then-len-eq0-clause-step : goal.returns-then-len-eq0-clause-step
+returns-then-len-eq0-clause-step c = sym (rubbed_none _ (search rules))
+
+pub returns-clause-step : goal.returns-clause-step
+unfolding shortened
+returns-clause-step c = sym (rubbed_last _ (search rules) (search rules))
