@@ -6,11 +6,12 @@ use mathlib.Core.List.{[], ◌∷◌}
 use Prim.Native.Nat.{ℕ, ◌*◌, ◌≤◌, ◌<◌}
 use native.Mathlib.Omega.{arith}
 use lib.ListN.{set}
+use Rattle.std.specs.Int.{from_bool}
 use Rattle.base.specs.Lists.{every}
 use Rattle.base.proofs.Tests.{every-at, every_of}
 use Rattle.node.specs.declared.cursor.Cursor.{Cursor}
 use Rattle.node.specs.Columns.{IndexColumns, bits_among}
-use Rattle.node.specs.Visits.{Visit, root_cursor, kept_in, served_in}
+use Rattle.node.specs.Visits.{Visit, root_cursor, keeps_in, served_in, kept_of}
 use Rattle.node.specs.Rows.{stands_at, bits_at, entries_at}
 use Rattle.std.specs.Prelude.{Option, Some, None}
 use Rattle.node.specs.declared.Work.{Work}
@@ -33,7 +34,7 @@ bits_are : (t : IndexColumns) (v : Visit) → bits_at t v ≡ bits_among t.regio
 unfolding bits_at
 bits_are t v = refl
 
-kept_is : (t : IndexColumns) (a : Trail) (v : Visit) → (served_at t a v).kept ≡ kept_in a.above.regions v.length (bits_at t v)
+kept_is : (t : IndexColumns) (a : Trail) (v : Visit) → kept_of (served_at t a v) ≡ from_bool (keeps_in a.above.regions v.length (bits_at t v))
 unfolding served_in
 kept_is t a v = refl
 

@@ -12,7 +12,7 @@ ghost use Rattle.node.specs.Visits.{visits_from, places_at};
 ghost use Rattle.words.specs.Words.{blank_work, rooms_of, CountAsks, Counted, WriteAsks, WroteAll, CheckAsks, ComparesAll};
 
 use node::cursor::{Cursor, root, step};
-use node::records::kept;
+use node::records::keeps;
 use node::tally::{grown, regions_under};
 use node::{Above, Columns, Work};
 use order::places_of;
@@ -46,9 +46,9 @@ pub fn count(columns: Columns, all: u32) -> Counts
     while cursor.number.0 < all {
         let length = cursor.length;
         let bits = regions_under(columns, cursor.stand, length);
-        let own = kept(&regions, length, bits);
+        let own = keeps(&regions, length, bits);
         regions[usize::from(length)] = bits;
-        cursor = step(columns, cursor, u64::count_ones(bits), own);
+        cursor = step(columns, cursor, u64::count_ones(bits), u32::from(own));
     }
     Counts {
         entries: cursor.entries,

@@ -27,7 +27,7 @@ pub fn write_node(
     let entry = cursor.entries as usize * ENTRY_WORDS;
     put_entries(entries, entry, work, gathered.held);
     let record = cursor.records as usize * RECORD_WORDS;
-    put_record(bits, record, served.kept, gathered.bits);
+    put_record(bits, record, served.own, gathered.bits);
     work.advance(columns, cursor, gathered, served)
 }
 
@@ -54,7 +54,7 @@ pub fn check_node(
         return None;
     }
     let record = cursor.records as usize * RECORD_WORDS;
-    if !has_record(bits, record, served.kept, gathered.bits) {
+    if !has_record(bits, record, served.own, gathered.bits) {
         return None;
     }
     Some(work.advance(columns, cursor, gathered, served))

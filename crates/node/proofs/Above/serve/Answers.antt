@@ -1,12 +1,12 @@
 -- `node::Above::serve` meets its contract, by the record that is kept or not. Assumes nothing.
-use borrow.Author.Tests.{eq-eqb, ne_eqb}
+use mathlib.Core.Path.{sym, ◌∙◌}
 use Rattle.node.specs.Visits.{served_in}
 use Rattle.node.proofs.Above.serve.Goals as goal
 
-pub returns-then-kept-eq1 : goal.returns-then-kept-eq1
+pub returns-then-own : goal.returns-then-own
 unfolding served_in
-returns-then-kept-eq1 c = rw (← c.kept-kept.ensures, eq-eqb _ _ c.if-kept-eq1.true)
+returns-then-own c = rw (← c.keeps-own.ensures, c.if-own.true)
 
-pub returns : goal.returns
+pub returns-else-own : goal.returns-else-own
 unfolding served_in
-returns c = rw (← c.kept-kept.ensures, ne_eqb _ _ c.if-kept-eq1.false, c.parent_of.ensures)
+returns-else-own c = rw (← c.keeps-own.ensures, c.parent_of-number.ensures, c.if-own.false)
