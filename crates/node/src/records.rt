@@ -14,6 +14,7 @@ pub struct Served {
 }
 
 // Whether a node with these regions keeps a record of its own. The root, which has no node above it, keeps one.
+#[tactic(auto, unfolding(crate::specs::Visits::keeps_in))]
 pub fn keeps(regions: &RegionPath, length: u8, bits: u64) -> bool
     requires { length ≤ 24 }
     ensures { result ≡ keeps_in regions.now length bits }
@@ -23,6 +24,7 @@ pub fn keeps(regions: &RegionPath, length: u8, bits: u64) -> bool
 
 impl Above {
     // The record that serves the cursor's node, which has these regions: the next one, or that of the node above it.
+    #[tactic(auto, unfolding(crate::specs::Visits::served_in))]
     pub fn serve(&self, cursor: Cursor, bits: u64) -> Served
         requires { cursor.length ≤ 24 }
         ensures { result ≡ served_in self.now.records self.now.regions cursor.length cursor.records bits }
