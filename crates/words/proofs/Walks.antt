@@ -29,7 +29,7 @@ use Rattle.node.proofs.Ends.{grown_small}
 use Rattle.node.proofs.Placing.{regions_are}
 use Rattle.node.proofs.Gathering.{entries_held}
 use Rattle.node.proofs.Steps.{visits_first, visits_done}
-use Rattle.words.specs.Words.{entry_rows, Trail, root_trail, served_at, trail_past, row_of, kept_words, own_record, rows_from, records_from, entry_words_from, count_from, kept_from, none_yet, node_count_of, Counted, visit_of, trail_of, blank_work, Scratch, Standing, Moved}
+use Rattle.words.specs.Words.{entry_rows, Trail, root_trail, served_at, trail_past, row_of, kept_words, own_record, rows_from, records_from, entry_words_from, count_from, kept_from, none_yet, node_count_of, visit_of, trail_of, blank_work, Scratch, Standing, Moved}
 use Rattle.words.proofs.Overs.{Next, length_rows}
 
 abbrev pub rest_of : List ℕ → List ℕ → Cursor → List Visit
@@ -147,10 +147,11 @@ module _ {lengths shared region : List ℕ} {all : ℕ} where
           kept_far = omega (arith, s.kept_far, p.records, rw e at k, ap (kept_from shared region above) rest, more);
         }
 
-  pub counting_end : {above : List ℕ} {c : Cursor} → Counting lengths shared region all above c → all ≤ c.number.0 → Counted lengths shared region (record { entries = c.entries; records = c.records })
+  pub counting_end : {above : List ℕ} {c : Cursor} → Counting lengths shared region all above c → all ≤ c.number.0
+      → (c.entries ≡ count_from shared region (visits_from lengths shared 0 0)) × (c.records ≡ kept_from shared region none_yet (visits_from lengths shared 0 0))
   counting_end {above} s h =
       let none = going_end s.way h in
-      record { entries = omega (arith, s.so_far, ap (count_from shared region) none); records = omega (arith, s.kept_far, ap (kept_from shared region above) none) }
+      (omega (arith, s.so_far, ap (count_from shared region) none), omega (arith, s.kept_far, ap (kept_from shared region above) none))
 
 pub length-row : (t : IndexColumns) (a : Trail) (v : Visit) → length (row_of t a v) ≡ 8
 unfolding row_at

@@ -2,6 +2,8 @@
 use Rattle.std.specs.Prelude.{◌≡◌, Option, Some, None, Bool, true, false, cond, List, [], ◌∷◌, ◌++◌, ℕ, suc, ◌+◌, ◌*◌, ◌≤◌, ◌<◌, eqb, length, drop, set, replicate}
 use Rattle.std.specs.Int.{from_bool}
 use Rattle.base.specs.Lists.{every, each, each_list, total, begins}
+use Rattle.rules.specs.declared.Index as lent
+use Rattle.rules.specs.declared.Sizes.{Sizes}
 use Rattle.rules.specs.Indexes.{Entry, entry_row}
 use Rattle.node.specs.declared.cursor.Cursor.{Cursor}
 use Rattle.node.specs.declared.records.Served.{Served}
@@ -10,7 +12,6 @@ use Rattle.node.specs.declared.Work.{Work}
 use Rattle.node.specs.Columns.{IndexColumns, LawfulColumns, Grows, Placed, at, end_of, regions_among, bits_among, entries_from, Sized}
 use Rattle.node.specs.Visits.{Visit, visits_from, places_at, On, Stepped, above_of, Long, on_path, above_in, keeps_in, served_in, kept_of, halves_of}
 use Rattle.node.specs.Rows.{stands_at, bits_at, entries_at, row_at}
-use Rattle.words.specs.declared.Counts.{Counts}
 use Rattle.words.specs.Over.{over}
 
 abbrev pub entry_rows : List Entry → List ℕ
@@ -112,21 +113,21 @@ pub record Rooms : Type 0 where
 abbrev pub rooms_of : List ℕ → List ℕ → List ℕ → Rooms
 rooms_of nodes entries bits = record { nodes = nodes; entries = entries; bits = bits }
 
+-- those of an index
+abbrev pub rooms_in : lent.Index → Rooms
+rooms_in x = rooms_of x.nodes.now x.entries.now x.bits.now
+
 -- ---- what counting, writing and checking ask, and what they leave
 
-pub record CountAsks (lengths shared region : List ℕ) (all : ℕ) : Type 0 where
-  pub grows : Grows lengths shared
-  pub placed : Placed region
-  pub same : length region ≡ length lengths
-  pub count : all ≡ length (visits_from lengths shared 0 0)
+pub record CountAsks (t : IndexColumns) : Type 0 where
+  pub grows : Grows t.lengths t.shared
+  pub placed : Placed t.region
+  pub same : length t.region ≡ length t.lengths
 
-pub record Counted (lengths shared region : List ℕ) (c : Counts) : Type 0 where
-  pub entries : c.entries ≡ count_from shared region (visits_from lengths shared 0 0)
-  pub records : c.records ≡ kept_from shared region none_yet (visits_from lengths shared 0 0)
-
-pub record CheckAsks (t : IndexColumns) (all : ℕ) : Type 0 where
-  pub lawful : LawfulColumns t
-  pub count : all ≡ node_count_of t
+pub record Counted (t : IndexColumns) (s : Sizes) : Type 0 where
+  pub nodes : s.nodes ≡ node_count_of t
+  pub entries : s.entries ≡ entry_count_of t
+  pub records : s.bits ≡ record_count_of t
 
 pub record WriteAsks (t : IndexColumns) (all : ℕ) (rooms : Rooms) : Type 0 where
   pub lawful : LawfulColumns t
@@ -143,9 +144,9 @@ pub record WroteAll (t : IndexColumns) (rooms rooms' : Rooms) : Type 0 where
 abbrev pub has_words : IndexColumns → Rooms → Bool
 has_words t rooms = every (begins (node_words_of t) rooms.nodes ∷ begins (entry_words_of t) rooms.entries ∷ begins (bit_words_of t) rooms.bits ∷ [])
 
--- the cursor past the last node, if the rooms begin with all words
-pub record ComparesAll (t : IndexColumns) (rooms : Rooms) (v : Option Cursor) : Type 0 where
-  pub same : (r : Cursor) → v ≡ Some r → (has_words t rooms ≡ true) × (r.entries ≡ entry_count_of t) × (r.records ≡ record_count_of t)
+-- how many there are of each, if the rooms begin with all words
+pub record ComparesAll (t : IndexColumns) (rooms : Rooms) (v : Option Sizes) : Type 0 where
+  pub same : (s : Sizes) → v ≡ Some s → (has_words t rooms ≡ true) × Counted t s
   pub different : v ≡ None → has_words t rooms ≡ false
 
 -- the first so many ranked are regions

@@ -9,7 +9,7 @@ use Rattle.words.proofs.Walks.{counting, held_is, counting_fits, records_fit, co
 use Rattle.words.proofs.count.Goals as goal
 
 pub loop-cursor-init : goal.loop-cursor-init
-loop-cursor-init c = let p = c.requires in counting c.root-cursor.ensures p.grows p.count
+loop-cursor-init c = let p = c.requires in counting c.root-cursor.ensures p.grows c.count_nodes-all.ensures
 
 pub regions_under-bits-requires : goal.regions_under-bits-requires
 regions_under-bits-requires c = let p = c.requires in (p.placed, p.grows.same ∙ sym p.same)
@@ -45,4 +45,6 @@ loop-cursor-preserved c =
     counting_more s lt bits own (held_is s lt bits own) (ap (λ (l : ℕ). set c.loop-cursor.regions l c.regions_under-bits.result) c.from.ensures) c.step-cursor.ensures
 
 pub returns : goal.returns
-returns c = counting_end c.loop-cursor.invariant c.loop-cursor-test.false
+returns c =
+    let counts = counting_end c.loop-cursor.invariant c.loop-cursor-test.false in
+    record { nodes = c.count_nodes-all.ensures; entries = counts.0; records = counts.1 }
