@@ -1,6 +1,6 @@
 -- The ways out of building and checking: each answer, with the buffers that it leaves, is that of the rules.
 -- Assumes nothing.
-use mathlib.Core.Path.{◌≡◌, sym, ◌∙◌}
+use mathlib.Core.Path.{◌≡◌, refl, sym, ◌∙◌}
 use mathlib.Core.Logic.{◌⊎◌, inl, inr}
 use mathlib.Core.Bool.{Bool, true, false, cond, ◌||◌}
 use mathlib.Core.List.{List, [], ◌∷◌}
@@ -15,25 +15,21 @@ use Rattle.base.proofs.Tests.{which, or_neither, every_not}
 use Rattle.rules.specs.declared.Grid.{Grid}
 use Rattle.rules.specs.declared.Refusal.{Refusal}
 use Rattle.rules.specs.declared.Refusal.TheVariants.{BufferTooSmall}
-use Rattle.rules.specs.declared.Built.{Built}
-use Rattle.rules.specs.declared.Built.TheVariants as built
-use Rattle.rules.specs.declared.Checked.{Checked}
-use Rattle.rules.specs.declared.Checked.TheVariants as checked
-use Rattle.rules.specs.Numbers.{refusal_number, checked_numbers}
+use Rattle.std.specs.Prelude.{Result, Ok, Err, Option, Some, None}
+use Rattle.std.specs.Result.{result_ok}
+use Rattle.rules.specs.declared.Sizes.{Sizes}
+use Rattle.rules.specs.Numbers.{refusal_number, verdict_number, checked_numbers}
 use Rattle.rules.specs.Tables.{Table, LawfulTable, table_refusal}
 use Rattle.rules.specs.Indexes.{Index, index_of, order_words, node_words, entry_words, bit_words, too_small, build_refusal, build_told, index_after, set_lawful, check_told}
-use Rattle.rules.proofs.Lawful.{taken}
+use Rattle.rules.proofs.Lawful.{granted, taken}
 use Rattle.rules.proofs.Refusals.{first_given_lem}
 use Rattle.rules.proofs.Numbers.{refusal_some}
 use Rattle.node.specs.Columns.{IndexColumns}
 use Rattle.words.specs.Over.{over, order_of}
-use Rattle.node.specs.declared.cursor.Cursor.{Cursor}
-use Rattle.words.specs.declared.turn.Compared.{Compared}
-use Rattle.words.specs.declared.turn.Compared.TheVariants.{Same, Different}
-use Rattle.words.specs.Words.{node_count_of, entry_count_of, record_count_of, Rooms, rooms_of, WroteAll, has_words, ComparesAll}
+use Rattle.words.specs.Words.{node_count_of, entry_count_of, record_count_of, Counted, Rooms, rooms_of, WroteAll, has_words, ComparesAll}
 use Rattle.index.specs.Columns.{table_columns}
 use Rattle.index.specs.Promises.{BuildPromise}
-use Rattle.index.specs.Written.{too_small_for, over_all, BuiltFrom, has_all, CheckedFrom}
+use Rattle.index.specs.Written.{short_of, too_small_for, over_all, BuiltFrom, has_all, CheckedFrom}
 use Rattle.index.proofs.ByStand.{regions-length}
 use Rattle.index.proofs.Held.{order_words_lem}
 use Rattle.index.proofs.Whole.{node_count_lem, entry_count_lem, record_count_lem, node_words_lem, entry_words_lem, bit_words_lem}
@@ -52,13 +48,23 @@ module _ (t : Table) (g : Grid) (x : Index) (why : Refusal) (e : refusal_number 
   unfolding build_refusal
   refusal_is = first_given_lem (table_refusal t g) (cond (too_small t g x) 6 0) some-refusal
 
-  pub refused-built : BuildPromise t g x (built.Refused why) x
+  pub refused-built : BuildPromise t g x (Err why) x
   unfolding build_told index_after
   refused-built = record { told = rw (refusal_is, refused-some, e); buffers = rw (refusal_is, refused-some) }
 
-  pub refused-checked : checked_numbers checked.Unlawful ≡ check_told t g x
+  pub refused-checked : checked_numbers None ≡ check_told t g x
   unfolding check_told set_lawful
   refused-checked = rw (every_not (eqb (table_refusal t g) 0 ∷ begins (order_words t g) x.order ∷ begins (node_words t g) x.nodes ∷ begins (entry_words t g) x.entries ∷ begins (bit_words t g) x.bits ∷ []) 0 refused-some)
+
+-- by a verdict of which only that it was passed is kept
+module _ (t : Table) (g : Grid) {o : Option Unit} where
+  pub granted_some : (v : Result Unit Refusal) {u : Unit} → verdict_number v ≡ table_refusal t g → o ≡ result_ok v → o ≡ Some u → LawfulTable t g
+  granted_some (Ok u) e p q = granted t g (Ok u) e refl
+  granted_some (Err r) e p q = let z : ◌≡◌ {A = ℕ} 0 1 = cc in absurd (omega arith)
+
+  pub refused_none : (x : Index) (v : Result Unit Refusal) → verdict_number v ≡ table_refusal t g → o ≡ result_ok v → o ≡ None → checked_numbers None ≡ check_told t g x
+  refused_none x (Ok u) e p q = let z : ◌≡◌ {A = ℕ} 0 1 = cc in absurd (omega arith)
+  refused_none x (Err r) e p q = refused-checked t g x r e
 
 -- ---- past those, from the columns
 
@@ -79,7 +85,7 @@ module _ (t : Table) (g : Grid) (l : LawfulTable t g) (x : Index) where
   unfolding build_refusal
   refusal-past = rw (taken t g l)
 
-  pub wrote-built : (r : Built) (y : Index) → BuiltFrom (table_columns t g) x r y → BuildPromise t g x r y
+  pub wrote-built : (r : Result Sizes Refusal) (y : Index) → BuiltFrom (table_columns t g) x r y → BuildPromise t g x r y
   unfolding build_told index_after
   wrote-built r y w = step (which (too_small t g x))
     where
@@ -91,7 +97,7 @@ module _ (t : Table) (g : Grid) (l : LawfulTable t g) (x : Index) where
   unfolding has_all set_lawful every
   has-is = rw (order_words_lem g t, node_words_lem t g l, entry_words_lem t g l, bit_words_lem t g l, taken t g l)
 
-  pub compared-checked : (r : Checked) → CheckedFrom (table_columns t g) x r → checked_numbers r ≡ check_told t g x
+  pub compared-checked : (r : Option Sizes) → CheckedFrom (table_columns t g) x r → checked_numbers r ≡ check_told t g x
   unfolding check_told
   compared-checked r w = w.told ∙ rw (has-is, node_count_lem t g l, entry_count_lem t g l, record_count_lem t g l)
 
@@ -105,46 +111,46 @@ pub record Roomy (c : IndexColumns) (x : Index) : Type 0 where
   pub for-bits : record_count_of c * 2 ≤ length x.bits
 
 -- by the counts and by the test of the buffers' lengths
-module _ (c : IndexColumns) (x : Index) (n e b : ℕ) (nodes : n ≡ node_count_of c) (entries : e ≡ entry_count_of c) (records : b ≡ record_count_of c) (small : Bool)
-    (tested : small ≡ ltb (length x.order) (length c.region) || ltb (length x.nodes) (8 * n) || ltb (length x.entries) (4 * e) || ltb (length x.bits) (2 * b)) where
+module _ (c : IndexColumns) (x : Index) (s : Sizes) (counted : Counted c s) (small : Bool) (tested : small ≡ short_of x (length c.region) s) where
   small-test : too_small_for c x ≡ small
   unfolding too_small_for
-  small-test = sym (tested ∙ rw (nodes, entries, records))
+  small-test = sym (tested ∙ rw (counted.nodes, counted.entries, counted.records))
 
-  pub no_room : small ≡ true → BuiltFrom c x (built.Refused BufferTooSmall) x
+  pub no_room : small ≡ true → BuiltFrom c x (Err BufferTooSmall) x
   no_room q = record { told = rw (small-test, q); buffers = rw (small-test, q) }
 
   pub roomy : small ≡ false → Roomy c x
   roomy q =
       let o = ltb (length x.order) (length c.region) in
-      let a = or_neither (o || ltb (length x.nodes) (8 * n) || ltb (length x.entries) (4 * e)) (ltb (length x.bits) (2 * b)) (sym tested ∙ q) in
-      let d = or_neither (o || ltb (length x.nodes) (8 * n)) (ltb (length x.entries) (4 * e)) a.0 in
-      let f = or_neither o (ltb (length x.nodes) (8 * n)) d.0 in
+      let n = ltb (length x.nodes) (8 * s.nodes) in
+      let e = ltb (length x.entries) (4 * s.entries) in
+      let a = or_neither (o || n || e) (ltb (length x.bits) (2 * s.bits)) (sym tested ∙ q) in
+      let d = or_neither (o || n) e a.0 in
+      let f = or_neither o n d.0 in
       record {
         for-order = ltb-false _ _ f.0;
-        for-nodes = omega (arith, nodes, ltb-false (length x.nodes) (8 * n) f.1);
-        for-entries = omega (arith, entries, ltb-false (length x.entries) (4 * e) d.1);
-        for-bits = omega (arith, records, ltb-false (length x.bits) (2 * b) a.1);
+        for-nodes = omega (arith, counted.nodes, ltb-false (length x.nodes) (8 * s.nodes) f.1);
+        for-entries = omega (arith, counted.entries, ltb-false (length x.entries) (4 * s.entries) d.1);
+        for-bits = omega (arith, counted.records, ltb-false (length x.bits) (2 * s.bits) a.1);
       }
 
   pub wrote : small ≡ false → (order' : List ℕ) (rooms : Rooms) → order' ≡ over x.order 0 (order_of c.region) → WroteAll c (rooms_of x.nodes x.entries x.bits) rooms
-      → BuiltFrom c x (built.Index n e b) (index_of order' rooms.nodes rooms.entries rooms.bits)
+      → BuiltFrom c x (Ok s) (index_of order' rooms.nodes rooms.entries rooms.bits)
   unfolding over_all
-  wrote q order' rooms o w = record { told = rw (small-test, q, nodes, entries, records); buffers = rw (small-test, q, o, w.rows_now, w.entries_now, w.records_now) }
+  wrote q order' rooms o w =
+      record { told = rw (small-test, q, counted.nodes, counted.entries, counted.records); buffers = rw (small-test, q, o, w.rows_now, w.entries_now, w.records_now) }
 
 -- by the order and by the nodes with their entries and records, which are compared one after the other
 module _ (c : IndexColumns) (x : Index) (ordered : Bool) (tested : ordered ≡ begins (order_of c.region) x.order) where
-  pub other-order : ordered ≡ false → CheckedFrom c x checked.Unlawful
+  pub other-order : ordered ≡ false → CheckedFrom c x None
   unfolding has_all
   other-order q = record { told = rw (every_not _ 0 (sym tested ∙ q)) }
 
-  module _ (v : Compared) (compared : ComparesAll c (rooms_of x.nodes x.entries x.bits) v) where
-    has-test : ordered ≡ true → has_all c x ≡ has_words c (rooms_of x.nodes x.entries x.bits)
+  module _ (q : ordered ≡ true) where
+    has-test : has_all c x ≡ has_words c (rooms_of x.nodes x.entries x.bits)
     unfolding has_all every
-    has-test q = rw (sym tested ∙ q)
+    has-test = rw (sym tested ∙ q)
 
-    pub other-nodes : ordered ≡ true → v ≡ Different → CheckedFrom c x checked.Unlawful
-    other-nodes q d = record { told = rw (has-test q, compared.different d) }
-
-    pub has_words_lem : ordered ≡ true → (n : ℕ) (r : Cursor) → n ≡ node_count_of c → v ≡ Same r → CheckedFrom c x (checked.Lawful n r.entries r.records)
-    has_words_lem q n r nodes s = let w = compared.same r s in record { told = rw (has-test q, w.0, nodes, w.1, w.2) }
+    pub compared_all : (v : Option Sizes) → ComparesAll c (rooms_of x.nodes x.entries x.bits) v → CheckedFrom c x v
+    compared_all None compared = record { told = rw (has-test, compared.different refl) }
+    compared_all (Some s) compared = let w = compared.same s refl in record { told = rw (has-test, w.0, w.1.nodes, w.1.entries, w.1.records) }

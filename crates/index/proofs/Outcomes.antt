@@ -13,10 +13,9 @@ use Rattle.base.specs.Lists.{begins, written}
 use Rattle.base.proofs.Tests.{which, never, every-at, every_of}
 use Rattle.base.proofs.Begins.{begins-append, begins_is_take, begins-length}
 use Rattle.rules.specs.declared.Grid.{Grid}
-use Rattle.rules.specs.declared.Built.{Built}
-use Rattle.rules.specs.declared.Built.TheVariants as built
-use Rattle.rules.specs.declared.Checked.{Checked}
-use Rattle.rules.specs.declared.Checked.TheVariants as checked
+use Rattle.std.specs.Prelude.{Result, Ok, Option, Some}
+use Rattle.rules.specs.declared.Refusal.{Refusal}
+use Rattle.rules.specs.declared.Sizes.{Sizes}
 use Rattle.rules.specs.Numbers.{BuildTold, CheckTold, checked_numbers}
 use Rattle.rules.specs.Tables.{Table, stands, table_refusal}
 use Rattle.rules.specs.Indexes.{Index, index_of, order_words, node_words, entry_words, bit_words, node_count, entry_count, record_count, too_small, build_refusal, build_told, index_after, set_lawful, check_told}
@@ -32,10 +31,10 @@ use Rattle.index.specs.Promises.{BuildPromise}
 -- ---- no two outcomes
 
 module _ (t : Table) (g : Grid) (x : Index) where
-  pub one_building : (r s : Built) (y z : Index) → BuildPromise t g x r y → BuildPromise t g x s z → (r ≡ s) × (y ≡ z)
+  pub one_building : (r s : Result Sizes Refusal) (y z : Index) → BuildPromise t g x r y → BuildPromise t g x s z → (r ≡ s) × (y ≡ z)
   one_building r s y z p q = (one_built r s (p.told ∙ sym q.told), p.buffers ∙ sym q.buffers)
 
-  pub one_checking : (r s : Checked) → checked_numbers r ≡ check_told t g x → checked_numbers s ≡ check_told t g x → r ≡ s
+  pub one_checking : (r s : Option Sizes) → checked_numbers r ≡ check_told t g x → checked_numbers s ≡ check_told t g x → r ≡ s
   one_checking r s p q = one_checked r s (p ∙ sym q)
 
 -- ---- an index that was built
@@ -50,18 +49,18 @@ module _ (t : Table) (g : Grid) (x : Index) where
   written_all = index_of (written (order_words t g) x.order) (written (node_words t g) x.nodes) (written (entry_words t g) x.entries) (written (bit_words t g) x.bits)
 
   -- what an answer with counts says
-  record Succeeded (n e b : ℕ) (y : Index) : Type 0 where
+  record Succeeded (s : Sizes) (y : Index) : Type 0 where
     pub table : table_refusal t g ≡ 0
-    pub nodes : n ≡ node_count t
-    pub entries : e ≡ entry_count t g
-    pub records : b ≡ record_count t g
+    pub nodes : s.nodes ≡ node_count t
+    pub entries : s.entries ≡ entry_count t g
+    pub records : s.bits ≡ record_count t g
     pub buffers : y ≡ written_all
 
-  succeeded : (n e b : ℕ) (y : Index) → BuildPromise t g x (built.Index n e b) y → Succeeded n e b y
+  succeeded : (s : Sizes) (y : Index) → BuildPromise t g x (Ok s) y → Succeeded s y
   unfolding build_told index_after build_refusal
-  succeeded n e b y p = step (which (eqb (build_refusal t g x) 0))
+  succeeded s y p = step (which (eqb (build_refusal t g x) 0))
     where
-      step : (eqb (build_refusal t g x) 0 ≡ true) ⊎ (eqb (build_refusal t g x) 0 ≡ false) → Succeeded n e b y
+      step : (eqb (build_refusal t g x) 0 ≡ true) ⊎ (eqb (build_refusal t g x) 0 ≡ false) → Succeeded s y
       step (inl q) =
           record {
             table = (first_none (table_refusal t g) (cond (too_small t g x) 6 0) (eqb-true (build_refusal t g x) 0 q)).0;
@@ -73,16 +72,16 @@ module _ (t : Table) (g : Grid) (x : Index) where
       step (inr q) = let z : 0 ≡ build_refusal t g x = ap (λ (b : BuildTold). b.refusal) (rw q at p.told) in never _ (eq-eqb (build_refusal t g x) 0 (sym z)) q
 
   -- checking accepts what building wrote, with the same counts
-  pub build_then_check : (n e b : ℕ) (y : Index) (r : Checked) → BuildPromise t g x (built.Index n e b) y → checked_numbers r ≡ check_told t g y → r ≡ checked.Lawful n e b
+  pub build_then_check : (s : Sizes) (y : Index) (r : Option Sizes) → BuildPromise t g x (Ok s) y → checked_numbers r ≡ check_told t g y → r ≡ Some s
   unfolding check_told set_lawful
-  build_then_check n e b y r p c =
-      let s = succeeded n e b y p in
+  build_then_check sizes y r p c =
+      let s = succeeded sizes y p in
       let has : set_lawful t g written_all ≡ true =
       every_of _ (
         eq-eqb (table_refusal t g) 0 s.table,
         (begins-append (order_words t g) _, (begins-append (node_words t g) _, (begins-append (entry_words t g) _, (begins-append (bit_words t g) _, tt)))),
       ) in
-      one_checked r (checked.Lawful n e b) (c ∙ rw (s.buffers, has, s.nodes, s.entries, s.records))
+      one_checked r (Some sizes) (c ∙ rw (s.buffers, has, s.nodes, s.entries, s.records))
 
   -- ---- an index that was checked
 
@@ -107,24 +106,24 @@ module _ (t : Table) (g : Grid) (x : Index) where
       (none, rw (eq-eqb (build_refusal t g x) 0 none) (rw (written_again (order_words t g) x.order order, written_again (node_words t g) x.nodes nodes, written_again (entry_words t g) x.entries entries, written_again (bit_words t g) x.bits bits)))
 
   -- so building answers the same counts and leaves the buffers as they are
-  pub check_then_build : (n e b : ℕ) (r : Built) (y : Index) → checked_numbers (checked.Lawful n e b) ≡ check_told t g x → BuildPromise t g x r y
-      → (r ≡ built.Index n e b) × (y ≡ x)
+  pub check_then_build : (s : Sizes) (r : Result Sizes Refusal) (y : Index) → checked_numbers (Some s) ≡ check_told t g x → BuildPromise t g x r y
+      → (r ≡ Ok s) × (y ≡ x)
   unfolding check_told build_told
-  check_then_build n e b r y c p = step (which (set_lawful t g x))
+  check_then_build sizes r y c p = step (which (set_lawful t g x))
     where
-      step : (set_lawful t g x ≡ true) ⊎ (set_lawful t g x ≡ false) → (r ≡ built.Index n e b) × (y ≡ x)
+      step : (set_lawful t g x ≡ true) ⊎ (set_lawful t g x ≡ false) → (r ≡ Ok sizes) × (y ≡ x)
       step (inl q) =
           let s = lawful_stays q in
-          let nodes : n ≡ node_count t = ap (λ (b : CheckTold). b.nodes) (rw q at c) in
-          let entries : e ≡ entry_count t g = ap (λ (b : CheckTold). b.entries) (rw q at c) in
-          let records : b ≡ record_count t g = ap (λ (b : CheckTold). b.bits) (rw q at c) in
-          (one_built r (built.Index n e b) (p.told ∙ rw (eq-eqb (build_refusal t g x) 0 s.0, nodes, entries, records)), p.buffers ∙ s.1)
+          let nodes : sizes.nodes ≡ node_count t = ap (λ (b : CheckTold). b.nodes) (rw q at c) in
+          let entries : sizes.entries ≡ entry_count t g = ap (λ (b : CheckTold). b.entries) (rw q at c) in
+          let records : sizes.bits ≡ record_count t g = ap (λ (b : CheckTold). b.bits) (rw q at c) in
+          (one_built r (Ok sizes) (p.told ∙ rw (eq-eqb (build_refusal t g x) 0 s.0, nodes, entries, records)), p.buffers ∙ s.1)
       step (inr q) = let z : ◌≡◌ {A = ℕ} 1 0 = ap (λ (b : CheckTold). b.lawful) (rw q at c) in absurd (omega arith)
 
   -- ---- an empty table
 
-  pub build_empty : (n e b : ℕ) (y : Index) → stands t ≡ 0 → BuildPromise t g x (built.Index n e b) y → (n ≡ 1) × (e ≡ 0) × (b ≡ 1)
-  build_empty n e b y z p =
-      let s = succeeded n e b y p in
+  pub build_empty : (s : Sizes) (y : Index) → stands t ≡ 0 → BuildPromise t g x (Ok s) y → (s.nodes ≡ 1) × (s.entries ≡ 0) × (s.bits ≡ 1)
+  build_empty sizes y z p =
+      let s = succeeded sizes y p in
       let m = (sizes_bounded t g (lawful t g s.table)).lone z in
       (s.nodes ∙ m.0, s.entries ∙ m.1, s.records ∙ m.2)

@@ -24,9 +24,10 @@ use Rattle.meaning.specs.Trees.{text_of}
 use Rattle.meaning.proofs.Tree.{number_at}
 use Rattle.meaning.proofs.Tables.{beginnings-tree, beginnings_from, root_first}
 use Rattle.meaning.proofs.Records.{repeats_word, repeat_some, record_repeat, record_own, next_above, next_length}
+use Rattle.std.specs.Int.{from_bool}
 use Rattle.node.specs.declared.records.Served.{Served}
 use Rattle.node.specs.Columns.{IndexColumns, at}
-use Rattle.node.specs.Visits.{Visit, Long, above_in, kept_in, served_in}
+use Rattle.node.specs.Visits.{Visit, Long, above_in, keeps_in, served_in}
 use Rattle.node.specs.Rows.{bits_at, entries_at}
 use Rattle.words.specs.Words.{Trail, root_trail, served_at, trail_past}
 use Rattle.words.proofs.Walks.{long_still}
@@ -82,7 +83,7 @@ module _ (t : Table) (g : Grid) (l : LawfulTable t g) where
 
   -- how node j is served, by the rules
   abbrev pub meant_for : List ℕ → Served
-  meant_for p = record { number = record_of t g p; kept = cond (repeats t g p) 0 1 }
+  meant_for p = record { number = record_of t g p; own = not (repeats t g p) }
 
   module _ (j : ℕ) (h : j < node_count t) (a : Trail) (s : Along j a) (v : Visit) (size : v.length ≡ length (text_of t j)) (bits : bits_at C v ≡ bits_of (text_of t j)) where
     abbrev p : List ℕ
@@ -105,25 +106,25 @@ module _ (t : Table) (g : Grid) (l : LawfulTable t g) where
 
     -- ---- how the node is served
 
-    kept-meant : kept_in a.above.regions v.length (bits_at C v) ≡ cond (repeats t g p) 0 1
-    unfolding kept_in
-    kept-meant =
+    keeps-meant : keeps_in a.above.regions v.length (bits_at C v) ≡ not (repeats t g p)
+    unfolding keeps_in
+    keeps-meant =
         cases (eqb (length p) 0)
         (λ q. let z = eqb-true (length p) 0 q in rw (size, q, refuted (repeats t g p) (λ r. omega (arith, repeat_some t g p r))))
         (λ q.
         let z = eqb-false (length p) 0 q in
-        rw (bits, size, q, s.regions_are (length p - 1) (omega arith)) (ap (λ (b : Bool). cond b 0 1) (sym (repeats_word t g p (omega arith)))))
+        rw (bits, size, q, s.regions_are (length p - 1) (omega arith)) (ap not (sym (repeats_word t g p (omega arith)))))
 
     pub served_meant : served_at C a v ≡ meant_for p
     unfolding served_in
     served_meant =
         cases (repeats t g p)
-        (λ q. rw (kept-meant, q, above_some a.above.records (record_of t g) s.records_are (repeat_some t g p q), ← record_repeat t g p q))
-        (λ q. rw (kept-meant, q, s.records, ← record_own t g l.ordered j h q))
+        (λ q. rw (keeps-meant, q, above_some a.above.records (record_of t g) s.records_are (repeat_some t g p q), ← record_repeat t g p q))
+        (λ q. rw (keeps-meant, q, s.records, ← record_own t g l.ordered j h q))
 
     -- ---- the node past it
 
-    kept_next : records_to j + cond (repeats t g p) 0 1 ≡ records_to (suc j)
+    kept_next : records_to j + from_bool (not (repeats t g p)) ≡ records_to (suc j)
     kept_next =
         let one = ap (λ (x : List (List ℕ)). length (keep (λ q. not (repeats t g q)) x)) (take-suc B j [] h) in
         rw (one, keep_append (λ q. not (repeats t g q)) (take j B) (p ∷ []), length-append (keep (λ q. not (repeats t g q)) (take j B)) (keep (λ q. not (repeats t g q)) (p ∷ [])))

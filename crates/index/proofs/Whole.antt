@@ -23,6 +23,7 @@ use Rattle.meaning.proofs.Tables.{beginnings-tree}
 use Rattle.meaning.proofs.Adding.{new_takes}
 use Rattle.meaning.proofs.Records.{bit_words_length}
 use Rattle.meaning.proofs.Words.{entries_length}
+use Rattle.std.specs.Int.{from_bool}
 use Rattle.node.specs.Columns.{IndexColumns, at, end_of}
 use Rattle.node.specs.Visits.{Visit, new_visits}
 use Rattle.node.specs.Rows.{bits_at, entries_at, row_at}
@@ -136,7 +137,7 @@ module _ (t : Table) (g : Grid) (l : LawfulTable t g) where
           let m = here in
           let number : number_in p B ≡ j = number_at B (beginnings-tree t l.ordered).sorted j inside in
           let end = rw number at m.end in
-          let mark : 1 - cond (repeats t g p) 0 1 ≡ cond (repeats t g p) 1 0 = cases (repeats t g p) (λ q. rw q) (λ q. rw q) in
+          let mark : from_bool (not (not (repeats t g p))) ≡ cond (repeats t g p) 1 0 = cases (repeats t g p) (λ q. rw q) (λ q. rw q) in
           rw (number_above t g l j inside a s v m.size bits, served, s.number, s.entries, mark) (cc (m.last, m.first, m.past, end))
 
       record_at : own_record C a v ≡ cond (repeats t g p) [] (record_row t g p)

@@ -1,107 +1,58 @@
 // The four buffers past refusals 1 to 5: whether they have room, and the words of the index written to them or compared with them.
-ghost use Rattle.std.specs.Prelude.{◌≡◌, ◌||◌, ◌*◌, ltb};
-ghost use Rattle.rules.specs.Indexes.{index_in};
-ghost use Rattle.node.specs.Columns.{columns_now, columns_in, LawfulColumns};
+ghost use Rattle.std.specs.Prelude.{◌≡◌, ◌||◌, ◌*◌, ltb, length};
+ghost use Rattle.rules.specs.Indexes.{lent_index};
+ghost use Rattle.node.specs.Columns.{columns_of, LawfulColumns};
 ghost use Rattle.index.specs.Promises.{index_given, index_left};
-ghost use Rattle.index.specs.Written.{BuiltFrom, CheckedFrom};
+ghost use Rattle.index.specs.Written.{short_of, BuiltFrom, CheckedFrom};
 
+use node::Columns;
 use rules::layout::{ENTRY_WORDS, NODE_WORDS, RECORD_WORDS};
-use rules::{Built, Checked, Refusal};
-use words::turn::Compared;
-use words::{Counts, count, count_nodes, has_order, put_order};
+use rules::{Index, Refusal, Sizes};
+use words::{count, has_order, put_order};
 
 // Refusal 6, by the lengths of the buffers.
-fn too_small(
-    order: usize,
-    nodes: usize,
-    entries: usize,
-    bits: usize,
-    stands: usize,
-    all: u32,
-    counts: Counts,
-) -> bool
-    ensures { result ≡ ltb order stands || ltb nodes (8 * all) || ltb entries (4 * counts.entries) || ltb bits (2 * counts.records) }
+fn too_small(room: Index, stands: usize, sizes: Sizes) -> bool
+    ensures { result ≡ short_of (lent_index room.entry) stands sizes }
 {
-    if order < stands {
-        return true;
-    }
-    if nodes < NODE_WORDS * (all as usize) {
-        return true;
-    }
-    if entries < ENTRY_WORDS * (counts.entries as usize) {
-        return true;
-    }
-    bits < RECORD_WORDS * (counts.records as usize)
+    room.order.len() < stands
+        || room.nodes.len() < NODE_WORDS * (sizes.nodes as usize)
+        || room.entries.len() < ENTRY_WORDS * (sizes.entries as usize)
+        || room.bits.len() < RECORD_WORDS * (sizes.bits as usize)
 }
 
 // The index of the table with these columns, in the buffers. Whether they have room is known before the first word is written.
 pub fn put_index(
-    text: &[u8],
-    starts: &[u32],
-    lengths: &[u8],
-    shared: &[u8],
-    region: &[u8],
-    score: &[u32],
+    columns: Columns,
     order: &mut [u32],
     nodes: &mut [u32],
     entries: &mut [u32],
     bits: &mut [u32],
-) -> Built
-    requires { LawfulColumns (columns_now text starts lengths shared region score) }
-    ensures { BuiltFrom (columns_in text starts lengths shared region score) (index_given order nodes entries bits) result (index_left order nodes entries bits) }
+) -> Result<Sizes, Refusal>
+    requires { LawfulColumns (columns_of columns) }
+    ensures { BuiltFrom (columns_of columns.entry) (index_given order nodes entries bits) result (index_left order nodes entries bits) }
 {
-    let all = count_nodes(lengths, shared);
-    let counts = count(lengths, shared, region, all);
-    if too_small(
-        order.len(),
-        nodes.len(),
-        entries.len(),
-        bits.len(),
-        region.len(),
-        all,
-        counts,
-    ) {
-        return Built::Refused(Refusal::BufferTooSmall);
+    let sizes = count(columns);
+    let room = Index {
+        order,
+        nodes,
+        entries,
+        bits,
+    };
+    if too_small(room, columns.region.len(), sizes) {
+        return Err(Refusal::BufferTooSmall);
     }
-    put_order(region, order);
-    words::write(
-        text, starts, lengths, shared, region, score, all, nodes, entries, bits,
-    );
-    Built::Index {
-        nodes: all,
-        entries: counts.entries,
-        bits: counts.records,
-    }
+    put_order(columns.region, order);
+    words::write(columns, sizes.nodes, nodes, entries, bits);
+    Ok(sizes)
 }
 
-// Whether the buffers begin with the index of the table with these columns.
-pub fn has_index(
-    text: &[u8],
-    starts: &[u32],
-    lengths: &[u8],
-    shared: &[u8],
-    region: &[u8],
-    score: &[u32],
-    order: &[u32],
-    nodes: &[u32],
-    entries: &[u32],
-    bits: &[u32],
-) -> Checked
-    requires { LawfulColumns (columns_now text starts lengths shared region score) }
-    ensures { CheckedFrom (columns_in text starts lengths shared region score) (index_in order nodes entries bits) result }
+// How many nodes, entries and bit records there are, if the buffers begin with the index of the table with these columns.
+pub fn has_index(columns: Columns, index: Index) -> Option<Sizes>
+    requires { LawfulColumns (columns_of columns) }
+    ensures { CheckedFrom (columns_of columns.entry) (lent_index index.entry) result }
 {
-    if !has_order(region, order) {
-        return Checked::Unlawful;
+    if !has_order(columns.region, index.order) {
+        return None;
     }
-    let all = count_nodes(lengths, shared);
-    let Compared::Same(past) = words::check(
-        text, starts, lengths, shared, region, score, all, nodes, entries, bits,
-    ) else {
-        return Checked::Unlawful;
-    };
-    Checked::Lawful {
-        nodes: all,
-        entries: past.entries,
-        bits: past.records,
-    }
+    words::check(columns, index)
 }

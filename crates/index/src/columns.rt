@@ -2,62 +2,56 @@
 ghost use Rattle.std.specs.Prelude.{◌≡◌, ◌<◌, length, take};
 ghost use Rattle.index.specs.Columns.{shared_in, lengths_in, shares_in, regions_over, Spelled, Located};
 
-use rules::{Grid, Place, Stand};
+use rules::{Grid, Place, Stand, Table};
 use table::names::{name_of, shared};
 
 // How many bytes a stand's name shares with the name before it; none before the first.
-fn shared_before(text: &[u8], starts: &[u32], stands: usize, stand: usize) -> u8
-    requires { (Spelled text.now starts.now stands) × (stand < stands) }
-    ensures { result ≡ shared_in text.now starts.now stand }
+fn shared_before(table: Table, stand: usize) -> u8
+    requires { (Spelled table.text.now table.starts.now (length table.score.now)) × (stand < length table.score.now) }
+    ensures { result ≡ shared_in table.entry.text.now table.entry.starts.now stand }
 {
     if stand == 0 {
         return 0;
     }
-    let before = name_of(text, starts, Stand((stand - 1) as u32));
-    let here = name_of(text, starts, Stand(stand as u32));
+    let before = name_of(table.text, table.starts, Stand((stand - 1) as u32));
+    let here = name_of(table.text, table.starts, Stand(stand as u32));
     shared(before, here) as u8
 }
 
-pub fn lengths(text: &[u8], starts: &[u32], stands: usize) -> [u8; Stand::MOST]
-    requires { Spelled text.now starts.now stands }
-    ensures { take stands result ≡ lengths_in text.now starts.now stands }
+pub fn lengths(table: Table) -> [u8; Stand::MOST]
+    requires { Spelled table.text.now table.starts.now (length table.score.now) }
+    ensures { take (length table.entry.score.now) result ≡ lengths_in table.entry.text.now table.entry.starts.now (length table.entry.score.now) }
 {
     let mut column = [0u8; Stand::MOST];
-    let mut stand = 0;
-    while stand < stands {
-        let name = name_of(text, starts, Stand(stand as u32));
+    for stand in 0..table.score.len() {
+        let name = name_of(table.text, table.starts, Stand(stand as u32));
         column[stand] = name.len() as u8;
-        stand += 1;
     }
     column
 }
 
-pub fn shares(text: &[u8], starts: &[u32], stands: usize) -> [u8; Stand::MOST]
-    requires { Spelled text.now starts.now stands }
-    ensures { take stands result ≡ shares_in text.now starts.now stands }
+pub fn shares(table: Table) -> [u8; Stand::MOST]
+    requires { Spelled table.text.now table.starts.now (length table.score.now) }
+    ensures { take (length table.entry.score.now) result ≡ shares_in table.entry.text.now table.entry.starts.now (length table.entry.score.now) }
 {
     let mut column = [0u8; Stand::MOST];
-    let mut stand = 0;
-    while stand < stands {
-        column[stand] = shared_before(text, starts, stands, stand);
-        stand += 1;
+    for stand in 0..table.score.len() {
+        column[stand] = shared_before(table, stand);
     }
     column
 }
 
-pub fn regions(east: &[i32], north: &[i32], grid: Grid) -> [u8; Stand::MOST]
-    requires { Located east.now north.now grid }
-    ensures { take (length east.now) result ≡ regions_over east.now north.now grid }
+pub fn regions(table: Table, grid: Grid) -> [u8; Stand::MOST]
+    requires { Located table.east.now table.north.now grid }
+    ensures { take (length table.entry.east.now) result ≡ regions_over table.entry.east.now table.entry.north.now grid }
 {
     let mut column = [0u8; Stand::MOST];
-    let mut stand = 0;
-    while stand < east.len() {
+    for stand in 0..table.east.len() {
         let place = Place {
-            east: east[stand],
-            north: north[stand],
+            east: table.east[stand],
+            north: table.north[stand],
         };
         column[stand] = grid::region_of(grid, place) as u8;
-        stand += 1;
     }
     column
 }

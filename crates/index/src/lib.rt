@@ -6,86 +6,60 @@ mod columns;
 
 ghost use Rattle.std.specs.Prelude.{◌≡◌};
 ghost use Rattle.rules.specs.Numbers.{checked_numbers};
-ghost use Rattle.rules.specs.Tables.{table_in};
-ghost use Rattle.rules.specs.Indexes.{index_in, check_told};
+ghost use Rattle.rules.specs.Tables.{lent_table};
+ghost use Rattle.rules.specs.Indexes.{lent_index, check_told};
 ghost use Rattle.index.specs.Promises.{BuildPromise, index_given, index_left};
 
 use buffers::{has_index, put_index};
 use columns::{lengths, regions, shares};
-use rules::{Built, Checked, Grid, Verdict};
+use node::Columns;
+use rules::{Grid, Index, Refusal, Sizes, Table};
 use table::table_refusal;
 
 // Writes the index of a table to four buffers and answers how many nodes, entries and bit records it has; or the first of refusals 1 to 6,
 // and the buffers stay as they are.
 pub fn build(
-    text: &[u8],
-    starts: &[u32],
-    east: &[i32],
-    north: &[i32],
-    score: &[u32],
+    table: Table,
     grid: Grid,
     order: &mut [u32],
     nodes: &mut [u32],
     entries: &mut [u32],
     bits: &mut [u32],
-) -> Built
-    ensures { BuildPromise (table_in text starts east north score) grid (index_given order nodes entries bits) result (index_left order nodes entries bits) }
+) -> Result<Sizes, Refusal>
+    ensures { BuildPromise (lent_table table.entry) grid (index_given order nodes entries bits) result (index_left order nodes entries bits) }
 {
-    let verdict = table_refusal(text, starts, east, north, score, grid);
-    if let Verdict::Refused(why) = verdict {
-        return Built::Refused(why);
-    }
-    let stands = score.len();
-    let long = lengths(text, starts, stands);
-    let alike = shares(text, starts, stands);
-    let region = regions(east, north, grid);
-    put_index(
-        text,
-        starts,
-        &long[..stands],
-        &alike[..stands],
-        &region[..stands],
-        score,
-        order,
-        nodes,
-        entries,
-        bits,
-    )
+    table_refusal(table, grid)?;
+    let stands = table.score.len();
+    let lengths = lengths(table);
+    let shares = shares(table);
+    let regions = regions(table, grid);
+    let columns = Columns {
+        text: table.text,
+        starts: table.starts,
+        lengths: &lengths[..stands],
+        shared: &shares[..stands],
+        region: &regions[..stands],
+        score: table.score,
+    };
+    put_index(columns, order, nodes, entries, bits)
 }
 
 // Whether table and grid pass refusals 1 to 5 and the four buffers begin with what building writes.
-pub fn check(
-    text: &[u8],
-    starts: &[u32],
-    east: &[i32],
-    north: &[i32],
-    score: &[u32],
-    grid: Grid,
-    order: &[u32],
-    nodes: &[u32],
-    entries: &[u32],
-    bits: &[u32],
-) -> Checked
-    ensures { checked_numbers result ≡ check_told (table_in text starts east north score) grid (index_in order nodes entries bits) }
+pub fn check(table: Table, grid: Grid, index: Index) -> Option<Sizes>
+    ensures { checked_numbers result ≡ check_told (lent_table table.entry) grid (lent_index index.entry) }
 {
-    let verdict = table_refusal(text, starts, east, north, score, grid);
-    let Verdict::Passed = verdict else {
-        return Checked::Unlawful;
+    table_refusal(table, grid).ok()?;
+    let stands = table.score.len();
+    let lengths = lengths(table);
+    let shares = shares(table);
+    let regions = regions(table, grid);
+    let columns = Columns {
+        text: table.text,
+        starts: table.starts,
+        lengths: &lengths[..stands],
+        shared: &shares[..stands],
+        region: &regions[..stands],
+        score: table.score,
     };
-    let stands = score.len();
-    let long = lengths(text, starts, stands);
-    let alike = shares(text, starts, stands);
-    let region = regions(east, north, grid);
-    has_index(
-        text,
-        starts,
-        &long[..stands],
-        &alike[..stands],
-        &region[..stands],
-        score,
-        order,
-        nodes,
-        entries,
-        bits,
-    )
+    has_index(columns, index)
 }

@@ -2,13 +2,14 @@
 -- Assumes nothing.
 use mathlib.Core.Path.{◌≡◌, refl, sym, ap, ◌∙◌}
 use mathlib.Core.Logic.{⊎_elim}
-use mathlib.Core.Bool.{Bool}
+use mathlib.Core.Bool.{Bool, not}
 use mathlib.Core.List.{List, [], ◌∷◌}
 use Prim.Native.Nat.{ℕ, suc, ◌+◌, ◌-◌, ◌*◌, ◌/◌, ◌%◌, ◌^◌, ◌≤◌, ◌<◌}
 use native.Mathlib.Omega.{arith}
 use native.Mathlib.Nat.{zero-add, add_comm}
 use lib.ListN.{length, get_or-eq_default}
 use lib.Pow.{low, high}
+use Rattle.std.specs.Int.{from_bool}
 use borrow.Author.Tests.{eq-eqb, ne_eqb}
 use Rattle.base.specs.Lists.{up_to, keep, each, sort_by, In}
 use Rattle.base.specs.Bits.{word_of, bit_at}
@@ -23,7 +24,7 @@ use Rattle.node.specs.declared.cursor.Cursor.{Cursor}
 use Rattle.node.specs.declared.records.Served.{Served}
 use Rattle.node.specs.declared.Work.{Work}
 use Rattle.node.specs.Columns.{IndexColumns, at, Grows, Spelt, Ends, end_of, span, grown_of, held_among, regions_among, bits_among, entry_among, entries_among, entry_from, entries_from, by_best, Tallied, Ranks}
-use Rattle.node.specs.Visits.{On, kept_in}
+use Rattle.node.specs.Visits.{On}
 use Rattle.node.specs.Rows.{last_of, past_number, row_with, Tallies, Gathers}
 use Rattle.node.proofs.Ends.{length-short, grown_none, grown_first, end_from, end_after}
 use Rattle.node.proofs.Placing.{regions_are}
@@ -104,22 +105,6 @@ module _ (bits : ℕ) (test : ℕ → Bool) (e : bits ≡ word_of test 0 64) whe
   pub high_is : bits / 4294967296 ≡ word_of test 32 32
   high_is = ap (λ (x : ℕ). x / 4294967296) halves ∙ high (word_of test 32 32) 32 (word_less test 0 32)
 
--- ---- its record
-
-module _ (regions : List ℕ) (l bits : ℕ) where
-  pub root-keeps : l ≡ 0 → 1 ≡ kept_in regions l bits
-  unfolding kept_in
-  root-keeps e = rw (eq-eqb l 0 e)
-
-  module _ (some : l ≡ 0 → ⊥) where
-    pub repeats-above : at regions (l - 1) ≡ bits → 0 ≡ kept_in regions l bits
-    unfolding kept_in
-    repeats-above e = rw (ne_eqb l 0 some, eq-eqb (at regions (l - 1)) bits e)
-
-    pub differs_above : (at regions (l - 1) ≡ bits → ⊥) → 1 ≡ kept_in regions l bits
-    unfolding kept_in
-    differs_above n = rw (ne_eqb l 0 some, ne_eqb (at regions (l - 1)) bits n)
-
 -- ---- its row
 
 module _ (lengths shared : List ℕ) (g : Grows lengths shared) where
@@ -149,7 +134,7 @@ module _ (lengths shared : List ℕ) (g : Grows lengths shared) where
   pub past_after : (i l e : ℕ) → e ≡ end_of shared i l → (i ≤ e) × (i < length lengths → i < e)
   past_after i l e q = (omega (arith, end_from shared i l), λ h. omega (arith, end_after shared i l (omega (arith, g.same))))
 
-pub row_is : (text starts lengths shared : List ℕ) (j n i l e above last past above' : ℕ) (s : Served)
-    → above' ≡ above → last ≡ last_of text starts i l → past ≡ past_number lengths shared i l e j
-    → above' ∷ last ∷ i ∷ e ∷ past ∷ s.number ∷ (1 - s.kept) ∷ n ∷ [] ≡ row_with text starts lengths shared above j n i l e s
-row_is text starts lengths shared j n i l e above last past above' s a b c = rw (a, b, c)
+pub row_is : (text starts lengths shared : List ℕ) (j n i l e above last past above' shares : ℕ) (s : Served)
+    → above' ≡ above → last ≡ last_of text starts i l → past ≡ past_number lengths shared i l e j → shares ≡ from_bool (not s.own)
+    → above' ∷ last ∷ i ∷ e ∷ past ∷ s.number ∷ shares ∷ n ∷ [] ≡ row_with text starts lengths shared above j n i l e s
+row_is text starts lengths shared j n i l e above last past above' shares s a b c d = rw (a, b, c, d)

@@ -5,7 +5,7 @@ use Rattle.node.specs.declared.Gathered.{Gathered}
 use Rattle.node.specs.declared.Work.{Work}
 use Rattle.node.specs.Columns.{IndexColumns, at, Grows, Placed, Spelt, Sized, InColumn, end_of, Ranks}
 use Rattle.node.specs.declared.records.Served.{Served}
-use Rattle.node.specs.Visits.{places_at, On, Long}
+use Rattle.node.specs.Visits.{places_at, On, Long, kept_of}
 
 -- ---- the cursor
 
@@ -22,7 +22,7 @@ pub record PassAsks (region next : List ℕ) (from to : ℕ) : Type 0 where
   pub places : next ≡ places_at region from
 
 pub record AdvanceAsks (t : IndexColumns) (c : Cursor) (g : Gathered) (s : Served) (w : Work) : Type 0 where
-  pub step : StepAsks t.lengths t.shared c g.held s.kept
+  pub step : StepAsks t.lengths t.shared c g.held (kept_of s)
   pub held : g.held ≤ 64
   pub placed : Placed t.region
   pub same : length t.region ≡ length t.lengths
@@ -79,4 +79,3 @@ pub record RowAsks (t : IndexColumns) (path : List ℕ) (c : Cursor) (e : ℕ) (
   pub size : length path ≡ 25
   pub past : e ≡ end_of t.shared c.stand.0 c.length
   pub within : e ≤ length t.lengths
-  pub one : s.kept ≤ 1

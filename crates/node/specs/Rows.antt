@@ -1,5 +1,6 @@
 -- The words of one node, from the columns alone: its entries and its row.
-use Rattle.std.specs.Prelude.{◌≡◌, cond, List, [], ◌∷◌, ℕ, ◌+◌, ◌-◌, ◌≤◌, ◌<◌, eqb, length}
+use Rattle.std.specs.Prelude.{◌≡◌, cond, not, List, [], ◌∷◌, ℕ, ◌+◌, ◌-◌, ◌≤◌, ◌<◌, eqb, length}
+use Rattle.std.specs.Int.{from_bool}
 use Rattle.rules.specs.Indexes.{Entry}
 use Rattle.node.specs.Columns.{IndexColumns, at, end_of, stands_under, grown_of, bits_among, entries_among, entries_from, Sized, Tallied, span}
 use Rattle.node.specs.Visits.{Visit, places_at, above_in}
@@ -29,7 +30,7 @@ bits_at t v = bits_among t.region (stands_at t.shared v)
 -- a node's words: its number is j, its parent's above, and n entries stand before its own
 abbrev pub row_with : List ℕ → List ℕ → List ℕ → List ℕ → (above j n i l e : ℕ) → Served → List ℕ
 row_with text starts lengths shared above j n i l e s =
-    above ∷ last_of text starts i l ∷ i ∷ e ∷ past_number lengths shared i l e j ∷ s.number ∷ (1 - s.kept) ∷ n ∷ []
+    above ∷ last_of text starts i l ∷ i ∷ e ∷ past_number lengths shared i l e j ∷ s.number ∷ from_bool (not s.own) ∷ n ∷ []
 
 -- row is that of the cursor's node, whose stands end at e
 abbrev pub Rowed : IndexColumns → (path : List ℕ) → Cursor → ℕ → Served → List ℕ → Type 0

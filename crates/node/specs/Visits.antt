@@ -1,6 +1,7 @@
 -- The walk through the nodes in pre-order, from the columns alone: which nodes, what lies above each, and where regions' stands begin.
-use Rattle.std.specs.Prelude.{◌≡◌, cond, List, [], ◌∷◌, ◌++◌, ℕ, suc, ◌+◌, ◌-◌, ◌/◌, ◌%◌, ◌≤◌, ◌<◌, eqb, ltb, length, set}
+use Rattle.std.specs.Prelude.{◌≡◌, Bool, cond, not, ◌||◌, List, [], ◌∷◌, ◌++◌, ℕ, suc, ◌+◌, ◌-◌, ◌/◌, ◌%◌, ◌≤◌, ◌<◌, eqb, ltb, length, set}
 use Rattle.base.specs.Lists.{from_on, up_to, keep, each, each_list}
+use Rattle.std.specs.Int.{from_bool}
 use Rattle.rules.specs.Places.{regions}
 use Rattle.node.specs.Columns.{IndexColumns, at, grown_of, stands_in}
 use Rattle.node.specs.declared.Above.{Above}
@@ -81,14 +82,18 @@ on_path a l number served bits = above_of (set a.numbers l number) (set a.record
 abbrev pub above_in : List ℕ → ℕ → ℕ
 above_in path l = cond (eqb l 0) 0 (at path (l - 1))
 
--- how many records a node with these regions keeps: none if the node above has the same
-unfoldable pub kept_in : List ℕ → ℕ → ℕ → ℕ
-kept_in regions l bits = cond (eqb l 0) 1 (cond (eqb (at regions (l - 1)) bits) 0 1)
+-- whether a node with these regions keeps a record of its own: not if the node above has the same
+unfoldable pub keeps_in : List ℕ → ℕ → ℕ → Bool
+keeps_in regions l bits = eqb l 0 || not (eqb (at regions (l - 1)) bits)
 
--- the record that serves it, its own being the next one, and how many it keeps
+-- the record that serves it, its own being the next one
 unfoldable pub served_in : (records regions : List ℕ) (length next bits : ℕ) → Served
 served_in records regions l next bits =
-    record { number = cond (eqb (kept_in regions l bits) 1) next (above_in records l); kept = kept_in regions l bits }
+    record { number = cond (keeps_in regions l bits) next (above_in records l); own = keeps_in regions l bits }
+
+-- how many a node keeps that is served so
+abbrev pub kept_of : Served → ℕ
+kept_of s = from_bool s.own
 
 -- the two words of a record
 abbrev pub halves_of : ℕ → List ℕ
@@ -96,7 +101,7 @@ halves_of bits = bits % 4294967296 ∷ bits / 4294967296 ∷ []
 
 -- r is the cursor past c, with what is lent beside it: the next places, and what lies above, the node itself now with it
 pub record Advanced (t : IndexColumns) (c : Cursor) (g : Gathered) (s : Served) (w w' : Work) (r : Cursor) : Type 0 where
-  pub stepped : Stepped t.lengths t.shared c g.held s.kept r
+  pub stepped : Stepped t.lengths t.shared c g.held (kept_of s) r
   pub places : w'.next ≡ places_at t.region r.stand.0
   pub path : w'.above ≡ on_path w.above c.length c.number.0 s.number g.bits
   pub slots : (w'.places ≡ w.places) × (w'.best ≡ w.best) × (w'.ranked ≡ w.ranked)

@@ -83,7 +83,7 @@ impl Work {
         self.above.numbers[place] = cursor.number.0;
         self.above.records[place] = served.number;
         self.above.regions[place] = gathered.bits;
-        let further = step(columns, cursor, gathered.held as u32, served.kept);
+        let further = step(columns, cursor, gathered.held as u32, u32::from(served.own));
         pass(columns.region, &mut self.next, cursor.stand, further.stand);
         further
     }

@@ -141,7 +141,7 @@ pub fn row(
         past.0,
         past_node.0,
         served.number,
-        1 - served.kept,
+        u32::from(!served.own),
         cursor.entries,
     ]
 }

@@ -1,49 +1,41 @@
 // Bit records: a node whose regions are those of the node above it keeps none of its own.
 ghost use Rattle.std.specs.Prelude.{◌≡◌, ◌≤◌};
-ghost use Rattle.node.specs.Visits.{kept_in, served_in, halves_of};
+ghost use Rattle.node.specs.Visits.{keeps_in, served_in, halves_of};
 
 use crate::cursor::Cursor;
 use crate::{Above, RegionPath, parent_of};
 use rules::layout::RECORD_WORDS;
 
-// The record that serves a node, and how many it keeps: one, or none where that record is its parent's.
+// The record that serves a node, and whether it is the node's own or its parent's.
 #[derive(Clone, Copy)]
 pub struct Served {
     pub number: u32,
-    pub kept: u32,
+    pub own: bool,
 }
 
-// How many records a node with these regions keeps. The root, which has no node above it, keeps one.
-pub fn kept(regions: &RegionPath, length: u8, bits: u64) -> u32
+// Whether a node with these regions keeps a record of its own. The root, which has no node above it, keeps one.
+#[tactic(auto, unfolding(crate::specs::Visits::keeps_in))]
+pub fn keeps(regions: &RegionPath, length: u8, bits: u64) -> bool
     requires { length ≤ 24 }
-    ensures { result ≡ kept_in regions.now length bits }
+    ensures { result ≡ keeps_in regions.now length bits }
 {
-    if length == 0 {
-        return 1;
-    }
-    if regions[usize::from(length - 1)] == bits {
-        return 0;
-    }
-    1
+    length == 0 || regions[usize::from(length - 1)] != bits
 }
 
 impl Above {
     // The record that serves the cursor's node, which has these regions: the next one, or that of the node above it.
+    #[tactic(auto, unfolding(crate::specs::Visits::served_in))]
     pub fn serve(&self, cursor: Cursor, bits: u64) -> Served
         requires { cursor.length ≤ 24 }
         ensures { result ≡ served_in self.now.records self.now.regions cursor.length cursor.records bits }
     {
-        let kept = kept(&self.regions, cursor.length, bits);
-        if kept == 1 {
-            return Served {
-                number: cursor.records,
-                kept,
-            };
-        }
-        Served {
-            number: parent_of(&self.records, cursor.length),
-            kept,
-        }
+        let own = keeps(&self.regions, cursor.length, bits);
+        let number = if own {
+            cursor.records
+        } else {
+            parent_of(&self.records, cursor.length)
+        };
+        Served { number, own }
     }
 }
 

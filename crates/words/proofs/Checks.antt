@@ -6,15 +6,17 @@ use mathlib.Core.List.{[], ◌∷◌}
 use Prim.Native.Nat.{ℕ, ◌*◌, ◌≤◌, ◌<◌}
 use native.Mathlib.Omega.{arith}
 use lib.ListN.{set}
+use Rattle.std.specs.Int.{from_bool}
 use Rattle.base.specs.Lists.{every}
 use Rattle.base.proofs.Tests.{every-at, every_of}
 use Rattle.node.specs.declared.cursor.Cursor.{Cursor}
-use Rattle.node.specs.Columns.{IndexColumns, bits_among}
-use Rattle.node.specs.Visits.{Visit, root_cursor, kept_in, served_in}
+use Rattle.node.specs.Columns.{IndexColumns, LawfulColumns, bits_among}
+use Rattle.node.specs.Visits.{Visit, root_cursor, keeps_in, served_in, kept_of}
 use Rattle.node.specs.Rows.{stands_at, bits_at, entries_at}
 use Rattle.std.specs.Prelude.{Option, Some, None}
 use Rattle.node.specs.declared.Work.{Work}
-use Rattle.words.specs.Words.{Trail, root_trail, served_at, trail_past, rows_from, records_from, entry_words_from, node_words_of, entry_words_of, bit_words_of, Rooms, has_words, CheckAsks, ComparesAll, visit_of, trail_of, Moved, has_row, has_entries, has_record, has_node}
+use Rattle.rules.specs.declared.Sizes.{Sizes}
+use Rattle.words.specs.Words.{Trail, root_trail, served_at, trail_past, rows_from, records_from, entry_words_from, node_words_of, entry_words_of, bit_words_of, node_count_of, Counted, Rooms, has_words, ComparesAll, visit_of, trail_of, Moved, has_row, has_entries, has_record, has_node}
 use Rattle.words.proofs.Overs.{From, part, from_more, from_end, length_rows}
 use Rattle.words.proofs.Walks.{rest_of, entries_held_at, Counting, counting, counting_more, counting_end, Carrying, carrying_more, rows_first, records_first, entries_first, going_end, length-row, record_length}
 
@@ -33,7 +35,7 @@ bits_are : (t : IndexColumns) (v : Visit) → bits_at t v ≡ bits_among t.regio
 unfolding bits_at
 bits_are t v = refl
 
-kept_is : (t : IndexColumns) (a : Trail) (v : Visit) → (served_at t a v).kept ≡ kept_in a.above.regions v.length (bits_at t v)
+kept_is : (t : IndexColumns) (a : Trail) (v : Visit) → kept_of (served_at t a v) ≡ from_bool (keeps_in a.above.regions v.length (bits_at t v))
 unfolding served_in
 kept_is t a v = refl
 
@@ -49,11 +51,11 @@ pub record Checking (t : IndexColumns) (all : ℕ) (rooms : Rooms) (w : Work) (c
   pub kept : From rooms.bits 0 (bit_words_of t) (records_from t (trail_of c w) (rest_of t.lengths t.shared c)) (c.records * 2)
 
 module _ {t : IndexColumns} {all : ℕ} {rooms : Rooms} {w : Work} {c : Cursor} where
-  pub checking : trail_of c w ≡ root_trail → c ≡ root_cursor → CheckAsks t all → Carrying t all c w → Checking t all rooms w c
-  checking z r a s =
+  pub checking : trail_of c w ≡ root_trail → c ≡ root_cursor → LawfulColumns t → all ≡ node_count_of t → Carrying t all c w → Checking t all rooms w c
+  checking z r l e s =
       record {
         carried = s;
-        counted = rw (ap (λ (x : Trail). x.above.regions) z) (counting r a.lawful.grows a.count);
+        counted = rw (ap (λ (x : Trail). x.above.regions) z) (counting r l.grows e);
         rows = record { is = rw (z, r) };
         own = record { is = rw r };
         kept = record { is = rw (z, r) };
@@ -82,12 +84,14 @@ module _ {t : IndexColumns} {all : ℕ} {rooms : Rooms} {w : Work} {c : Cursor} 
             kept = rw (p.visits, m.trail, p.records) (from_more s.kept (records_first s.carried lt) (omega (arith, record_length t (trail_of c w) (visit_of c))) (every-at _ 2 q));
           }
 
-    pub checking_end : all ≤ c.number.0 → ComparesAll t rooms (Some c)
-    checking_end h =
+    pub checking_end : {sizes : Sizes} → sizes ≡ record { nodes = all; entries = c.entries; bits = c.records } → all ≡ node_count_of t → all ≤ c.number.0
+        → ComparesAll t rooms (Some sizes)
+    checking_end {sizes} e n h =
         let none = going_end s.carried.way h in
-        let all : has_words t rooms ≡ true = every_of _ (sym (from_end s.rows (rw none)), (sym (from_end s.own (rw none)), (sym (from_end s.kept (rw none)), tt))) in
+        let full : has_words t rooms ≡ true = every_of _ (sym (from_end s.rows (rw none)), (sym (from_end s.own (rw none)), (sym (from_end s.kept (rw none)), tt))) in
         let counts = counting_end s.counted h in
+        let counted : Counted t sizes = rw e (record { nodes = n; entries = counts.0; records = counts.1 }) in
         record {
-          same = λ r v. (let z : c ≡ r = cc in (all, rw (← z) counts.entries, rw (← z) counts.records));
+          same = λ r v. (let z : sizes ≡ r = cc in (full, rw z at counted));
           different = λ v. (let z : ◌≡◌ {A = ℕ} 0 1 = cc in absurd (omega arith));
         }

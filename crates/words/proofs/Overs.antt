@@ -39,14 +39,6 @@ pub over_none : (d : List ℕ) (p : ℕ) → over d p [] ≡ d
 unfolding over
 over_none d p = rw (add-zero p) (take-append-drop p d)
 
--- the words of a record that is kept, and of one that is not
-module _ (kept bits : ℕ) where
-  pub kept_words_lem : kept ≡ 1 → kept_words kept bits ≡ halves_of bits
-  kept_words_lem e = rw (eq-eqb kept 1 e)
-
-  pub no_words : (kept ≡ 1 → ⊥) → kept_words kept bits ≡ []
-  no_words n = rw (ne_eqb kept 1 n)
-
 sets_sets : (d : List ℕ) (p : ℕ) (w v : List ℕ) → sets (sets d p w) (p + length w) v ≡ sets d p (w ++ v)
 sets_sets d p [] v = rw add-zero
 sets_sets d p (x ∷ w) v = let e : p + suc (length w) ≡ suc p + length w = omega arith in rw e (sets_sets (set d p x) (suc p) w v)

@@ -15,7 +15,7 @@ use Rattle.node.specs.declared.Gathered.{Gathered}
 use Rattle.node.specs.declared.Work.{Work}
 use Rattle.node.specs.declared.records.Served.{Served}
 use Rattle.node.specs.Columns.{IndexColumns}
-use Rattle.node.specs.Visits.{places_at, Long, served_in, Stepped, Advanced}
+use Rattle.node.specs.Visits.{places_at, Long, served_in, kept_of, Stepped, Advanced}
 use Rattle.node.specs.Rows.{bits_at, entries_at, row_at, Gathers, Rowed}
 use Rattle.node.specs.Asks.{Low, GatherAsks, RowAsks, AdvanceAsks}
 use Rattle.node.proofs.Placing.{next_small}
@@ -61,7 +61,7 @@ module _ {t : IndexColumns} {c : Cursor} {u : Work} (asks : TurnAsks t c u) wher
     unfolding entries_at
     count_now = rw (← asks.standing.next_is) k.count
 
-    pub record_now : kept_words s.kept g.bits ≡ own_record t (trail_of c u) (visit_of c)
+    pub record_now : kept_words s.own g.bits ≡ own_record t (trail_of c u) (visit_of c)
     record_now = rw (served_now, bits_now)
 
     pub advance_asks : AdvanceAsks t c g s w
@@ -72,7 +72,7 @@ module _ {t : IndexColumns} {c : Cursor} {u : Work} (asks : TurnAsks t c u) wher
         search rules
 
     module _ {w' : Work} {r : Cursor} (a : Advanced t c g s w w' r) where
-      stepped_now : Stepped t.lengths t.shared c (length (entries_at t (visit_of c))) (served_at t (trail_of c u) (visit_of c)).kept r
+      stepped_now : Stepped t.lengths t.shared c (length (entries_at t (visit_of c))) (kept_of (served_at t (trail_of c u) (visit_of c))) r
       stepped_now = rw (count_now, served_now) at a.stepped
 
       trail_now : trail_of r w' ≡ trail_past t (trail_of c u) (visit_of c)
@@ -95,7 +95,7 @@ module _ {t : IndexColumns} {c : Cursor} {u : Work} (asks : TurnAsks t c u) wher
 
     pub wrote : {rooms rooms' : Rooms} {row : List ℕ} → RowHere row → rooms'.nodes ≡ over rooms.nodes (c.number.0 * 8) row
         → rooms'.entries ≡ over rooms.entries (c.entries * 4) (entry_rows (entries_held w g.held))
-        → rooms'.bits ≡ over rooms.bits (c.records * 2) (kept_words s.kept g.bits) → Wrote t c u rooms rooms'
+        → rooms'.bits ≡ over rooms.bits (c.records * 2) (kept_words s.own g.bits) → Wrote t c u rooms rooms'
     wrote r p q b = record { row_now = rw (← row_now r) p; entries_now = rw (← own_now) q; record_now = rw (← record_now) b }
 
     -- ---- the words compared
@@ -110,12 +110,12 @@ module _ {t : IndexColumns} {c : Cursor} {u : Work} (asks : TurnAsks t c u) wher
       pub entries_differ : begins (entry_rows (entries_held w g.held)) (drop (c.entries * 4) rooms.entries) ≡ false → Compares t c u w' rooms None
       entries_differ q = unequal (every_not (has_node t c u rooms) 1 (rw (← own_now) q))
 
-      pub record_differs : begins (kept_words s.kept g.bits) (drop (c.records * 2) rooms.bits) ≡ false → Compares t c u w' rooms None
+      pub record_differs : begins (kept_words s.own g.bits) (drop (c.records * 2) rooms.bits) ≡ false → Compares t c u w' rooms None
       record_differs q = unequal (every_not (has_node t c u rooms) 2 (rw (← record_now) q))
 
     pub agrees : {rooms : Rooms} {row : List ℕ} {w' : Work} {r : Cursor} → RowHere row → begins row (drop (c.number.0 * 8) rooms.nodes) ≡ true
         → begins (entry_rows (entries_held w g.held)) (drop (c.entries * 4) rooms.entries) ≡ true
-        → begins (kept_words s.kept g.bits) (drop (c.records * 2) rooms.bits) ≡ true
+        → begins (kept_words s.own g.bits) (drop (c.records * 2) rooms.bits) ≡ true
         → (a : Advanced t c g s w w' r) → Compares t c u w' rooms (Some r)
     agrees {rooms} {row} {w'} {r} f p q b a =
         let all : every (has_node t c u rooms) ≡ true = every_of _ (rw (← row_now f) p, (rw (← own_now) q, (rw (← record_now) b, tt))) in

@@ -1,6 +1,7 @@
 -- The loops over the nodes: the cursor on its way, and what counting, writing and checking have done so far.
 -- Assumes nothing.
 use mathlib.Core.Path.{◌≡◌, refl, sym, ap, ◌∙◌}
+use mathlib.Core.Bool.{Bool, true, false}
 use mathlib.Core.List.{List, [], ◌∷◌}
 use Prim.Native.Nat.{ℕ, suc, ◌+◌, ◌-◌, ◌*◌, ◌≤◌, ◌<◌}
 use native.Mathlib.Omega.{arith}
@@ -11,6 +12,7 @@ use lib.ListN.{length, length-append, length-set, set, replicate, drop_of_length
 use borrow.Table.Steps.{cases}
 use borrow.Author.Tests.{eqb-true, eqb-false}
 use lib.Count.{ones}
+use Rattle.std.specs.Int.{from_bool}
 use Rattle.base.specs.Lists.{from_on, up_to, each_list}
 use Rattle.rules.specs.Places.{regions}
 use Rattle.base.proofs.Members.{length-each, length-keep, each_same}
@@ -21,13 +23,13 @@ use Rattle.node.specs.declared.cursor.Cursor.{Cursor}
 use Rattle.node.specs.declared.Above.{Above}
 use Rattle.node.specs.declared.Work.{Work}
 use Rattle.node.specs.Columns.{IndexColumns, LawfulColumns, Grows, at, growth, grown_of, held_among, regions_among, bits_among}
-use Rattle.node.specs.Visits.{Visit, new_visits, visits_from, root_cursor, places_at, On, Stepped, Long, on_path, kept_in, served_in}
+use Rattle.node.specs.Visits.{Visit, new_visits, visits_from, root_cursor, places_at, On, Stepped, Long, on_path, keeps_in, served_in, kept_of}
 use Rattle.node.specs.Rows.{stands_at, bits_at, entries_at, row_at}
 use Rattle.node.proofs.Ends.{grown_small}
 use Rattle.node.proofs.Placing.{regions_are}
 use Rattle.node.proofs.Gathering.{entries_held}
 use Rattle.node.proofs.Steps.{visits_first, visits_done}
-use Rattle.words.specs.Words.{entry_rows, Trail, root_trail, served_at, trail_past, row_of, kept_words, own_record, rows_from, records_from, entry_words_from, count_from, kept_from, none_yet, node_count_of, Counted, visit_of, trail_of, blank_work, Scratch, Standing, Moved}
+use Rattle.words.specs.Words.{entry_rows, Trail, root_trail, served_at, trail_past, row_of, kept_words, own_record, rows_from, records_from, entry_words_from, count_from, kept_from, none_yet, node_count_of, visit_of, trail_of, blank_work, Scratch, Standing, Moved}
 use Rattle.words.proofs.Overs.{Next, length_rows}
 
 abbrev pub rest_of : List ℕ → List ℕ → Cursor → List Visit
@@ -106,9 +108,9 @@ module _ {lengths shared : List ℕ} {all : ℕ} where
 -- ---- counting
 
 -- a node keeps one record or none
-kept_one : (above : List ℕ) (l bits : ℕ) → kept_in above l bits ≤ 1
-unfolding kept_in
-kept_one above l bits = cases (eqb l 0) (λ q. rw q (omega arith)) (λ q. rw q (cases (eqb (at above (l - 1)) bits) (λ r. rw r (omega arith)) (λ r. rw r (omega arith))))
+kept_one : (own : Bool) → from_bool own ≤ 1
+kept_one true = omega arith
+kept_one false = omega arith
 
 -- what is still to count, by the records from the regions above on
 pub record Counting (lengths shared region : List ℕ) (all : ℕ) (above : List ℕ) (c : Cursor) : Type 0 where
@@ -122,7 +124,7 @@ module _ {lengths shared region : List ℕ} {all : ℕ} where
   counting r g e = record { way = going r g e; size = refl; so_far = rw r (omega arith); kept_far = rw r (omega arith) }
 
   module _ {above : List ℕ} {c : Cursor} (s : Counting lengths shared region all above c) (lt : c.number.0 < all) {bits own : ℕ}
-      (e : bits ≡ bits_among region (stands_at shared (visit_of c))) (k : own ≡ kept_in above c.length bits) where
+      (e : bits ≡ bits_among region (stands_at shared (visit_of c))) (k : own ≡ from_bool (keeps_in above c.length bits)) where
     pub held_is : ones bits ≡ length (regions_among region (stands_at shared (visit_of c)))
     unfolding regions
     held_is = ap ones e ∙ ones_word (held_among region (stands_at shared (visit_of c))) 0 64
@@ -131,7 +133,7 @@ module _ {lengths shared region : List ℕ} {all : ℕ} where
     counting_fits = omega (arith, held_is, held_few region (stands_at shared (visit_of c)), s.way.low, s.way.few)
 
     pub records_fit : c.records + own < 4294967296
-    records_fit = omega (arith, k, kept_one above c.length bits, s.way.fewer, s.way.few)
+    records_fit = omega (arith, k, kept_one (keeps_in above c.length bits), s.way.fewer, s.way.few)
 
     pub counting_more : {held : ℕ} {above' : List ℕ} {r : Cursor} → held ≡ length (regions_among region (stands_at shared (visit_of c))) → above' ≡ set above c.length bits
         → Stepped lengths shared c held own r → Counting lengths shared region all above' r
@@ -139,24 +141,24 @@ module _ {lengths shared region : List ℕ} {all : ℕ} where
         let rest = going_rest s.way lt p in
         let more = ap (λ (b : ℕ). kept_from shared region (set above c.length b) (rest_of lengths shared r)) e in
         rw x record {
-          way = going_more s.way lt p (omega (arith, h, held_few region (stands_at shared (visit_of c)))) (omega (arith, k, kept_one above c.length bits));
+          way = going_more s.way lt p (omega (arith, h, held_few region (stands_at shared (visit_of c)))) (omega (arith, k, kept_one (keeps_in above c.length bits)));
           size = length-set above c.length bits ∙ s.size;
           so_far = omega (arith, s.so_far, h, p.entries, ap (count_from shared region) rest);
           kept_far = omega (arith, s.kept_far, p.records, rw e at k, ap (kept_from shared region above) rest, more);
         }
 
-  pub counting_end : {above : List ℕ} {c : Cursor} → Counting lengths shared region all above c → all ≤ c.number.0 → Counted lengths shared region (record { entries = c.entries; records = c.records })
+  pub counting_end : {above : List ℕ} {c : Cursor} → Counting lengths shared region all above c → all ≤ c.number.0
+      → (c.entries ≡ count_from shared region (visits_from lengths shared 0 0)) × (c.records ≡ kept_from shared region none_yet (visits_from lengths shared 0 0))
   counting_end {above} s h =
       let none = going_end s.way h in
-      record { entries = omega (arith, s.so_far, ap (count_from shared region) none); records = omega (arith, s.kept_far, ap (kept_from shared region above) none) }
+      (omega (arith, s.so_far, ap (count_from shared region) none), omega (arith, s.kept_far, ap (kept_from shared region above) none))
 
 pub length-row : (t : IndexColumns) (a : Trail) (v : Visit) → length (row_of t a v) ≡ 8
 unfolding row_at
 length-row t a v = refl
 
-pub served_one : (t : IndexColumns) (a : Trail) (v : Visit) → (served_at t a v).kept ≤ 1
-unfolding served_in
-served_one t a v = kept_one a.above.regions v.length (bits_at t v)
+pub served_one : (t : IndexColumns) (a : Trail) (v : Visit) → kept_of (served_at t a v) ≤ 1
+served_one t a v = kept_one (served_at t a v).own
 
 -- ---- with what is lent beside the cursor
 
@@ -210,11 +212,12 @@ entries_length t (v ∷ vs) =
     omega (arith, length-append (entry_rows (entries_at t v)) (entry_words_from t vs), length_rows (entries_at t v), entries_held_at t v, entries_length t vs)
 
 -- a record that is kept has two words
-words_kept : (kept bits : ℕ) → kept ≤ 1 → length (kept_words kept bits) ≡ kept * 2
-words_kept kept bits h = cases (eqb kept 1) (λ q. rw q (omega (arith, eqb-true kept 1 q))) (λ q. rw q (omega (arith, eqb-false kept 1 q)))
+words_kept : (own : Bool) (bits : ℕ) → length (kept_words own bits) ≡ from_bool own * 2
+words_kept true bits = refl
+words_kept false bits = refl
 
-pub record_length : (t : IndexColumns) (a : Trail) (v : Visit) → length (own_record t a v) ≡ (served_at t a v).kept * 2
-record_length t a v = words_kept (served_at t a v).kept (bits_at t v) (served_one t a v)
+pub record_length : (t : IndexColumns) (a : Trail) (v : Visit) → length (own_record t a v) ≡ kept_of (served_at t a v) * 2
+record_length t a v = words_kept (served_at t a v).own (bits_at t v)
 
 pub records_length : (t : IndexColumns) (a : Trail) (vs : List Visit) → length (records_from t a vs) ≡ kept_from t.shared t.region a.above.regions vs * 2
 unfolding trail_past served_in bits_at

@@ -1,15 +1,17 @@
 -- The words of all nodes, entries and bit records, from the columns alone, and what a turn of each loop leaves.
 use Rattle.std.specs.Prelude.{◌≡◌, Option, Some, None, Bool, true, false, cond, List, [], ◌∷◌, ◌++◌, ℕ, suc, ◌+◌, ◌*◌, ◌≤◌, ◌<◌, eqb, length, drop, set, replicate}
+use Rattle.std.specs.Int.{from_bool}
 use Rattle.base.specs.Lists.{every, each, each_list, total, begins}
+use Rattle.rules.specs.declared.Index as lent
+use Rattle.rules.specs.declared.Sizes.{Sizes}
 use Rattle.rules.specs.Indexes.{Entry, entry_row}
 use Rattle.node.specs.declared.cursor.Cursor.{Cursor}
 use Rattle.node.specs.declared.records.Served.{Served}
 use Rattle.node.specs.declared.Above.{Above}
 use Rattle.node.specs.declared.Work.{Work}
 use Rattle.node.specs.Columns.{IndexColumns, LawfulColumns, Grows, Placed, at, end_of, regions_among, bits_among, entries_from, Sized}
-use Rattle.node.specs.Visits.{Visit, visits_from, places_at, On, Stepped, above_of, Long, on_path, above_in, kept_in, served_in, halves_of}
+use Rattle.node.specs.Visits.{Visit, visits_from, places_at, On, Stepped, above_of, Long, on_path, above_in, keeps_in, served_in, kept_of, halves_of}
 use Rattle.node.specs.Rows.{stands_at, bits_at, entries_at, row_at}
-use Rattle.words.specs.declared.Counts.{Counts}
 use Rattle.words.specs.Over.{over}
 
 abbrev pub entry_rows : List Entry → List ℕ
@@ -40,7 +42,7 @@ trail_past t a v =
     record {
       number = suc a.number;
       entries = a.entries + length (entries_at t v);
-      records = a.records + (served_at t a v).kept;
+      records = a.records + kept_of (served_at t a v);
       above = on_path a.above v.length a.number (served_at t a v).number (bits_at t v);
     }
 
@@ -51,11 +53,11 @@ row_of t a v =
     row_at t (above_in a.above.numbers v.length) a.number a.entries v.stand v.length (end_of t.shared v.stand v.length) (served_at t a v)
 
 -- the words of a record, of a node that keeps one; and the node's own
-abbrev pub kept_words : ℕ → ℕ → List ℕ
-kept_words kept bits = cond (eqb kept 1) (halves_of bits) []
+abbrev pub kept_words : Bool → ℕ → List ℕ
+kept_words own bits = cond own (halves_of bits) []
 
 abbrev pub own_record : IndexColumns → Trail → Visit → List ℕ
-own_record t a v = kept_words (served_at t a v).kept (bits_at t v)
+own_record t a v = kept_words (served_at t a v).own (bits_at t v)
 
 -- of these nodes, with this trail behind the first of them
 abbrev pub rows_from : IndexColumns → Trail → List Visit → List ℕ
@@ -77,7 +79,7 @@ count_from shared region vs = total (each (λ v. length (regions_among region (s
 abbrev pub kept_from : List ℕ → List ℕ → List ℕ → List Visit → ℕ
 kept_from shared region above [] = 0
 kept_from shared region above (v ∷ vs) =
-    kept_in above v.length (bits_among region (stands_at shared v)) + kept_from shared region (set above v.length (bits_among region (stands_at shared v))) vs
+    from_bool (keeps_in above v.length (bits_among region (stands_at shared v))) + kept_from shared region (set above v.length (bits_among region (stands_at shared v))) vs
 
 abbrev pub visits_of : IndexColumns → List Visit
 visits_of t = visits_from t.lengths t.shared 0 0
@@ -111,21 +113,21 @@ pub record Rooms : Type 0 where
 abbrev pub rooms_of : List ℕ → List ℕ → List ℕ → Rooms
 rooms_of nodes entries bits = record { nodes = nodes; entries = entries; bits = bits }
 
+-- those of an index
+abbrev pub rooms_in : lent.Index → Rooms
+rooms_in x = rooms_of x.nodes.now x.entries.now x.bits.now
+
 -- ---- what counting, writing and checking ask, and what they leave
 
-pub record CountAsks (lengths shared region : List ℕ) (all : ℕ) : Type 0 where
-  pub grows : Grows lengths shared
-  pub placed : Placed region
-  pub same : length region ≡ length lengths
-  pub count : all ≡ length (visits_from lengths shared 0 0)
+pub record CountAsks (t : IndexColumns) : Type 0 where
+  pub grows : Grows t.lengths t.shared
+  pub placed : Placed t.region
+  pub same : length t.region ≡ length t.lengths
 
-pub record Counted (lengths shared region : List ℕ) (c : Counts) : Type 0 where
-  pub entries : c.entries ≡ count_from shared region (visits_from lengths shared 0 0)
-  pub records : c.records ≡ kept_from shared region none_yet (visits_from lengths shared 0 0)
-
-pub record CheckAsks (t : IndexColumns) (all : ℕ) : Type 0 where
-  pub lawful : LawfulColumns t
-  pub count : all ≡ node_count_of t
+pub record Counted (t : IndexColumns) (s : Sizes) : Type 0 where
+  pub nodes : s.nodes ≡ node_count_of t
+  pub entries : s.entries ≡ entry_count_of t
+  pub records : s.bits ≡ record_count_of t
 
 pub record WriteAsks (t : IndexColumns) (all : ℕ) (rooms : Rooms) : Type 0 where
   pub lawful : LawfulColumns t
@@ -142,9 +144,9 @@ pub record WroteAll (t : IndexColumns) (rooms rooms' : Rooms) : Type 0 where
 abbrev pub has_words : IndexColumns → Rooms → Bool
 has_words t rooms = every (begins (node_words_of t) rooms.nodes ∷ begins (entry_words_of t) rooms.entries ∷ begins (bit_words_of t) rooms.bits ∷ [])
 
--- the cursor past the last node, if the rooms begin with all words
-pub record ComparesAll (t : IndexColumns) (rooms : Rooms) (v : Option Cursor) : Type 0 where
-  pub same : (r : Cursor) → v ≡ Some r → (has_words t rooms ≡ true) × (r.entries ≡ entry_count_of t) × (r.records ≡ record_count_of t)
+-- how many there are of each, if the rooms begin with all words
+pub record ComparesAll (t : IndexColumns) (rooms : Rooms) (v : Option Sizes) : Type 0 where
+  pub same : (s : Sizes) → v ≡ Some s → (has_words t rooms ≡ true) × Counted t s
   pub different : v ≡ None → has_words t rooms ≡ false
 
 -- the first so many ranked are regions
@@ -191,7 +193,7 @@ pub record TurnAsks (t : IndexColumns) (c : Cursor) (w : Work) : Type 0 where
 
 -- r is the cursor past c, and what is lent beside it is right for r
 pub record Moved (t : IndexColumns) (c : Cursor) (w : Work) (r : Cursor) (w' : Work) : Type 0 where
-  pub stepped : Stepped t.lengths t.shared c (length (entries_at t (visit_of c))) (served_at t (trail_of c w) (visit_of c)).kept r
+  pub stepped : Stepped t.lengths t.shared c (length (entries_at t (visit_of c))) (kept_of (served_at t (trail_of c w) (visit_of c))) r
   pub next_is : w'.next ≡ places_at t.region r.stand.0
   pub trail : trail_of r w' ≡ trail_past t (trail_of c w) (visit_of c)
   pub scratch : Scratch w'

@@ -7,17 +7,17 @@ pub mod rooms;
 pub mod turn;
 
 ghost use Rattle.std.specs.Prelude.{◌≡◌, length};
-ghost use Rattle.node.specs.Columns.{columns_of, Grows, Placed};
+ghost use Rattle.node.specs.Columns.{columns_of, Grows, Placed, LawfulColumns};
 ghost use Rattle.node.specs.Visits.{visits_from, places_at};
-ghost use Rattle.words.specs.Words.{blank_work, rooms_of, CountAsks, Counted, WriteAsks, WroteAll, CheckAsks, ComparesAll};
+ghost use Rattle.words.specs.Words.{blank_work, rooms_of, rooms_in, CountAsks, Counted, WriteAsks, WroteAll, ComparesAll};
 
-use node::cursor::{Cursor, root, step};
-use node::records::kept;
+use node::cursor::{root, step};
+use node::records::keeps;
 use node::tally::{grown, regions_under};
 use node::{Above, Columns, Work};
 use order::places_of;
 pub use order::{has_order, put_order};
-use rules::{Grid, Session, Stand};
+use rules::{Grid, Index, Session, Sizes, Stand};
 use turn::{check_node, write_node};
 
 // How many nodes.
@@ -29,30 +29,25 @@ pub fn count_nodes(columns: Columns) -> u32
     grown(columns, Stand(0), Stand(stands)) + 1
 }
 
-// How many entries and bit records an index has.
-#[derive(Clone, Copy)]
-pub struct Counts {
-    pub entries: u32,
-    pub records: u32,
-}
-
-// Those of all nodes.
-pub fn count(columns: Columns, all: u32) -> Counts
-    requires { CountAsks columns.lengths.now columns.shared.now columns.region.now all }
-    ensures { Counted columns.entry.lengths.now columns.entry.shared.now columns.entry.region.now result }
+// How many nodes, entries and bit records.
+pub fn count(columns: Columns) -> Sizes
+    requires { CountAsks (columns_of columns) }
+    ensures { Counted (columns_of columns.entry) result }
 {
+    let all = count_nodes(columns);
     let mut regions = [0u64; Session::PATH];
     let mut cursor = root();
     while cursor.number.0 < all {
         let length = cursor.length;
         let bits = regions_under(columns, cursor.stand, length);
-        let own = kept(&regions, length, bits);
+        let own = keeps(&regions, length, bits);
         regions[usize::from(length)] = bits;
-        cursor = step(columns, cursor, u64::count_ones(bits), own);
+        cursor = step(columns, cursor, u64::count_ones(bits), u32::from(own));
     }
-    Counts {
+    Sizes {
+        nodes: all,
         entries: cursor.entries,
-        records: cursor.records,
+        bits: cursor.records,
     }
 }
 
@@ -86,22 +81,20 @@ pub fn write(columns: Columns, all: u32, nodes: &mut [u32], entries: &mut [u32],
     }
 }
 
-// The cursor past the last node, which has counted them all, if the rooms begin with all words of the nodes, the entries and the bit
-// records.
-pub fn check(
-    columns: Columns,
-    all: u32,
-    nodes: &[u32],
-    entries: &[u32],
-    bits: &[u32],
-) -> Option<Cursor>
-    requires { CheckAsks (columns_of columns) all }
-    ensures { ComparesAll (columns_of columns.entry) (rooms_of nodes.now entries.now bits.now) result }
+// How many nodes, entries and bit records there are, if an index begins with all words of them.
+pub fn check(columns: Columns, index: Index) -> Option<Sizes>
+    requires { LawfulColumns (columns_of columns) }
+    ensures { ComparesAll (columns_of columns.entry) (rooms_in index.entry) result }
 {
+    let all = count_nodes(columns);
     let mut work = before_the_root(columns);
     let mut here = root();
     while here.number.0 < all {
-        here = check_node(columns, here, &mut work, nodes, entries, bits)?;
+        here = check_node(columns, here, &mut work, index)?;
     }
-    Some(here)
+    Some(Sizes {
+        nodes: all,
+        entries: here.entries,
+        bits: here.records,
+    })
 }

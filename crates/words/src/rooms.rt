@@ -24,26 +24,20 @@ pub fn has_words(room: &[u32], at: usize, words: &[u32]) -> bool
     room[at.min(room.len())..].starts_with(words)
 }
 
-// The record of a node with these regions, from a place of the room on, if it keeps one; and whether the room has it there.
-pub fn put_record(room: &mut [u32], at: usize, kept: u32, bits: u64)
-    requires { at + length (kept_words kept bits) ≤ length room.old }
-    ensures { room.new ≡ over room.old at (kept_words kept bits) }
+// The record of a node with these regions, from a place of the room on, if it keeps its own; and whether the room has it there.
+pub fn put_record(room: &mut [u32], at: usize, own: bool, bits: u64)
+    requires { at + length (kept_words own bits) ≤ length room.old }
+    ensures { room.new ≡ over room.old at (kept_words own bits) }
 {
-    if kept != 1 {
-        return;
+    if own {
+        put_words(room, at, &halves(bits));
     }
-    let words = halves(bits);
-    put_words(room, at, &words);
 }
 
-pub fn has_record(room: &[u32], at: usize, kept: u32, bits: u64) -> bool
-    ensures { result ≡ begins (kept_words kept bits) (drop at room.now) }
+pub fn has_record(room: &[u32], at: usize, own: bool, bits: u64) -> bool
+    ensures { result ≡ begins (kept_words own bits) (drop at room.now) }
 {
-    if kept != 1 {
-        return true;
-    }
-    let words = halves(bits);
-    has_words(room, at, &words)
+    !own || has_words(room, at, &halves(bits))
 }
 
 // A region's entry, in the order of rules::layout: the region, its largest score, its first place and the place past its last.

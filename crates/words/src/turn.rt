@@ -1,11 +1,12 @@
 // One turn of building and of checking: the node at the cursor is gathered, its words put into the rooms or compared with them, and
 // the cursor moved on.
 ghost use Rattle.node.specs.Columns.{columns_of};
-ghost use Rattle.words.specs.Words.{rooms_of, TurnAsks, PutAsks, PutTurn, Compares};
+ghost use Rattle.words.specs.Words.{rooms_of, rooms_in, TurnAsks, PutAsks, PutTurn, Compares};
 
 use crate::rooms::{has_entries, has_record, has_words, put_entries, put_record, put_words};
 use node::cursor::Cursor;
 use node::{Columns, Work, row};
+use rules::Index;
 use rules::layout::{ENTRY_WORDS, NODE_WORDS, RECORD_WORDS};
 
 // The node's words, in the rooms.
@@ -27,34 +28,27 @@ pub fn write_node(
     let entry = cursor.entries as usize * ENTRY_WORDS;
     put_entries(entries, entry, work, gathered.held);
     let record = cursor.records as usize * RECORD_WORDS;
-    put_record(bits, record, served.kept, gathered.bits);
+    put_record(bits, record, served.own, gathered.bits);
     work.advance(columns, cursor, gathered, served)
 }
 
-// The cursor past the node, if the rooms have its words.
-pub fn check_node(
-    columns: Columns,
-    cursor: Cursor,
-    work: &mut Work,
-    nodes: &[u32],
-    entries: &[u32],
-    bits: &[u32],
-) -> Option<Cursor>
+// The cursor past the node, if the index has its words.
+pub fn check_node(columns: Columns, cursor: Cursor, work: &mut Work, index: Index) -> Option<Cursor>
     requires { TurnAsks (columns_of columns) cursor work.old }
-    ensures { Compares (columns_of columns.entry) cursor work.old work.new (rooms_of nodes.now entries.now bits.now) result }
+    ensures { Compares (columns_of columns.entry) cursor work.old work.new (rooms_in index.entry) result }
 {
     let gathered = work.gather(columns, cursor);
     let served = work.above.serve(cursor, gathered.bits);
     let words = row(columns, &work.above, cursor, gathered.past, served);
-    if !has_words(nodes, cursor.number.0 as usize * NODE_WORDS, &words) {
+    if !has_words(index.nodes, cursor.number.0 as usize * NODE_WORDS, &words) {
         return None;
     }
     let entry = cursor.entries as usize * ENTRY_WORDS;
-    if !has_entries(entries, entry, work, gathered.held) {
+    if !has_entries(index.entries, entry, work, gathered.held) {
         return None;
     }
     let record = cursor.records as usize * RECORD_WORDS;
-    if !has_record(bits, record, served.kept, gathered.bits) {
+    if !has_record(index.bits, record, served.own, gathered.bits) {
         return None;
     }
     Some(work.advance(columns, cursor, gathered, served))

@@ -20,5 +20,5 @@ past_number-past_node-requires c =
 pub returns : goal.returns
 returns c =
     let a = c.args in
-    row_is a.columns.text.now a.columns.starts.now a.columns.lengths.now a.columns.shared.now a.cursor.number.0 a.cursor.entries a.cursor.stand.0 a.cursor.length a.past.0 _ _ _ _ a.served
-    c.parent_of-parent.ensures c.last_byte-last_byte.ensures c.past_number-past_node.ensures
+    row_is a.columns.text.now a.columns.starts.now a.columns.lengths.now a.columns.shared.now a.cursor.number.0 a.cursor.entries a.cursor.stand.0 a.cursor.length a.past.0 _ _ _ _ _ a.served
+    c.parent_of-parent.ensures c.last_byte-last_byte.ensures c.past_number-past_node.ensures c.from.ensures

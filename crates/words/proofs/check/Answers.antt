@@ -2,6 +2,7 @@
 use native.Mathlib.Omega.{arith}
 use Rattle.words.proofs.Walks.{carrying, standing, root-trail}
 use Rattle.words.proofs.Checks.{checking, checking_not, checking_more, checking_end}
+use mathlib.Core.Path.{refl}
 use Rattle.words.proofs.check.Goals as goal
 
 pub loop-here-init : goal.loop-here-init
@@ -9,10 +10,10 @@ loop-here-init c =
     let p = c.requires in
     let r = c.root-here.ensures in
     let b = c.before_the_root-work.ensures in
-    checking (root-trail r b) r p (carrying p.lawful r p.count b)
+    checking (root-trail r b) r p c.count_nodes-all.ensures (carrying p r c.count_nodes-all.ensures b)
 
 pub check_node-requires : goal.check_node-requires
-check_node-requires c = record { lawful = c.requires.lawful; standing = standing c.loop-here.invariant.carried c.loop-here-test.true }
+check_node-requires c = record { lawful = c.requires; standing = standing c.loop-here.invariant.carried c.loop-here-test.true }
 
 pub returns-in_err-here : goal.returns-in_err-here
 returns-in_err-here c = rw c.from_residual.ensures (checking_not c.loop-here.invariant c.loop-here-test.true (c.check_node.ensures.different c.in_err-here.was))
@@ -26,4 +27,4 @@ loop-here-preserved c =
     checking_more c.loop-here.invariant c.loop-here-test.true same.0 same.1
 
 pub returns : goal.returns
-returns c = checking_end c.loop-here.invariant c.loop-here-test.false
+returns c = checking_end c.loop-here.invariant refl c.count_nodes-all.ensures c.loop-here-test.false

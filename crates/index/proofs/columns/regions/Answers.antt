@@ -17,12 +17,12 @@ use Rattle.index.proofs.columns.regions.Goals as goal
 
 told : (c : goal.After-region_of) →
     let a = c.args in
-    c.region_of.result ≡ region_in a.east.now a.north.now a.grid c.loop-stand.stand
+    c.region_of.result ≡ region_in a.table.east.now a.table.north.now a.grid c.loop-stand.stand
 told c =
     let a = c.args in
     let i = c.loop-stand.stand in
     let region : ℤ → ℤ → ℕ = λ e n. region_of a.grid (record { east = e; north = n }) in
-    c.region_of.ensures ∙ both_arrive region (get_or a.east.now i (pos 0)) (get_or a.north.now i (pos 0)) (search rules) (search rules)
+    c.region_of.ensures ∙ both_arrive region (get_or a.table.east.now i (pos 0)) (get_or a.table.north.now i (pos 0)) (search rules) (search rules)
 
 pub region_of-requires : goal.region_of-requires
 region_of-requires c =
@@ -30,14 +30,14 @@ region_of-requires c =
     let p = c.requires in
     let i = c.loop-stand.stand in
     let inside : ℤ → ℤ → Bool = λ e n. in_grid a.grid (record { east = e; north = n }) in
-    (p.lawful, both_arrive inside (get_or a.east.now i (pos 0)) (get_or a.north.now i (pos 0)) (search rules) (search rules) ∙ p.inside i c.loop-stand-test.true)
+    (p.lawful, both_arrive inside (get_or a.table.east.now i (pos 0)) (get_or a.table.north.now i (pos 0)) (search rules) (search rules) ∙ p.inside i c.loop-stand-test.true)
 
 pub overflow_cast-column : goal.overflow_cast-column
 overflow_cast-column c =
     let a = c.args in
     let p = c.requires in
     let i = c.loop-stand.stand in
-    omega (arith, told c, region_less a.grid (place_in a.east.now a.north.now i) p.lawful (p.inside i c.loop-stand-test.true))
+    omega (arith, told c, region_less a.grid (place_in a.table.east.now a.table.north.now i) p.lawful (p.inside i c.loop-stand-test.true))
 
 pub loop-stand-preserved : goal.loop-stand-preserved
 loop-stand-preserved c = front_more c.loop-stand.invariant c.loop-stand-test.true (told c)

@@ -23,4 +23,4 @@ pub bounds-self-place-3 : goal.bounds-self-place-3
 bounds-self-place-3 c = length_room _ _ _ _ c.requires.step.grows c.requires.step.on c.from-place.ensures
 
 pub returns : goal.returns
-returns c = record { stepped = c.step-further.ensures; places = c.pass.ensures; path = rw c.from-place.ensures; slots = (refl, refl, refl) }
+returns c = record { stepped = rw c.from.ensures at c.step-further.ensures; places = c.pass.ensures; path = rw c.from-place.ensures; slots = (refl, refl, refl) }
