@@ -10,6 +10,7 @@ use lib.Dec.{ltb}
 use lib.ListN.{length}
 use borrow.Table.Steps.{cases}
 use borrow.Author.Tests.{eq-eqb, ne_eqb}
+use Rattle.std.specs.Prelude.{Ok}
 use Rattle.base.specs.Lists.{begins, In}
 use Rattle.base.proofs.Tests.{le_or_lt}
 use Rattle.base.proofs.Begins.{begins-append, in_or_out}
@@ -25,13 +26,13 @@ use Rattle.meaning.proofs.Walking.{node_in, node_out}
 use Rattle.walk.specs.Walks.{child_in}
 use Rattle.walk.specs.Nodes.{node_of}
 use Rattle.walk.proofs.Lawful.{node_of_out, child_found}
-use Rattle.session.specs.Strokes.{passed, lost, next_on, lengthened, arrived, typed_on}
+use Rattle.session.specs.Strokes.{lost, next_on, lengthened, arrived, typed_on}
 use Rattle.session.specs.Promises.{TableOf}
 use Rattle.session.proofs.Steps.{lost_none, lost_some, next_nowhere, next_child, typed_arrived}
 use Rattle.session.proofs.Texts.{node_some, path_last, len_of, session_longer}
 
 -- the session that a letter arrives at, where it leads to the node of a text or nowhere
-arrives_at : (t : Table) (q : List ℕ) (s : Session) (b : ℕ) → arrived s b (node_of t q) ≡ passed (lengthened s b (node_or0 t q))
+arrives_at : (t : Table) (q : List ℕ) (s : Session) (b : ℕ) → arrived s b (node_of t q) ≡ Ok (lengthened s b (node_or0 t q))
 arrives_at t q s b = cases (ltb (number_in q (beginnings t)) (length (beginnings t))) (λ e. rw e) (λ e. rw e)
 
 -- the empty text has a node
@@ -68,16 +69,16 @@ module _ (t : Table) (g : Grid) (nodes : List ℕ) (written : begins (node_words
   next_lawful : next_on nodes (length p) (node_or0 t p) b ≡ node_of t (p ++ (b ∷ []))
   next_lawful = ⊎_elim next_in next_out (in_or_out p (beginnings t))
 
-  typed_lawful : length p < 24 → allowed b ≡ true → typed_on nodes (session_of t p) b ≡ passed (session_of t (p ++ (b ∷ [])))
+  typed_lawful : length p < 24 → allowed b ≡ true → typed_on nodes (session_of t p) b ≡ Ok (session_of t (p ++ (b ∷ [])))
   typed_lawful room h =
       typed_arrived nodes (session_of t p) b (omega (arith, len_of t p)) h
       ∙ ap₂ (λ (k n : ℕ). arrived (session_of t p) b (next_on nodes k n b)) (len_of t p) (path_last t p (omega arith))
       ∙ ap (arrived (session_of t p) b) next_lawful
       ∙ arrives_at t (p ++ (b ∷ [])) (session_of t p) b
-      ∙ ap passed (session_longer t p b room)
+      ∙ ap Ok (session_longer t p b room)
 
 -- so on any nodes of a lawful set
-pub typed_served : (nodes : List ℕ) (t : Table) → TableOf nodes t → (p : List ℕ) (b : ℕ) → length p < 24 → allowed b ≡ true → typed_on nodes (session_of t p) b ≡ passed (session_of t (p ++ (b ∷ [])))
+pub typed_served : (nodes : List ℕ) (t : Table) → TableOf nodes t → (p : List ℕ) (b : ℕ) → length p < 24 → allowed b ≡ true → typed_on nodes (session_of t p) b ≡ Ok (session_of t (p ++ (b ∷ [])))
 typed_served nodes t of p b room h =
     let parts = set_parts t of.0 of.1 of.2 in
     typed_lawful t of.0 nodes (rw of.3 at parts.nodes) parts.table.ordered p b room h

@@ -6,9 +6,10 @@ use mathlib.Core.List.{List, []}
 use Prim.Native.Nat.{ℕ, ◌≤◌}
 use native.Mathlib.Omega.{arith}
 use lib.ListN.{length, get_or}
+use Rattle.std.specs.Prelude.{Result, Ok, Some}
 use Rattle.base.proofs.Begins.{in_or_out}
 use Rattle.rules.specs.declared.Session.{Session}
-use Rattle.rules.specs.declared.Verdict.{Verdict}
+use Rattle.rules.specs.declared.Refusal.{Refusal}
 use Rattle.rules.specs.Numbers.{verdict_number}
 use Rattle.rules.specs.Names.{folded}
 use Rattle.rules.specs.Tables.{Table}
@@ -18,7 +19,6 @@ use Rattle.rules.proofs.Bytes.{text_parts, text_taken}
 use Rattle.rules.proofs.Folds.{refusal_folded, letters_folded}
 use Rattle.rules.proofs.Numbers.{one_verdict}
 use Rattle.meaning.proofs.Walking.{node_in}
-use Rattle.walk.specs.declared.Child.TheVariants.{At}
 use Rattle.walk.specs.Walks.{node}
 use Rattle.walk.specs.Nodes.{node_of}
 use Rattle.walk.proofs.Lawful.{node_of_in, node_of_out}
@@ -48,7 +48,7 @@ module _ (t : Table) (s : Session) (l : LawfulSession t s) where
       let p = letters_of s in
       let found : lost s.len (get_or s.path s.len 0) ≡ lost (length p) (node_or0 t p) = ap₂ lost (lawful_len t s l) lawful_last in
       ⊎_elim
-      (λ h. reached-node s lawful-short (found ∙ lost-in t p h) ∙ ap (λ (n : ℕ). At (node n)) (lawful_last ∙ node_in t p h) ∙ sym (node_of_in t p h))
+      (λ h. reached-node s lawful-short (found ∙ lost-in t p h) ∙ ap (λ (n : ℕ). Ok (Some (node n))) (lawful_last ∙ node_in t p h) ∙ sym (node_of_in t p h))
       (λ h. reached_nowhere s lawful-short (found ∙ lost_out t p h) ∙ sym (node_of_out t p h))
       (in_or_out p (beginnings t))
 
@@ -58,7 +58,7 @@ fresh-lawful t = subst (LawfulSession t) (sym (fresh_is t)) (session-lawful t []
 -- ---- one outcome
 
 -- no two outcomes of a keystroke keep its promise on a lawful set and session
-pub one_outcome : (refusal : List ℕ → ℕ) (letters : List ℕ → List ℕ) (Served : Table → Type 0) (s s' s'' : Session) (v w : Verdict) (t : Table) → Served t → LawfulSession t s
+pub one_outcome : (refusal : List ℕ → ℕ) (letters : List ℕ → List ℕ) (Served : Table → Type 0) (s s' s'' : Session) (v w : Result Unit Refusal) (t : Table) → Served t → LawfulSession t s
     → KeyPromise refusal letters Served s s' v → KeyPromise refusal letters Served s s'' w → (v ≡ w) × (s' ≡ s'')
 one_outcome refusal letters Served s s' s'' v w t of l a b =
     let x = a.lawful t of l in
@@ -67,7 +67,7 @@ one_outcome refusal letters Served s s' s'' v w t of l a b =
 
 -- ---- typing and rubbing out
 
-module _ (nodes : List ℕ) (b : ℕ) (s s' : Session) (v : Verdict) (done : TypePromise nodes b s s' v) (t : Table) (of : TableOf nodes t) (l : LawfulSession t s) where
+module _ (nodes : List ℕ) (b : ℕ) (s s' : Session) (v : Result Unit Refusal) (done : TypePromise nodes b s s' v) (t : Table) (of : TableOf nodes t) (l : LawfulSession t s) where
   pub type_never_seven : verdict_number v ≡ 7 → ⊥
   type_never_seven e = type_not_seven (letters_of s) b (sym (done.lawful t of l).0 ∙ e)
 
@@ -77,10 +77,10 @@ module _ (nodes : List ℕ) (b : ℕ) (s s' : Session) (v : Verdict) (done : Typ
       subst (LawfulSession t) (sym (done.lawful t of l).1) (session-lawful t (letters_typed (letters_of s) b) (typed_allowed (letters_of s) b l.allowed))
 
 -- what is promised for a byte is promised for its small letter
-pub type_folded : (nodes : List ℕ) (b : ℕ) (s s' : Session) (v : Verdict) → TypePromise nodes (folded b) s s' v ≡ TypePromise nodes b s s' v
+pub type_folded : (nodes : List ℕ) (b : ℕ) (s s' : Session) (v : Result Unit Refusal) → TypePromise nodes (folded b) s s' v ≡ TypePromise nodes b s s' v
 type_folded nodes b s s' v = λ i. KeyPromise (λ p. refusal_folded p b i) (λ p. letters_folded p b i) (TableOf nodes) s s' v
 
-module _ (s s' : Session) (v : Verdict) (done : RubPromise s s' v) (t : Table) (l : LawfulSession t s) where
+module _ (s s' : Session) (v : Result Unit Refusal) (done : RubPromise s s' v) (t : Table) (l : LawfulSession t s) where
   pub rub_never_seven : verdict_number v ≡ 7 → ⊥
   rub_never_seven e = rub_not_seven (letters_of s) (sym (done.lawful t tt l).0 ∙ e)
 

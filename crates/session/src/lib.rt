@@ -2,42 +2,18 @@
 // Nothing is asked of session and nodes: on any words a keystroke ends, reads nothing outside them, and a refused one alters nothing.
 #![tactic(auto)]
 
-ghost use Rattle.std.specs.Prelude.{◌≡◌};
+ghost use Rattle.std.specs.Prelude.{◌≡◌, ◌≤◌, ◌<◌, IfOk};
 ghost use Rattle.base.specs.Lent.{given};
 ghost use Rattle.rules.specs.Names.{folded};
 ghost use Rattle.session.specs.Promises.{TypePromise, RubPromise};
-ghost use Rattle.session.specs.Strokes.{refused_stroke, lost, next_on, led_on, typed_on, rubbed_out, reached};
+ghost use Rattle.session.specs.Strokes.{Struck, lost, next_on, led_on, typed_on, rubbed_out, reached};
 
-use rules::{Node, Refusal, Session, Stand, Verdict};
+use rules::{Broken, Node, Refusal, Session, Stand};
 use table::names::{allowed, folded};
-use walk::{Child, child_of};
-
-// What a keystroke comes to: whether it is taken, and the session after it, which is the old one where it is not.
-#[derive(Clone, Copy)]
-pub struct Stroke {
-    pub verdict: Verdict,
-    pub session: Session,
-}
-
-// Where a letter leads: to a node, 0 for none; or it is refused.
-#[derive(Clone, Copy)]
-enum Led {
-    To(u32),
-    Refused(Refusal),
-}
-
-impl Stroke {
-    fn refused(why: Refusal, session: Session) -> Stroke
-        ensures { result ≡ refused_stroke why session }
-    {
-        Stroke {
-            verdict: Verdict::Refused(why),
-            session,
-        }
-    }
-}
+use walk::child_of;
 
 // Whether the letters led nowhere, by the word of the path past them. The root is node 0 too, so a 0 says so only past some letters.
+#[tactic(auto, unfolding(crate::specs::Strokes::lost))]
 fn lost(letters: usize, last: u32) -> bool
     ensures { result ≡ lost letters last }
 {
@@ -48,113 +24,102 @@ fn lost(letters: usize, last: u32) -> bool
 }
 
 // Where one more letter leads from the node of the letters so far; from nowhere none leads on.
-fn next(nodes: &[u32], letters: usize, last: Node, byte: u8) -> Child
+#[tactic(auto, unfolding(crate::specs::Strokes::next_on))]
+fn next(nodes: &[u32], letters: usize, last: Node, byte: u8) -> Result<Option<Node>, Broken>
     ensures { result ≡ next_on (given nodes) letters last.0 byte }
 {
     if lost(letters, last.0) {
-        return Child::Nowhere;
+        return Ok(None);
     }
     child_of(nodes, last, byte)
 }
 
-// Whether a letter is taken behind so many, and the node that it leads to. It is taken where it leads nowhere too.
-fn leads(nodes: &[u32], letters: usize, last: Node, byte: u8) -> Led
-    ensures { result ≡ led_on (given nodes) letters last.0 byte }
+// Whether a letter is taken behind so many, and the node that it leads to, 0 for none. It is taken where it leads nowhere too.
+#[tactic(auto, unfolding(crate::specs::Strokes::led_on))]
+fn leads(nodes: &[u32], letters: usize, last: Node, byte: u8) -> Result<u32, Refusal>
+    requires { letters ≤ 24 }
+    ensures node { result ≡ led_on (given nodes) letters last.0 byte }
+    ensures room { IfOk result (λ _. letters < 24) }
 {
-    if Stand::NAME_MOST < letters {
-        return Led::Refused(Refusal::NotLawful);
-    }
     if letters == Stand::NAME_MOST {
-        return Led::Refused(Refusal::TextTooLong);
+        return Err(Refusal::TextTooLong);
     }
     if !allowed(byte) {
-        return Led::Refused(Refusal::TextByteNotAllowed);
+        return Err(Refusal::TextByteNotAllowed);
     }
-    match next(nodes, letters, last, byte) {
-        Child::At(node) => Led::To(node.0),
-        Child::Nowhere => Led::To(0),
-        Child::Broken => Led::Refused(Refusal::NotLawful),
-    }
-}
-
-// A letter typed, by value: one look among the children of the last letter's node, however long the text. One local is the session all
-// the way to the one return, changed only where the letter is taken, so that the record is copied once in and once out.
-pub fn with_letter(nodes: &[u32], session: Session, byte: u8) -> Stroke
-    ensures { result ≡ typed_on (given nodes) session (folded byte) }
-{
-    let letter = folded(byte);
-    let mut after = session;
-    let len = after.len as usize;
-    let last = if len < Session::PATH {
-        after.path[len]
-    } else {
-        0
-    };
-    let verdict = match leads(nodes, len, Node(last), letter) {
-        Led::To(node) => {
-            after.text[len] = letter;
-            after.path[len + 1] = node;
-            after.len += 1;
-            Verdict::Passed
-        }
-        Led::Refused(why) => Verdict::Refused(why),
-    };
-    Stroke {
-        verdict,
-        session: after,
+    match next(nodes, letters, last, byte)? {
+        Some(node) => Ok(node.0),
+        None => Ok(0),
     }
 }
 
-// The last letter rubbed out, by value. Its places are 0 again, as behind any text.
-pub fn rubbed_out(session: Session) -> Stroke
-    ensures { result ≡ rubbed_out session }
+// A letter typed into the session that is lent: one look among the children of the last letter's node, however long the text.
+// A refusal leaves the session as it was.
+pub fn type_byte(nodes: &[u32], session: &mut Session, byte: u8) -> Result<(), Refusal>
+    ensures step { Struck (typed_on (given nodes) session.old (folded byte)) session.old session.new result }
+    ensures promise { TypePromise (given nodes) byte session.old session.new result }
 {
     let len = session.len as usize;
     if Stand::NAME_MOST < len {
-        return Stroke::refused(Refusal::NotLawful, session);
+        return Err(Refusal::NotLawful);
+    }
+    let letter = folded(byte);
+    let last = Node(session.path[len]);
+    let node = leads(nodes, len, last, letter)?;
+    session.text[len] = letter;
+    session.path[len + 1] = node;
+    session.len += 1;
+    Ok(())
+}
+
+// The last letter of the session that is lent, rubbed out. Its places are 0 again, as behind any text.
+pub fn rub_out(session: &mut Session) -> Result<(), Refusal>
+    ensures step { Struck (rubbed_out session.old) session.old session.new result }
+    ensures promise { RubPromise session.old session.new result }
+{
+    let len = session.len as usize;
+    if Stand::NAME_MOST < len {
+        return Err(Refusal::NotLawful);
     }
     if len == 0 {
-        return Stroke::refused(Refusal::NothingToRubOut, session);
+        return Err(Refusal::NothingToRubOut);
     }
+    session.text[len - 1] = 0;
+    session.path[len] = 0;
+    session.len -= 1;
+    Ok(())
+}
+
+// A letter typed, by value.
+pub fn with_letter(nodes: &[u32], session: Session, byte: u8) -> Result<Session, Refusal>
+    ensures { result ≡ typed_on (given nodes) session (folded byte) }
+{
+    let mut after = session;
+    type_byte(nodes, &mut after, byte)?;
+    Ok(after)
+}
+
+// The last letter rubbed out, by value.
+pub fn rubbed_out(session: Session) -> Result<Session, Refusal>
+    ensures { result ≡ rubbed_out session }
+{
     let mut shorter = session;
-    shorter.text[len - 1] = 0;
-    shorter.path[len] = 0;
-    shorter.len = session.len - 1;
-    Stroke {
-        verdict: Verdict::Passed,
-        session: shorter,
-    }
+    rub_out(&mut shorter)?;
+    Ok(shorter)
 }
 
 // Where the session's letters came to. Its path says so: nothing is walked.
-pub fn reached(session: Session) -> Child
+#[tactic(auto, unfolding(crate::specs::Strokes::reached))]
+pub fn reached(session: Session) -> Result<Option<Node>, Broken>
     ensures { result ≡ reached session }
 {
     let len = session.len as usize;
     if Stand::NAME_MOST < len {
-        return Child::Broken;
+        return Err(Broken);
     }
     let node = session.path[len];
     if lost(len, node) {
-        return Child::Nowhere;
+        return Ok(None);
     }
-    Child::At(Node(node))
-}
-
-// A letter typed into the session that is lent. The record is rewritten whole, so that the step by value has all the branches.
-pub fn type_byte(nodes: &[u32], session: &mut Session, byte: u8) -> Verdict
-    ensures { TypePromise (given nodes) byte session.old session.new result }
-{
-    let out = with_letter(nodes, *session, byte);
-    *session = out.session;
-    out.verdict
-}
-
-// The last letter of the session that is lent, rubbed out.
-pub fn rub_out(session: &mut Session) -> Verdict
-    ensures { RubPromise session.old session.new result }
-{
-    let out = rubbed_out(*session);
-    *session = out.session;
-    out.verdict
+    Ok(Some(Node(node)))
 }
