@@ -10,8 +10,8 @@ use runs::Runs;
 
 // The first of a run, if any of it is in the rectangle.
 #[tactic(auto, using(crate::proofs::Scans::scan_hits))]
-fn first_of_run(runs: &Runs, run: &[u32], rect: Rect) -> Result<Option<Stand>, Refusal>
-    ensures { result ≡ first_seen (easts runs.now) (norths runs.now) rect (given run) }
+fn first_of_run(runs: Runs, run: &[u32], rect: Rect) -> Result<Option<Stand>, Refusal>
+    ensures { result ≡ first_seen (easts runs.entry) (norths runs.entry) rect (given run) }
 {
     for stand in run {
         let stand = Stand(*stand);
@@ -23,8 +23,8 @@ fn first_of_run(runs: &Runs, run: &[u32], rect: Rect) -> Result<Option<Stand>, R
 }
 
 // Runs are gone through in the order of their regions, as in the range's list, and not in the order of their entries, which is by score.
-pub(crate) fn first_in(runs: &Runs, rect: Rect) -> Result<Option<Stand>, Refusal>
-    ensures { result ≡ first_seen (easts runs.now) (norths runs.now) rect (stands_there runs.now) }
+pub(crate) fn first_in(runs: Runs, rect: Rect) -> Result<Option<Stand>, Refusal>
+    ensures { result ≡ first_seen (easts runs.entry) (norths runs.entry) rect (stands_there runs.entry) }
 {
     let mut left = runs.touched.regions;
     while !left.is_empty() {
