@@ -32,7 +32,7 @@ pub fn any_from(set: Set, at: Listed, rect: Rect) -> Result<Option<Stand>, Refus
         touched,
         numbers: &numbers,
     };
-    first_in(&runs, rect)
+    first_in(runs, rect)
 }
 
 // Whether any stand whose name begins with a typed text is in a rectangle; with yes comes the first stand of that range.

@@ -22,14 +22,14 @@ fn put(found: &mut [u32], at: u32, stand: Stand)
 
 // The stands of one run, behind as many as were found before. How many are found by then is answered.
 fn gather_run(
-    runs: &Runs,
+    runs: Runs,
     run: &[u32],
     rect: Rect,
     found: &mut [u32],
     before: u32,
 ) -> Result<u32, Broken>
     requires { before + length run.now < 4294967296 }
-    ensures { tallied result found.new ≡ gathered (easts runs.now) (norths runs.now) rect found.old before (given run) }
+    ensures { tallied result found.new ≡ gathered (easts runs.entry) (norths runs.entry) rect found.old before (given run) }
 {
     let mut n = before;
     for stand in run {
@@ -43,8 +43,8 @@ fn gather_run(
 }
 
 // The stands of each region's run, the smallest region first. How many there are is answered.
-pub(crate) fn gather(runs: &Runs, rect: Rect, found: &mut [u32]) -> Result<u32, Broken>
-    ensures { tallied result found.new ≡ gathered (easts runs.now) (norths runs.now) rect found.old 0 (stands_there runs.now) }
+pub(crate) fn gather(runs: Runs, rect: Rect, found: &mut [u32]) -> Result<u32, Broken>
+    ensures { tallied result found.new ≡ gathered (easts runs.entry) (norths runs.entry) rect found.old 0 (stands_there runs.entry) }
 {
     let mut n = 0;
     let mut left = runs.touched.regions;

@@ -26,8 +26,8 @@ const NEAR: usize = 32;
 
 // The runs' matches, written once they are known to fit the room. Up to NEAR of them are kept from the count;
 // only for more the runs are gone through again.
-fn fill(runs: &Runs, rect: Rect, found: &mut [u32]) -> Result<u32, RangeRefusal>
-    ensures { range_came_in result found ≡ looked (easts runs.now) (norths runs.now) rect (stands_there runs.now) found.old }
+fn fill(runs: Runs, rect: Rect, found: &mut [u32]) -> Result<u32, RangeRefusal>
+    ensures { range_came_in result found ≡ looked (easts runs.entry) (norths runs.entry) rect (stands_there runs.entry) found.old }
 {
     let mut near = [0u32; NEAR];
     let matches = gather(runs, rect, &mut near)?;
@@ -60,7 +60,7 @@ pub fn range_from(set: Set, at: Listed, rect: Rect, found: &mut [u32]) -> Result
         touched,
         numbers: &numbers,
     };
-    fill(&runs, rect, found)
+    fill(runs, rect, found)
 }
 
 // The stands whose name begins with a typed text and which are in a rectangle, by region and then by number.

@@ -9,9 +9,9 @@ use walk::entry::entry_at;
 
 impl<'a> Runs<'a> {
     // A region's run, as the entry says that is noted for it. One that ends before it begins has no stands.
-    pub fn run_of(&self, region: u32) -> Result<&'a [u32], Broken>
+    pub fn run_of(self, region: u32) -> Result<&'a [u32], Broken>
         requires { region < 64 }
-        ensures { run_seen (noted self.now) result ≡ run_of (noted self.now) region }
+        ensures { run_seen (noted self.entry) result ≡ run_of (noted self.entry) region }
     {
         let order = self.set.index.order;
         let number = self.numbers[region as usize] as usize;
@@ -26,8 +26,8 @@ impl<'a> Runs<'a> {
     }
 
     // Where a stand is that the order has. It may be any number, as the order's words may.
-    pub fn sight(&self, stand: Stand) -> Result<Place, Broken>
-        ensures { result ≡ sighted (easts self.now) (norths self.now) stand.0 }
+    pub fn sight(self, stand: Stand) -> Result<Place, Broken>
+        ensures { result ≡ sighted (easts self.entry) (norths self.entry) stand.0 }
     {
         let s = stand.0 as usize;
         if self.set.table.east.len() <= s {

@@ -22,16 +22,16 @@ run_of-requires c =
 pub returns-in_err-run : goal.returns-in_err-run
 returns-in_err-run c =
     let p = err_from_is_err_and c.from_residual.result c.from_residual.ensures.1 in
-    rw p.1 (sweep_unread _ _ _ _ _ _ c.args.runs.now.ready _ _ _ c.loop-rect.invariant (sym c.is_empty.ensures ∙ c.loop-rect-test.true) _ c.least.ensures _ c.run_of.ensures _ c.in_err-run.was)
+    rw p.1 (sweep_unread _ _ _ _ _ _ c.args.runs.ready _ _ _ c.loop-rect.invariant (sym c.is_empty.ensures ∙ c.loop-rect-test.true) _ c.least.ensures _ c.run_of.ensures _ c.in_err-run.was)
 
 pub gather_run-requires : goal.gather_run-requires
 gather_run-requires c =
-    sweep_room _ _ _ _ _ _ c.args.runs.now.ready _ _ _ c.loop-rect.invariant (sym c.is_empty.ensures ∙ c.loop-rect-test.true) _ c.least.ensures _ c.run_of.ensures _ c.in_ok-run.was
+    sweep_room _ _ _ _ _ _ c.args.runs.ready _ _ _ c.loop-rect.invariant (sym c.is_empty.ensures ∙ c.loop-rect-test.true) _ c.least.ensures _ c.run_of.ensures _ c.in_ok-run.was
 
 pub returns-in_err-n : goal.returns-in_err-n
 returns-in_err-n c =
     let p = err_from_is_err_and c.from_residual-in_err-n.result c.from_residual-in_err-n.ensures.1 in
-    rw p.1 (sweep_breaks _ _ _ _ _ _ c.args.runs.now.ready _ _ _ c.loop-rect.invariant (sym c.is_empty.ensures ∙ c.loop-rect-test.true) _ c.least.ensures _ c.run_of.ensures _ c.in_ok-run.was _ _ _
+    rw p.1 (sweep_breaks _ _ _ _ _ _ c.args.runs.ready _ _ _ c.loop-rect.invariant (sym c.is_empty.ensures ∙ c.loop-rect-test.true) _ c.least.ensures _ c.run_of.ensures _ c.in_ok-run.was _ _ _
     c.gather_run.ensures c.in_err-n.was)
 
 pub loop-rect-smaller : goal.loop-rect-smaller
@@ -39,7 +39,7 @@ loop-rect-smaller c = fewer _ (sym c.is_empty.ensures ∙ c.loop-rect-test.true)
 
 pub loop-rect-preserved : goal.loop-rect-preserved
 loop-rect-preserved c =
-    sweep_on _ _ _ _ _ _ c.args.runs.now.ready _ _ _ c.loop-rect.invariant (sym c.is_empty.ensures ∙ c.loop-rect-test.true) _ c.least.ensures _ c.run_of.ensures _ c.in_ok-run.was _ _ _ _
+    sweep_on _ _ _ _ _ _ c.args.runs.ready _ _ _ c.loop-rect.invariant (sym c.is_empty.ensures ∙ c.loop-rect-test.true) _ c.least.ensures _ c.run_of.ensures _ c.in_ok-run.was _ _ _ _
     c.gather_run.ensures c.in_ok-n.was c.but_least-left.ensures
 
 pub returns : goal.returns

@@ -6,7 +6,7 @@ use Rattle.runs.proofs.Walks.{run-fits, run_part}
 use Rattle.runs.proofs.Runs.run_of.Goals as goal
 
 pub slice_bounds-result-end : goal.slice_bounds-result-end
-slice_bounds-result-end c = let fits = run-fits _ _ _ c.entry_at.ensures _ _ c.args.self.now.ready _ c.in_ok-entry.was in omega (arith)
+slice_bounds-result-end c = let fits = run-fits _ _ _ c.entry_at.ensures _ _ c.args.self.ready _ c.in_ok-entry.was in omega (arith)
 
 pub returns : goal.returns
-returns c = run_part (noted c.args.self.now) c.args.region _ c.entry_at.ensures _ c.in_ok-entry.was _ c.min-first.ensures
+returns c = run_part (noted c.args.self) c.args.region _ c.entry_at.ensures _ c.in_ok-entry.was _ c.min-first.ensures

@@ -9,7 +9,7 @@ pub returns-then-self-s : goal.returns-then-self-s
 returns-then-self-s c = search (rules, is_unknown)
 
 pub bounds-self-s-2 : goal.bounds-self-s-2
-bounds-self-s-2 c = let enough = norths_enough _ _ _ c.args.self.now.ready.agreed in omega arith
+bounds-self-s-2 c = let enough = norths_enough _ _ _ c.args.self.ready.agreed in omega arith
 
 pub returns : goal.returns
 returns c = search (rules, is_placed)
