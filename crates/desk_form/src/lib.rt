@@ -5,7 +5,7 @@
 mod columns;
 mod group;
 
-ghost use Rattle.std.specs.Prelude.{◌≡◌, ◌≤◌};
+ghost use Rattle.std.specs.Prelude.{◌≡◌, ◌≤◌, length};
 ghost use Rattle.base.specs.Lent.{given};
 ghost use Rattle.rules.specs.Tables.{lent_table};
 ghost use Rattle.desk_form.specs.Columns.{parts_table, fronts};
@@ -44,6 +44,7 @@ impl Reading {
 }
 
 // The parts of a table with room for any input's stands.
+#[derive(Drop)]
 pub struct Parts {
     pub text: [u8; Reading::BYTES_MOST],
     pub starts: [u32; Reading::STARTS_ROOM],
@@ -55,7 +56,7 @@ pub struct Parts {
 impl Parts {
     // The table of the first so many stands, whose names have so many bytes.
     pub fn table(&self, bytes: usize, stands: usize) -> Table<'_>
-        requires short { bytes ≤ 16384 }
+        requires short { bytes ≤ length self.now.text }
         requires few { stands ≤ 64 }
         ensures { lent_table result ≡ fronts bytes stands (parts_table self.now) }
     {
