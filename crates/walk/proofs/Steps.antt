@@ -1,8 +1,8 @@
 -- One turn of the search among siblings, and one letter of the walk to a text's node, on any words.
 -- Assumes nothing.
-use mathlib.Core.Path.{◌≡◌, refl, sym, ap, ◌∙◌}
+use mathlib.Core.Path.{◌≡◌, refl, sym, ◌∙◌}
 use mathlib.Core.List.{List}
-use Prim.Native.Nat.{ℕ, zero, suc, ◌+◌, ◌-◌, ◌/◌, ◌≤◌, ◌<◌}
+use Prim.Native.Nat.{ℕ, zero, suc, ◌+◌, ◌/◌, ◌≤◌, ◌<◌}
 use native.Mathlib.Omega.{arith}
 use native.Mathlib.Numerals.{add-one}
 use lib.ListN.{length, drop, get_or, drop_of_length-le}
@@ -30,9 +30,6 @@ module _ (words : List ℕ) (past byte c : ℕ) where
     siblings_here e = rw (lt-ltb _ _ more, eq-eqb _ _ e)
 
     module _ (other : node_word words c 1 ≡ byte → ⊥) where
-      siblings_back : node_word words c 4 ≤ c → siblings words past byte (suc fuel) c ≡ Err broken
-      siblings_back h = rw (lt-ltb _ _ more, ne_eqb _ _ other, le-leb _ _ h)
-
       pub siblings_next : c < node_word words c 4 → siblings words past byte (suc fuel) c ≡ siblings words past byte fuel (node_word words c 4)
       siblings_next h = rw (lt-ltb _ _ more, ne_eqb _ _ other, lt-leb _ _ h)
 
@@ -53,41 +50,12 @@ module _ (words : List ℕ) (above byte : ℕ) where
     pub begin : node_word words above 4 ≤ length words / 8 → node_word words above 4 < 4294967296 → Searching words above byte (node_word words above 4) (above + 1)
     begin h s = record { within = h; small = s; fuel = suc (node_word words above 4); enough = omega arith; same = child-siblings h }
 
-  module _ (past c : ℕ) (s : Searching words above byte past c) where
-    pub done : past ≤ c → Ok None ≡ child_in words above byte
-    done h = sym (s.same ∙ siblings-past words past byte c s.fuel h)
-
-    module _ (more : c < past) where
-      -- there is fuel for one turn more
-      turn : child_in words above byte ≡ siblings words past byte (suc (s.fuel - 1)) c
-      turn = let one : s.fuel ≡ suc (s.fuel - 1) = omega (arith, s.enough) in s.same ∙ ap (λ (f : ℕ). siblings words past byte f c) one
-
-      pub found : node_word words c 1 ≡ byte → Ok (Some (node c)) ≡ child_in words above byte
-      found e = sym (turn ∙ siblings_here words past byte c (s.fuel - 1) more e)
-
-      module _ (other : node_word words c 1 ≡ byte → ⊥) where
-        pub backward : node_word words c 4 ≤ c → Err broken ≡ child_in words above byte
-        backward h = sym (turn ∙ siblings_back words past byte c (s.fuel - 1) more other h)
-
-        pub onward : c < node_word words c 4 → Searching words above byte past (node_word words c 4)
-        onward h =
-            record {
-              within = s.within;
-              small = s.small;
-              fuel = s.fuel - 1;
-              enough = omega (arith, s.enough);
-              same = turn ∙ siblings_next words past byte c (s.fuel - 1) more other h;
-            }
-
 -- the walk to a typed text's node stands at node n after i letters: from here it goes on with the rest
 pub record Walking (words text : List ℕ) (n i : ℕ) : Type 0 where
   pub within : i ≤ length text
   pub rest : node_in words (folded_text text) ≡ node_from words n (folded_text (drop i text))
 
 module _ (words text : List ℕ) where
-  pub walk_begins : Walking words text 0 0
-  walk_begins = record { within = omega arith; rest = refl }
-
   module _ (n i : ℕ) (w : Walking words text n i) where
     pub walk_ends : length text ≤ i → Ok (Some (node n)) ≡ node_in words (folded_text text)
     unfolding node_from

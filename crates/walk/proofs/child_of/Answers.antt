@@ -2,7 +2,7 @@
 use borrow.Author.Rules.{rules}
 use Prim.Native.Nat.{◌+◌, ◌*◌}
 use native.Mathlib.Omega.{arith}
-use Rattle.walk.proofs.Steps.{outside, too_far, begin, done, found, backward, onward}
+use Rattle.walk.proofs.Steps.{outside, too_far, begin}
 use Rattle.walk.proofs.child_of.Goals as goal
 
 pub returns-then-all-p : goal.returns-then-all-p
@@ -13,15 +13,3 @@ returns-then-all-past c = search (rules, too_far)
 
 pub loop-c-init : goal.loop-c-init
 loop-c-init c = begin _ _ _ c.if-all-p.false c.if-all-past.false (omega (arith, c.type_inv.nodes (c.args.above.0 * 8 + 4)))
-
-pub returns-then-nodes-c : goal.returns-then-nodes-c
-returns-then-nodes-c c = search (rules, found)
-
-pub returns-then-next-c : goal.returns-then-next-c
-returns-then-next-c c = search (rules, backward)
-
-pub loop-c-preserved : goal.loop-c-preserved
-loop-c-preserved c = search (rules, onward)
-
-pub returns : goal.returns
-returns c = search (rules, done)

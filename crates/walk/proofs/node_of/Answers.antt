@@ -1,10 +1,7 @@
 -- `walk::node_of` meets its contract: the loop's invariant is `Walking`, whose laws are of proofs/Steps.antt. Assumes nothing.
 use borrow.Author.Rules.{rules}
-use Rattle.walk.proofs.Steps.{walk_begins, walk_ends, walk_on, walk_stops, walk_breaks}
+use Rattle.walk.proofs.Steps.{walk_ends, walk_on, walk_stops, walk_breaks}
 use Rattle.walk.proofs.node_of.Goals as goal
-
-pub loop-byte-init : goal.loop-byte-init
-loop-byte-init c = search (rules, walk_begins)
 
 pub returns-in_default : goal.returns-in_default
 returns-in_default c = search (rules, walk_stops)
