@@ -2,13 +2,13 @@
 -- Assumes nothing.
 use mathlib.Core.Path.{◌≡◌, refl, sym, ap, ◌∙◌}
 use mathlib.Core.List.{List, []}
-use Prim.Native.Nat.{ℕ, ◌+◌, ◌-◌, ◌≤◌, ◌<◌}
+use Prim.Native.Nat.{ℕ, ◌+◌, ◌-◌, ◌≤◌}
 use native.Mathlib.Omega.{arith}
 use lib.Dec.{leb}
 use lib.ListN.{length, drop, length-append, length-drop, drop_of_length-le}
 use lib.Seq.{drop-cons, length-take-le}
 use borrow.Table.Steps.{cases}
-use borrow.Author.Tests.{le-leb, lt-leb}
+use borrow.Author.Tests.{le-leb}
 use Rattle.rules.specs.declared.Grid.{Grid}
 use Rattle.rules.specs.declared.Ranking.{Ranking}
 use Rattle.std.specs.Prelude.{Option, Some, None, Result, Ok, Err, ok_or}
@@ -60,10 +60,6 @@ module _ (l : List ℕ) (rooms after : Table) where
         of_form = λ s h t. same r s rest [] (sym e ∙ ap read_input (sym t) ∙ input_back s h) (a, b);
         other = λ no. absurd (no r (input_sound l r rest e).0 (input_sound l r rest e).1);
       }
-
-  pub too_long : 16384 < length l → ReadsInput l rooms (Err InputMalformed) after
-  unfolding read_input
-  too_long h = refused (rw (lt-leb _ _ h))
 
   lines_refused : all_lines l ≡ nothing → ReadsInput l rooms (Err InputMalformed) after
   unfolding read_input

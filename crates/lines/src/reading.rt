@@ -43,6 +43,7 @@ fn grown_by(digits: &[u8], most: u32) -> Option<u32>
 }
 
 // The same with no leading zero, and at least one digit.
+#[tactic(auto, using(crate::proofs::Places::no_digit, crate::proofs::Places::leading_zero, crate::proofs::Places::one_digit, crate::proofs::Places::no_leading_zero))]
 fn decimal_in(digits: &[u8], most: u32) -> Option<u32>
     ensures { result ≡ decimal_in most (given digits) }
 {

@@ -1,13 +1,9 @@
 -- `read_input` reads group after group, and nothing may stand behind the last; each answer says what one group left.
 -- Assumes nothing.
-use borrow.Author.Rules.{rules}
 use Rattle.std.proofs.lemmas.Result.{err_from_is_err_and}
 use Rattle.desk_form.proofs.Inputs.{grid_law}
-use Rattle.desk_form.proofs.Readings.{torn_at, too_long, no_opening, no_stands, no_question, more_behind, all_read}
+use Rattle.desk_form.proofs.Readings.{torn_at, no_opening, no_stands, no_question, more_behind, all_read}
 use Rattle.desk_form.proofs.read_input.Goals as goal
-
-pub returns-then-input-gt-BYTES_MOST : goal.returns-then-input-gt-BYTES_MOST
-returns-then-input-gt-BYTES_MOST c = search (rules, too_long)
 
 pub returns-in_err-grid : goal.returns-in_err-grid
 returns-in_err-grid c =
