@@ -1,7 +1,7 @@
 -- The scan's loops, by what is left to look at. Assumes nothing.
 use mathlib.Core.Path.{◌≡◌, sym, ap, ◌∙◌}
-use mathlib.Core.Bool.{true, false, not}
-use mathlib.Core.List.{List, ◌∷◌, ◌++◌}
+use mathlib.Core.Bool.{true, false}
+use mathlib.Core.List.{List, [], ◌∷◌, ◌++◌}
 use Prim.Native.Nat.{ℕ, ◌+◌, ◌≤◌, ◌<◌}
 use native.Mathlib.Omega.{arith}
 use native.Mathlib.Numerals.{add-one}
@@ -10,8 +10,6 @@ use lib.ListN.{length, get_or, drop, drop_of_length-le}
 use lib.Seq.{drop-cons}
 use Rattle.std.specs.Prelude.{Option, Some, None, Result, Ok, Err}
 use Rattle.std.specs.Borrow.{Bor}
-use Rattle.base.specs.Lists.{is_empty, first_of}
-use Rattle.base.proofs.Members.{empty_of}
 use Rattle.rules.specs.declared.Broken.{Broken}
 use Rattle.rules.specs.declared.Place.{Place}
 use Rattle.rules.specs.declared.Rect.{Rect}
@@ -58,20 +56,20 @@ module _ (east north : List ℤ) (rect : Rect) where
   -- ---- at the first region that is left
 
   module _ (n : Noted) (regions left : List ℕ) (same : Left east north rect (touched_stands n regions) (touched_stands n left)) where
-    module _ (some : is_empty left ≡ false) (r : ℕ) (least : r ≡ first_of left) (read : Result (Bor (List ℕ)) Broken) (is : run_seen n read ≡ run_of n r) where
-      here_and_later : Left east north rect (touched_stands n regions) (run_seen n read ++ touched_stands n (drop 1 left))
+    module _ (r : ℕ) (later : List ℕ) (next : left ≡ r ∷ later) (read : Result (Bor (List ℕ)) Broken) (is : run_seen n read ≡ run_of n r) where
+      here_and_later : Left east north rect (touched_stands n regions) (run_seen n read ++ touched_stands n later)
       here_and_later =
-          same ∙ ap scan (run_and_later left some n r least ∙ ap (λ (run : List ℕ). run ++ touched_stands n (drop 1 left)) (sym is))
+          same ∙ ap scan (run_and_later left r later next n ∙ ap (λ (run : List ℕ). run ++ touched_stands n later) (sym is))
 
       pub scan_unread : Ready east north n → (b : Broken) → read ≡ Err b → Err NotLawful ≡ scan (touched_stands n regions)
       unfolding first_seen
       scan_unread ready b e = sym (here_and_later ∙ rw (e, ← is_unknown east north n.stands (omega (arith, ready.all))))
 
-      pub run_begins : (run : Bor (List ℕ)) → read ≡ Ok run → Left east north rect (touched_stands n regions) (drop 0 run.now ++ touched_stands n (drop 1 left))
+      pub run_begins : (run : Bor (List ℕ)) → read ≡ Ok run → Left east north rect (touched_stands n regions) (drop 0 run.now ++ touched_stands n later)
       run_begins run e = here_and_later ∙ rw e
 
     -- ---- no region is left
 
-    pub scan_ends : is_empty left ≡ true → Ok None ≡ scan (touched_stands n regions)
+    pub scan_ends : left ≡ [] → Ok None ≡ scan (touched_stands n regions)
     unfolding first_seen
-    scan_ends none = sym (same ∙ ap (λ (l : List ℕ). scan (touched_stands n l)) (empty_of left (ap not none)))
+    scan_ends none = sym (same ∙ ap (λ (l : List ℕ). scan (touched_stands n l)) none)

@@ -11,18 +11,16 @@ use runs::Runs;
 pub(crate) fn first_in(runs: Runs, rect: Rect) -> Result<Option<Stand>, Refusal>
     ensures { result ≡ first_seen (easts runs.entry) (norths runs.entry) rect (stands_there runs.entry) }
 {
-    let mut left = runs.touched.regions;
-    let first = 'scan: loop {
-        while !left.is_empty() {
-            for stand in runs.run_of(left.least())? {
+    let first = 'scan: {
+        for region in runs.touched.regions.iter() {
+            for stand in runs.run_of(region)? {
                 let stand = Stand(*stand);
                 if in_rect(rect, runs.sight(stand)?) {
                     break 'scan Some(stand);
                 }
             }
-            left = left.but_least();
         }
-        break None;
+        None
     };
     Ok(first)
 }

@@ -9,6 +9,7 @@ use Rattle.rules.specs.declared.Rect.{Rect}
 use Rattle.rules.specs.Places.{edge_strip, regions}
 use Rattle.grid.specs.declared.cells.Span.{Span}
 use Rattle.grid.specs.declared.cells.Cells.{Cells}
+use Rattle.grid.specs.declared.cells.Regions.{Regions}
 
 -- clipped to 0..7
 abbrev pub clip : ℤ → ℕ
@@ -60,6 +61,13 @@ has_cell c r = cond (nat_lt r 32) (bit_at c.low r) (bit_at c.high (r - 32))
 -- the regions of a set, rising
 abbrev pub regions_in : Cells → List ℕ
 regions_in c = keep (has_cell c) (up_to regions)
+
+-- and as they are gone through: those that are still to come
+abbrev pub still_to_come : Regions → List ℕ
+still_to_come r = regions_in r.left
+
+abbrev pub regions_of : Cells → Regions
+regions_of c = record { left = c }
 
 -- the regions of both
 unfoldable pub both_cells : Cells → Cells → Cells

@@ -4,7 +4,8 @@ ghost use Rattle.std.specs.Prelude.{◌≡◌, ◌<◌, ◌≤◌, true, false, 
 ghost use Rattle.base.specs.Lists.{is_empty, first_of};
 ghost use Rattle.base.specs.Bits.{word_of};
 ghost use Rattle.rules.specs.Places.{grid_lawful};
-ghost use Rattle.grid.specs.Cells.{clip, span_of, edges_span, in_span, row_bits, cells_of, both_cells, regions_in};
+ghost use Rattle.std.specs.Iterator.{YieldsFirst, item_count};
+ghost use Rattle.grid.specs.Cells.{still_to_come, regions_of, clip, span_of, edges_span, in_span, row_bits, cells_of, both_cells, regions_in};
 
 use super::metres::edge_strip;
 use rules::{Grid, Rect};
@@ -72,6 +73,38 @@ impl Cells {
             low,
             high: high & (high - 1),
         }
+    }
+}
+
+impl Cells {
+    // The regions one by one, the smallest first.
+    pub fn iter(self) -> Regions
+        ensures { result ≡ regions_of self }
+    {
+        Regions { left: self }
+    }
+}
+
+// The regions of a set that are still to come.
+#[derive(Drop)]
+pub struct Regions {
+    left: Cells,
+}
+
+impl Iterator for Regions {
+    type Item = u32;
+
+    ghost next_gives = { YieldsFirst still_to_come };
+
+    ghost remaining = { item_count still_to_come };
+
+    fn next(&mut self) -> Option<u32> {
+        if self.left.is_empty() {
+            return None;
+        }
+        let least = self.left.least();
+        self.left = self.left.but_least();
+        Some(least)
     }
 }
 

@@ -47,11 +47,9 @@ pub(crate) fn gather(runs: Runs, rect: Rect, found: &mut [u32]) -> Result<u32, B
     ensures { tallied result found.new ≡ gathered (easts runs.entry) (norths runs.entry) rect found.old 0 (stands_there runs.entry) }
 {
     let mut n = 0;
-    let mut left = runs.touched.regions;
-    while !left.is_empty() {
-        let run = runs.run_of(left.least())?;
+    for region in runs.touched.regions.iter() {
+        let run = runs.run_of(region)?;
         n = gather_run(runs, run, rect, found, n)?;
-        left = left.but_least();
     }
     Ok(n)
 }

@@ -1,8 +1,7 @@
 -- A walk through the runs: place by place, and region by region. Assumes nothing.
 use mathlib.Core.Path.{◌≡◌, refl, sym, ap, ◌∙◌}
-use mathlib.Core.Bool.{false}
 use mathlib.Core.List.{List, [], ◌∷◌, ◌++◌}
-use mathlib.Core.Logic.{⊎_elim}
+use mathlib.Core.Logic.{inl, ⊎_elim}
 use Prim.Native.Nat.{ℕ, ◌+◌, ◌-◌, ◌≤◌, ◌<◌}
 use native.Mathlib.Omega.{arith}
 use Rattle.std.proofs.Math.Nat.{min-eq_left, min-eq_right, le_of_lt}
@@ -11,10 +10,12 @@ use lib.IntN.{ℤ}
 use lib.ListN.{length, get_or, take, drop, length-take, length-drop, drop_of_length-le}
 use lib.Seq.{slice, slice-cons}
 use Rattle.std.specs.Prelude.{min, Result, Ok, Err}
-use Rattle.base.specs.Lists.{is_empty, first_of}
 use Rattle.base.proofs.Tests.{le_or_lt}
-use Rattle.base.proofs.Members.{first_rest, drop-take}
+use Rattle.base.proofs.Members.{drop-take}
 use Rattle.rules.specs.declared.Broken.{Broken}
+use Rattle.grid.specs.declared.cells.Cells.{Cells}
+use Rattle.grid.specs.Cells.{regions_in}
+use Rattle.grid.proofs.Listed.{listed_less}
 use Rattle.walk.specs.declared.entry.Entry.{Entry}
 use Rattle.walk.proofs.Spelled.{within_facts, read_within}
 use Rattle.runs.proofs.Sights.{stands_few, places_enough}
@@ -65,10 +66,10 @@ short_by n r east north ready (Err e) read = omega arith
 pub run-short : (n : Noted) (r : ℕ) (east north : List ℤ) → Ready east north n → length (run_of n r) ≤ 1024
 run-short n r east north ready = short_by n r east north ready (entry_noted n r) refl
 
-module _ (left : List ℕ) (some : is_empty left ≡ false) where
-  pub run_and_later : (n : Noted) (r : ℕ) → r ≡ first_of left → touched_stands n left ≡ run_of n r ++ touched_stands n (drop 1 left)
-  run_and_later n r least = rw least (ap (touched_stands n) (first_rest left some).0)
+-- of some regions the next one, and those that come after it
+module _ (left : List ℕ) (r : ℕ) (later : List ℕ) (e : left ≡ r ∷ later) where
+  pub run_and_later : (n : Noted) → touched_stands n left ≡ run_of n r ++ touched_stands n later
+  run_and_later n = ap (touched_stands n) e
 
-  -- those that are left once it is done are fewer
-  pub fewer : (later : List ℕ) → later ≡ drop 1 left → length later < length left
-  fewer later e = omega (arith, ap length e, ap length (first_rest left some).0)
+  pub listed_next : (c : Cells) → left ≡ regions_in c → r < 64
+  listed_next c h = listed_less c r (rw (sym h, e) (inl refl))
