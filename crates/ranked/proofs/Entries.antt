@@ -26,12 +26,9 @@ use Rattle.meaning.proofs.Listing.{under_rises, order_means, stands_in, in_regio
 use Rattle.meaning.proofs.Entries.{entries_mean}
 use Rattle.walk.specs.Entries.{as_read}
 use Rattle.best.proofs.Keys.{key_most}
-use Rattle.search.specs.Searches.{StandColumns, stand_columns, readable_stand, bound_hit, as_long, cut}
+use Rattle.search.specs.Searches.{table_columns, readable_stand, bound_hit, as_long, cut}
 use Rattle.search.proofs.Reading.{stand_read}
 use Rattle.ranked.proofs.Offers.{Sound}
-
-abbrev pub table_columns : Table → StandColumns
-table_columns t = stand_columns t.east t.north t.score
 
 module _ (t : Table) (g : Grid) (l : LawfulTable t g) where
   pub stand_seen : (i : ℕ) → i < stands t → readable_stand (table_columns t) g i ≡ true

@@ -11,6 +11,7 @@ use lib.ListN.{length, get_or}
 use lib.Seq.{slice}
 use borrow.Table.Steps.{cases}
 use borrow.Author.Tests.{ltb-true, leb-true}
+use Rattle.std.specs.Prelude.{Ok}
 use Rattle.base.specs.Lists.{In, each, each_list}
 use Rattle.base.proofs.Tests.{and_parts}
 use Rattle.base.proofs.Members.{in-each, each_append}
@@ -22,7 +23,7 @@ use Rattle.walk.specs.Entries.{SpelledFrom}
 use Rattle.best.specs.Keys.{key_of}
 use Rattle.best.specs.Holds.{best_of}
 use Rattle.best.proofs.Streams.{one_more, in_any_order, passed_over_lem}
-use Rattle.search.specs.Searches.{StandColumns, Search, keys, and_then, readable_stand, hit_in, stand_offered, stands_offered, bound_hit, passed_over, entry_taken, entries_taken}
+use Rattle.search.specs.Searches.{StandColumns, Kept, and_then, readable_stand, hit_in, stand_offered, stands_offered, bound_hit, passed_over, entry_taken, entries_taken}
 use Rattle.search.proofs.Reading.{EntryFacts, entry_usable}
 
 -- the key of a stand
@@ -38,7 +39,7 @@ pub record Sound (c : StandColumns) (g : Grid) (q : Ranking) (order stands : Lis
 
 module _ (c : StandColumns) (g : Grid) (q : Ranking) where
   offers_best : (ss seen : List ℕ) → ((i : ℕ) → In i ss → readable_stand c g i ≡ true)
-      → stands_offered c g q ss (best_of q.k seen) ≡ keys (best_of q.k (each (key_in c g q) ss ++ seen))
+      → stands_offered c g q ss (best_of q.k seen) ≡ Ok (best_of q.k (each (key_in c g q) ss ++ seen))
   unfolding stands_offered stand_offered
   offers_best [] seen h = refl
   offers_best (s ∷ ss) seen h =
@@ -46,7 +47,7 @@ module _ (c : StandColumns) (g : Grid) (q : Ranking) where
       rw (h s (inl refl))
       (ap (stands_offered c g q ss) (one_more q.k key seen)
       ∙ offers_best ss (key ∷ seen) (λ i k. h i (inr k))
-      ∙ ap keys (in_any_order q.k (shuffle_sym (middle key (each (key_in c g q) ss) seen))))
+      ∙ ap Ok (in_any_order q.k (shuffle_sym (middle key (each (key_in c g q) ss) seen))))
 
   module _ (some : 0 < q.k) (order : List ℕ) where
     pass_best : (stands : List ℕ) (x : Entry) (seen : List ℕ) → Sound c g q order stands x
@@ -61,17 +62,17 @@ module _ (c : StandColumns) (g : Grid) (q : Ranking) where
         (λ key k. let i = in-each (key_in c g q) stands key k in omega (arith, i.2, w.covered i.0 i.1, ltb-true most last s.1))
 
     entry_best : (stands : List ℕ) (x : Entry) (seen : List ℕ) → Sound c g q order stands x
-        → entry_taken c g q order x (best_of q.k seen) ≡ keys (best_of q.k (each (key_in c g q) stands ++ seen))
+        → entry_taken c g q order x (best_of q.k seen) ≡ Ok (best_of q.k (each (key_in c g q) stands ++ seen))
     unfolding entry_taken
     entry_best stands x seen w =
         cases (passed_over q.k (best_of q.k seen) (key_of (bound_hit g q order x)))
-        (λ e. rw e (ap keys (sym (pass_best stands x seen w e))))
+        (λ e. rw e (ap Ok (sym (pass_best stands x seen w e))))
         (λ e. rw e (ap (λ (l : List ℕ). stands_offered c g q l (best_of q.k seen)) w.listed ∙ offers_best stands seen w.readable))
 
     -- the entries es stand in the words from number n on
     pub entries_best : (entries : List ℕ) (stands : Entry → List ℕ) (es : List Entry) (n : ℕ) (seen : List ℕ) → SpelledFrom entries (length order) n es
         → ((x : Entry) → In x es → Sound c g q order (stands x) x)
-        → entries_taken c g q order entries (length es) n (best_of q.k seen) ≡ keys (best_of q.k (each (key_in c g q) (each_list stands es) ++ seen))
+        → entries_taken c g q order entries (length es) n (best_of q.k seen) ≡ Ok (best_of q.k (each (key_in c g q) (each_list stands es) ++ seen))
     unfolding entries_taken
     entries_best entries stands [] n seen spelled sound = refl
     entries_best entries stands (x ∷ es) n seen spelled sound =
@@ -79,8 +80,8 @@ module _ (c : StandColumns) (g : Grid) (q : Ranking) where
         let mine : List ℕ = each (key_in c g q) (stands x) in
         let others : List ℕ = each (key_in c g q) (each_list stands es) in
         rw (spelled.0, entry_usable order x w.facts)
-        (ap (λ (s : Search). and_then s (λ more. entries_taken c g q order entries (length es) (suc n) more)) (entry_best (stands x) x seen w)
+        (ap (λ (s : Kept). and_then s (λ more. entries_taken c g q order entries (length es) (suc n) more)) (entry_best (stands x) x seen w)
         ∙ entries_best entries stands es (suc n) (mine ++ seen) spelled.1 (λ y k. sound y (inr k))
-        ∙ ap keys
+        ∙ ap Ok
         (in_any_order q.k (swap_parts others mine seen)
         ∙ ap (best_of q.k) (sym (append_assoc mine others seen) ∙ ap (λ (l : List ℕ). l ++ seen) (sym (each_append (key_in c g q) (stands x) (each_list stands es))))))

@@ -5,6 +5,7 @@ use mathlib.Core.List.{List, [], ◌++◌, append-nil}
 use Prim.Native.Nat.{ℕ, ◌≤◌, ◌<◌}
 use native.Mathlib.Omega.{arith}
 use lib.ListN.{length}
+use Rattle.std.specs.Prelude.{Ok}
 use Rattle.base.specs.Lists.{In, each, each_list, up_to}
 use Rattle.base.proofs.Members.{length-each, in-each, each-each, each_list-each, each_list-keep, empty_of}
 use Rattle.base.proofs.Begins.{begins-length}
@@ -24,16 +25,15 @@ use Rattle.meaning.proofs.Tables.{in-under}
 use Rattle.meaning.proofs.Regions.{by_region_shuffle}
 use Rattle.meaning.proofs.Listing.{stands_in, order_means}
 use Rattle.walk.specs.declared.entry.Entry.{Entry}
-use Rattle.walk.specs.declared.listing.Listing.TheVariants.{Entries}
 use Rattle.walk.specs.Entries.{as_read}
-use Rattle.walk.specs.Listings.{listing_of}
+use Rattle.walk.specs.Listings.{entries, listing_of}
 use Rattle.walk.proofs.Listed.{entries_listed}
 use Rattle.best.specs.Keys.{key_of}
 use Rattle.best.specs.Holds.{best_of}
 use Rattle.best.proofs.Streams.{none_seen, in_any_order}
-use Rattle.search.specs.Searches.{keys, entries_taken}
+use Rattle.search.specs.Searches.{table_columns, entries_taken}
 use Rattle.ranked.proofs.Offers.{Sound, key_in, entries_best}
-use Rattle.ranked.proofs.Entries.{table_columns, entry_sound}
+use Rattle.ranked.proofs.Entries.{entry_sound}
 
 -- the entries of a text have the stands under it, each once, in another order
 all-stands : (t : Table) (g : Grid) → LawfulTable t g → (p : List ℕ) → Shuffle (each_list (λ e. stands_in t g p e.region) (entries_of t g p)) (under t p)
@@ -69,12 +69,12 @@ module _ (t : Table) (g : Grid) (x : Index) (s : SetParts t g x) (p : List ℕ) 
       (subst (λ (l : List ℕ). Shuffle (each key (each_list (λ e. of (as_read e)) (entries_of t g p))) l) (sym (each-each key_of (hit_of t g q) (under t p)))
       (shuffle_each key (all-stands t g s.table p)))
 
-  pub listed_best : 0 < q.k → (regions : Cells) (first : ℕ) → listing_of t g p ≡ Entries regions first
-      → entries_taken (table_columns t) g q x.order x.entries (length (regions_in regions)) first [] ≡ keys (best_of q.k (each key_of (each (hit_of t g q) (under t p))))
+  pub listed_best : 0 < q.k → (regions : Cells) (first : ℕ) → listing_of t g p ≡ entries regions first
+      → entries_taken (table_columns t) g q x.order x.entries (length (regions_in regions)) first [] ≡ Ok (best_of q.k (each key_of (each (hit_of t g q) (under t p))))
   listed_best some regions first e =
       let l = entries_listed t g x s p regions first e in
       let most : stands t ≤ length x.order = omega (arith, (order_means t g s.table).whole, begins-length (order_words t g) x.order s.order) in
       ap (λ (n : ℕ). entries_taken (table_columns t) g q x.order x.entries n first []) (l.many ∙ sym (length-each as_read (entries_of t g p)))
       ∙ ap (entries_taken (table_columns t) g q x.order x.entries (length listed) first) (none_seen q.k)
       ∙ entries_best (table_columns t) g q some x.order x.entries of listed first [] (l.spelled (length x.order) most) all_sound
-      ∙ ap keys (in_any_order q.k seen)
+      ∙ ap Ok (in_any_order q.k seen)

@@ -4,20 +4,21 @@
 
 ghost use Rattle.std.specs.Prelude.{◌≡◌};
 ghost use Rattle.base.specs.Lent.{given};
-ghost use Rattle.rules.specs.Tables.{table_in};
+ghost use Rattle.rules.specs.Tables.{lent_table};
 ghost use Rattle.rules.specs.Questions.{ranking_lawful};
 ghost use Rattle.rules.specs.Outcomes.{rooms_in, ranked_came_in};
-ghost use Rattle.rules.specs.Indexes.{index_in};
+ghost use Rattle.rules.specs.Indexes.{lent_index};
 ghost use Rattle.rules.specs.Promises.{RankedPromise};
-ghost use Rattle.search.specs.Searches.{stand_columns_in};
+ghost use Rattle.search.specs.Searches.{table_columns};
 ghost use Rattle.ranked.specs.Promises.{RankedFrom};
 
-use rules::{Grid, RankedAnswer, Ranking, Refusal, Verdict};
+use rules::{Grid, Ranking, Refusal, Set};
 use search::best_listed;
 use table::text::text_verdict;
-use walk::listing::{Listing, listing_of};
+use walk::listing::{Listed, listing_of};
 
 // Refusal 12 is for a question that is outside its limits.
+#[tactic(auto, unfolding(rules::specs::Questions::ranking_lawful, base::specs::Lists::every))]
 fn rankable(grid: Grid, asked: Ranking) -> bool
     ensures { result ≡ ranking_lawful grid asked }
 {
@@ -33,67 +34,46 @@ fn rankable(grid: Grid, asked: Ranking) -> bool
     asked.k <= Ranking::K_MOST
 }
 
-// The question from a text's listing; the text itself is no more needed.
+// The question from a text's listing; the text itself is no more needed. That its words are broken is told after the question's own refusals.
 pub fn ranked_from(
-    east: &[i32],
-    north: &[i32],
-    score: &[u32],
-    grid: Grid,
-    order: &[u32],
-    entries: &[u32],
-    at: Listing,
+    set: Set,
+    at: Listed,
     asked: Ranking,
     found: &mut [u32],
     values: &mut [u64],
-) -> RankedAnswer
-    ensures { RankedFrom (stand_columns_in east north score) grid (given order) (given entries) at asked (rooms_in found values) (ranked_came_in result found values) }
+) -> Result<u32, Refusal>
+    ensures { RankedFrom (table_columns (lent_table set.entry.table)) set.entry.grid set.entry.index.order.now set.entry.index.entries.now at asked (rooms_in found values) (ranked_came_in result found values) }
 {
-    if !rankable(grid, asked) {
-        return RankedAnswer::Refused(Refusal::QuestionOutsideLimits);
+    if !rankable(set.grid, asked) {
+        return Err(Refusal::QuestionOutsideLimits);
     }
     let k = asked.k as usize;
     if found.len() < k {
-        return RankedAnswer::Refused(Refusal::RoomTooSmall);
+        return Err(Refusal::RoomTooSmall);
     }
     if values.len() < k {
-        return RankedAnswer::Refused(Refusal::RoomTooSmall);
+        return Err(Refusal::RoomTooSmall);
     }
-    if !grid::lawful(grid) {
-        return RankedAnswer::Refused(Refusal::NotLawful);
+    if !grid::lawful(set.grid) {
+        return Err(Refusal::NotLawful);
     }
-    match at {
-        Listing::Entries(regions, first) => best_listed(
-            east, north, score, grid, order, entries, regions, first, asked, found, values,
-        ),
-        Listing::Nowhere => RankedAnswer::Found(0),
-        Listing::Broken => RankedAnswer::Refused(Refusal::NotLawful),
+    match at? {
+        Some(listing) => best_listed(set, listing, asked, found, values),
+        None => Ok(0),
     }
 }
 
 // The best k stands whose name begins with the typed text, best first, each with its value.
 pub fn ranked(
-    text: &[u8],
-    starts: &[u32],
-    east: &[i32],
-    north: &[i32],
-    score: &[u32],
-    grid: Grid,
-    order: &[u32],
-    nodes: &[u32],
-    entries: &[u32],
-    bits: &[u32],
+    set: Set,
     typed: &[u8],
     asked: Ranking,
     found: &mut [u32],
     values: &mut [u64],
-) -> RankedAnswer
-    ensures { RankedPromise (table_in text starts east north score) grid (index_in order nodes entries bits) (given typed) asked (rooms_in found values) (ranked_came_in result found values) }
+) -> Result<u32, Refusal>
+    ensures { RankedPromise (lent_table set.entry.table) set.entry.grid (lent_index set.entry.index) (given typed) asked (rooms_in found values) (ranked_came_in result found values) }
 {
-    if let Verdict::Refused(why) = text_verdict(typed) {
-        return RankedAnswer::Refused(why);
-    }
-    let at = listing_of(nodes, bits, typed);
-    ranked_from(
-        east, north, score, grid, order, entries, at, asked, found, values,
-    )
+    text_verdict(typed)?;
+    let at = listing_of(set.index.nodes, set.index.bits, typed);
+    ranked_from(set, at, asked, found, values)
 }

@@ -14,7 +14,8 @@ use Rattle.rules.specs.Questions.{ranking_lawful}
 use Rattle.grid.specs.declared.worth.Way.{Way}
 use Rattle.grid.specs.Ways.{way_length, WayIn}
 use Rattle.grid.proofs.Ways.{diagonal_most, length_most}
-use Rattle.search.specs.Searches.{Asks, Keyable}
+use Rattle.search.specs.Asked.{Asks}
+use Rattle.search.specs.Searches.{Keyable}
 
 module _ (g : Grid) (q : Ranking) (a : Asks g q) where
   pub asked-inside : in_grid g q.place ≡ true

@@ -1,38 +1,52 @@
--- What a step's answer says of the search, and whether an entry is passed over.
+-- What a step's answer says of the search, and what the last of k held says.
 -- Assumes nothing.
 use mathlib.Core.Path.{◌≡◌, sym, ap, ◌∙◌}
-use mathlib.Core.Bool.{false}
+use mathlib.Core.Bool.{true, false}
 use mathlib.Core.List.{List}
 use Prim.Native.Nat.{ℕ, ◌-◌, ◌≤◌, ◌<◌}
 use native.Mathlib.Omega.{arith}
-use lib.Dec.{ltb}
+use lib.Dec.{ltb, leb}
 use lib.ListN.{length, take, get_or}
-use lib.Seq.{length-take-le, get_or-take}
-use borrow.Author.Tests.{le-leb, lt-leb}
-use Rattle.best.specs.Holds.{Holds}
-use Rattle.search.specs.declared.Kept.{Kept}
-use Rattle.search.specs.declared.Kept.TheVariants as kept
-use Rattle.search.specs.Searches.{Search, broken, keys, search_of, HoldsSome, Keeps, passed_over}
+use borrow.Table.Steps.{cases}
+use borrow.Author.Tests.{ltb-true, leb-true, lt-ltb}
+use Rattle.std.specs.Prelude.{Option, Some, None, Result, Ok, Err}
+use Rattle.base.specs.Lists.{insert_by}
+use Rattle.base.proofs.Tests.{and_parts}
+use Rattle.rules.specs.declared.Broken.{Broken}
+use Rattle.best.specs.Keys.{larger}
+use Rattle.best.specs.Holds.{Falling, kth}
+use Rattle.best.proofs.Offers.{unmoved}
+use Rattle.search.specs.Searches.{Kept, kept_of, Keeps, passed_over}
 
-module _ (s : Search) (k : ℕ) (room : List ℕ) (r : Kept) (w : Keeps s k room r) where
-  pub held_is : (len : ℕ) → r ≡ kept.Held len → (s ≡ keys (take len room)) × Holds room len k
-  held_is len e =
-      let holds : HoldsSome (kept.Held len) room k = rw e at w.holds in
-      (sym w.is ∙ ap (λ (a : Kept). search_of a room) e, holds)
+module _ (s : Kept) (k : ℕ) (held : List ℕ) (r : Result Unit Broken) (w : Keeps s k held r) where
+  pub held_is : (u : Unit) → r ≡ Ok u → s ≡ Ok held
+  held_is u e = sym w.is ∙ ap (λ (a : Result Unit Broken). kept_of a held) e
 
-  pub broken_is : r ≡ kept.Broken → s ≡ broken
-  broken_is e = sym w.is ∙ ap (λ (a : Kept). search_of a room) e
+  pub broken_is : (b : Broken) → r ≡ Err b → s ≡ Err b
+  broken_is b e = sym w.is ∙ ap (λ (a : Result Unit Broken). kept_of a held) e
 
-module _ (room : List ℕ) (len k key : ℕ) (h : Holds room len k) where
-  all_held : length (take len room) ≡ len
-  all_held = length-take-le len room (omega (arith, h.size, h.within, h.fits))
+module _ (k key : ℕ) (held : List ℕ) where
+  pub not_full : kth k held ≡ None → false ≡ passed_over k held key
+  unfolding kth passed_over
+  not_full e = cases (leb k (length held)) (λ f. let z : ◌≡◌ {A = Option ℕ} (Some (get_or held (k - 1) 0)) None = rw f at e in cc) (λ f. rw f)
 
-  pub not_full : len < k → false ≡ passed_over k (take len room) key
+  pub last_decides : (last : ℕ) → kth k held ≡ Some last → ltb key last ≡ passed_over k held key
+  unfolding kth passed_over
+  last_decides last e =
+      cases (leb k (length held))
+      (λ f. let z : ◌≡◌ {A = Option ℕ} (Some (get_or held (k - 1) 0)) (Some last) = rw f at e in let same : get_or held (k - 1) 0 ≡ last = cc in rw (f, same))
+      (λ f. let z : ◌≡◌ {A = Option ℕ} None (Some last) = rw f at e in cc)
+
+  -- what k held pass over changes nothing
+  pub passed_kept : 0 < k → length held ≤ k → Falling held → passed_over k held key ≡ true → held ≡ take k (insert_by larger key held)
   unfolding passed_over
-  not_full l = rw (all_held, lt-leb k len l)
+  passed_kept some few falling e =
+      let s = and_parts (leb k (length held)) (ltb key (get_or held (k - 1) 0)) e in
+      unmoved k key held falling some (omega (arith, leb-true k (length held) s.0)) (omega (arith, ltb-true key (get_or held (k - 1) 0) s.1))
 
-  pub last_decides : k ≤ len → ltb key (get_or room (len - 1) 0) ≡ passed_over k (take len room) key
+  -- and a key no larger than one that is passed over is so, too
+  pub passed_below : (more : ℕ) → key ≤ more → passed_over k held more ≡ true → true ≡ passed_over k held key
   unfolding passed_over
-  last_decides l =
-      let full : k ≡ len = omega (arith, h.within) in
-      rw (full, all_held, le-leb len len (omega arith), get_or-take len room (len - 1) 0 (omega (arith, h.some)))
+  passed_below more l e =
+      let s = and_parts (leb k (length held)) (ltb more (get_or held (k - 1) 0)) e in
+      rw (s.0, lt-ltb key (get_or held (k - 1) 0) (omega (arith, ltb-true more (get_or held (k - 1) 0) s.1)))

@@ -1,29 +1,30 @@
 -- What comes too late by the longer leg of its way comes too late by its length: it is passed over, and offering it changes nothing.
 -- Assumes nothing.
-use mathlib.Core.Path.{◌≡◌, sym, ◌∙◌}
-use mathlib.Core.Logic.{⊎_elim}
-use mathlib.Core.Bool.{true, false≢true}
+use mathlib.Core.Path.{◌≡◌, ap}
+use mathlib.Core.Bool.{true}
 use mathlib.Core.List.{List}
-use Prim.Native.Nat.{ℕ, ◌-◌, ◌≤◌, ◌<◌}
+use Prim.Native.Nat.{ℕ, ◌≤◌}
 use native.Mathlib.Omega.{arith}
-use lib.ListN.{take, get_or}
-use borrow.Author.Tests.{ltb-true, lt-ltb}
-use Rattle.base.proofs.Tests.{le_or_lt}
+use lib.ListN.{length, get_or}
 use Rattle.rules.specs.declared.Grid.{Grid}
 use Rattle.rules.specs.declared.Ranking.{Ranking}
+use Rattle.rules.specs.declared.Hit.{Hit}
 use Rattle.rules.specs.Worth.{diagonal, value_of, bound_of}
 use Rattle.rules.specs.Tables.{place_in}
+use Rattle.rules.proofs.Places.{cell_some}
 use Rattle.walk.specs.declared.entry.Entry.{Entry}
+use Rattle.walk.proofs.Spelled.{within_facts}
 use Rattle.grid.specs.declared.worth.Way.{Way}
-use Rattle.grid.specs.Ways.{way_between, way_to_region, longer_leg, way_length}
+use Rattle.grid.specs.Ways.{way_between, way_to_region, longer_leg, way_length, WayIn}
 use Rattle.grid.proofs.Values.{value_order}
-use Rattle.grid.proofs.Ways.{between_length, to_region_length, leg_most}
+use Rattle.grid.proofs.Ways.{between_length, to_region_length, leg_most, between_in, to_region_in}
 use Rattle.best.specs.Keys.{key_of}
-use Rattle.best.specs.Holds.{Holds, Offered}
 use Rattle.best.proofs.Keys.{key_most}
-use Rattle.best.proofs.Offers.{kept}
-use Rattle.search.specs.Searches.{StandColumns, Keyable, hit_at, hit_in, bound_hit, passed_over}
-use Rattle.search.proofs.Keeping.{not_full, last_decides}
+use Rattle.search.specs.Asked.{Ready}
+use Rattle.search.specs.Searches.{StandColumns, Keyable, hit_at, hit_in, bound_hit, passed_over, readable_stand, MayTake}
+use Rattle.search.proofs.Asking.{asked-inside, keyable}
+use Rattle.search.proofs.Reading.{stand_facts, entry_facts}
+use Rattle.search.proofs.Keeping.{passed_below}
 
 module _ (D : ℕ) (q : Ranking) (score : ℕ) (w : Way) (stand : ℕ) where
   -- by its leg a stand is worth no less
@@ -35,23 +36,10 @@ module _ (D : ℕ) (q : Ranking) (score : ℕ) (w : Way) (stand : ℕ) where
   pub leg_keyable : Keyable D q score (way_length w) stand → Keyable D q score (longer_leg w) stand
   leg_keyable k = record { weighs = k.weighs; near = omega (arith, leg_most w, k.near); below = k.below }
 
-  module _ (room : List ℕ) (len k : ℕ) (h : Holds room len k)
-      (late : passed_over k (take len room) (key_of (hit_at D q score (longer_leg w) stand)) ≡ true) where
-    parts : (k ≤ len) × (key_of (hit_at D q score (longer_leg w) stand) < get_or room (len - 1) 0)
-    parts =
-        let key = key_of (hit_at D q score (longer_leg w) stand) in
-        ⊎_elim
-        (λ (l : k ≤ len). (l, ltb-true key (get_or room (len - 1) 0) (last_decides room len k key h l ∙ late)))
-        (λ (l : len < k). absurd (false≢true (not_full room len k key h l ∙ late)))
-        (le_or_lt k len)
-
-    pub late_passed : true ≡ passed_over k (take len room) (key_of (hit_at D q score (way_length w) stand))
-    late_passed =
-        let key = key_of (hit_at D q score (way_length w) stand) in
-        sym (lt-ltb key (get_or room (len - 1) 0) (omega (arith, leg_key, parts.1))) ∙ last_decides room len k key h parts.0
-
-    pub late_offered : Offered room len k (key_of (hit_at D q score (way_length w) stand)) room len
-    late_offered = kept room len k (key_of (hit_at D q score (way_length w) stand)) h parts.0 (omega (arith, leg_key, parts.1))
+  -- what its leg passes over its way does
+  pub late_passed : (k : ℕ) (held : List ℕ) → passed_over k held (key_of (hit_at D q score (longer_leg w) stand)) ≡ true
+      → true ≡ passed_over k held (key_of (hit_at D q score (way_length w) stand))
+  late_passed k held e = passed_below k (key_of (hit_at D q score (way_length w) stand)) held (key_of (hit_at D q score (longer_leg w) stand)) leg_key e
 
 -- ---- hits at the end of their ways
 
@@ -66,3 +54,28 @@ pub hit_is : (c : StandColumns) (g : Grid) (D : ℕ) (q : Ranking) (s : ℕ) (w 
     → hit_at D q (get_or c.score s 0) (way_length w) s ≡ hit_in c g q s
 unfolding value_of
 hit_is c g D q s w e f = rw (e, f, between_length (place_in c.east c.north s) q.place)
+
+-- ---- a stand that can be read, at the end of its way
+
+module _ (c : StandColumns) (g : Grid) (D : ℕ) (q : Ranking) (r : Ready g D q) (s : ℕ) (read : readable_stand c g s ≡ true)
+    (w : Way) (is : w ≡ way_between (place_in c.east c.north s) q.place) where
+  pub stand_inside : WayIn g w
+  stand_inside = rw is (between_in g (place_in c.east c.north s) q.place (stand_facts c g s read).inside (asked-inside g q r.asks))
+
+  pub stand_keyable : Keyable D q (get_or c.score s 0) (way_length w) s
+  stand_keyable = let f = stand_facts c g s read in keyable g q r.asks D r.whole (get_or c.score s 0) s w f.scored f.small stand_inside
+
+  pub stand_key : key_of (hit_at D q (get_or c.score s 0) (way_length w) s) ≡ key_of (hit_in c g q s)
+  stand_key = ap key_of (hit_is c g D q s w r.whole is)
+
+-- ---- an entry that may be taken, at the end of its way
+
+module _ (g : Grid) (D : ℕ) (q : Ranking) (r : Ready g D q) (order : List ℕ) (x : Entry) (m : MayTake order x) (w : Way) (is : w ≡ way_to_region g x.region q.place) where
+  pub entry_inside : WayIn g w
+  entry_inside = rw is (to_region_in g x.region q.place (cell_some g r.asks.grid) (within_facts (length order) x m.inside).0 (asked-inside g q r.asks))
+
+  pub entry_keyable : Keyable D q x.score (way_length w) (get_or order x.first.0 0)
+  entry_keyable = let f = entry_facts order x m.sound in keyable g q r.asks D r.whole x.score (get_or order x.first.0 0) w f.scored f.small entry_inside
+
+  pub entry_bound : (k : ℕ) (held : List ℕ) → passed_over k held (key_of (hit_at D q x.score (way_length w) (get_or order x.first.0 0))) ≡ passed_over k held (key_of (bound_hit g q order x))
+  entry_bound k held = ap (λ (h : Hit). passed_over k held (key_of h)) (bound_is g D q order x w r.whole is)

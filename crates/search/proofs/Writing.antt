@@ -6,7 +6,7 @@ use Prim.Native.Nat.{ℕ, ◌+◌, ◌≤◌, ◌<◌}
 use native.Mathlib.Omega.{arith}
 use native.Mathlib.Numerals.{add-one}
 use lib.ListN.{length, take, get_or, set}
-use lib.Seq.{take-suc, length-take-le}
+use lib.Seq.{take-suc, take_all, length-take-le}
 use Rattle.base.specs.Lists.{each, written}
 use Rattle.base.proofs.Members.{length-each, each_append}
 use Rattle.base.proofs.Rooms.{length-written, written_next}
@@ -28,21 +28,20 @@ module _ (f : ℕ → ℕ) (held room : List ℕ) (i : ℕ) (there : i < length 
       ∙ written_next words room (f (get_or held i 0)) (omega (arith, so_far))
       ∙ ap (λ (l : List ℕ). written l room) (sym more)
 
--- i of the len keys are written
-pub record Writing (held : List ℕ) (len : ℕ) (room₀ values₀ room values : List ℕ) (i : ℕ) : Type 0 where
-  pub within : i ≤ len
-  pub fits : Writable held len room₀ values₀
+-- i of the keys are written
+pub record Writing (held room₀ values₀ room values : List ℕ) (i : ℕ) : Type 0 where
+  pub within : i ≤ length held
+  pub fits : Writable held room₀ values₀
   pub done : Written (take i held) room₀ values₀ room values
 
-module _ (held : List ℕ) (len : ℕ) (room₀ values₀ : List ℕ) where
-  pub write_begin : Writable held len room₀ values₀ → Writing held len room₀ values₀ room₀ values₀ 0
+module _ (held room₀ values₀ : List ℕ) where
+  pub write_begin : Writable held room₀ values₀ → Writing held room₀ values₀ room₀ values₀ 0
   write_begin f = record { within = omega arith; fits = f; done = record { stands = refl; worths = refl } }
 
-  module _ (room values : List ℕ) (i : ℕ) (w : Writing held len room₀ values₀ room values i) where
-    length-kept : (f : ℕ → ℕ) (before : List ℕ) → len ≤ length before → length (written (each f (take i held)) before) ≡ length before
+  module _ (room values : List ℕ) (i : ℕ) (w : Writing held room₀ values₀ room values i) where
+    length-kept : (f : ℕ → ℕ) (before : List ℕ) → length held ≤ length before → length (written (each f (take i held)) before) ≡ length before
     length-kept f before h =
-        length-written (each f (take i held)) before
-        (omega (arith, length-each f (take i held), length-take-le i held (omega (arith, w.within, w.fits.size, w.fits.few)), w.within))
+        length-written (each f (take i held)) before (omega (arith, length-each f (take i held), length-take-le i held w.within, w.within))
 
     pub stands-long : length room ≡ length room₀
     stands-long = ap length w.done.stands ∙ length-kept stand_in room₀ w.fits.stands_fit
@@ -50,17 +49,21 @@ module _ (held : List ℕ) (len : ℕ) (room₀ values₀ : List ℕ) where
     pub values_long : length values ≡ length values₀
     values_long = ap length w.done.worths ∙ length-kept value_in values₀ w.fits.values_fit
 
-    pub write_next : i < len → Writing held len room₀ values₀ (set room i (stand_in (get_or held i 0))) (set values i (value_in (get_or held i 0))) (i + 1)
-    write_next h =
-        let there : i < length held = omega (arith, w.fits.size, w.fits.few) in
+    -- the next of these keys, which are those held
+    pub write_next : (keys : List ℕ) (stand value : ℕ) → keys ≡ held → i < length keys → stand ≡ stand_in (get_or keys i 0) → value ≡ value_in (get_or keys i 0)
+        → Writing held room₀ values₀ (set room i stand) (set values i value) (i + 1)
+    write_next keys stand value e h s v =
+        let there : i < length held = rw e at h in
+        let of_stand : stand ≡ stand_in (get_or held i 0) = rw e at s in
+        let of_value : value ≡ value_in (get_or held i 0) = rw e at v in
         record {
           within = omega arith;
           fits = w.fits;
           done = record {
-            stands = next_key stand_in held room₀ i there room (omega (arith, w.fits.stands_fit)) w.done.stands;
-            worths = next_key value_in held values₀ i there values (omega (arith, w.fits.values_fit)) w.done.worths;
+            stands = rw of_stand (next_key stand_in held room₀ i there room (omega (arith, w.fits.stands_fit)) w.done.stands);
+            worths = rw of_value (next_key value_in held values₀ i there values (omega (arith, w.fits.values_fit)) w.done.worths);
           };
         }
 
-    pub write_done : len ≤ i → Written (take len held) room₀ values₀ room values
-    write_done h = let e : i ≡ len = omega (arith, w.within) in rw e at w.done
+    pub write_done : length held ≤ i → Written held room₀ values₀ room values
+    write_done h = let e : take i held ≡ held = take_all i held h in rw e at w.done

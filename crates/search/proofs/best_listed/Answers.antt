@@ -1,23 +1,29 @@
--- `search::best_listed` meets its contract: columns that are too short are refused, else all are cut to one length. Assumes nothing.
-use mathlib.Core.Path.{sym}
-use lib.Seq.{length-take-le}
-use Rattle.search.proofs.Answering.{short_north, short_score, cut_taken}
+-- `search::best_listed` meets its contract: its ways out are the laws of proofs/Answering.antt. Assumes nothing.
+use borrow.Author.Rules.{rules}
+use mathlib.Core.Logic.{inl, inr}
+use Rattle.std.proofs.lemmas.Result.{err_from_is_err_and}
+use Rattle.search.proofs.Answering.{short_column, broken_words, found_best}
 use Rattle.search.proofs.best_listed.Goals as goal
 
-pub returns-then-north-stands : goal.returns-then-north-stands
-returns-then-north-stands c = short_north _ _ _ _ _ _ _ _ _ c.if-north-stands.true
+pub returns-in_err-ok_or : goal.returns-in_err-ok_or
+returns-in_err-ok_or c =
+    let p = err_from_is_err_and c.from_residual.result c.from_residual.ensures.1 in
+    rw (p.1, p.2) (short_column _ _ _ _ _ _ _ _ (inl (search rules)))
 
-pub returns-then-score-stands : goal.returns-then-score-stands
-returns-then-score-stands c = short_score _ _ _ _ _ _ _ c.if-north-stands.false _ _ c.if-score-stands.true
+pub returns-in_err-ok_or-2 : goal.returns-in_err-ok_or-2
+returns-in_err-ok_or-2 c =
+    let p = err_from_is_err_and c.from_residual-in_err-ok_or-2.result c.from_residual-in_err-ok_or-2.ensures.1 in
+    rw (p.1, p.2) (short_column _ _ _ _ _ _ _ _ (inr (search rules)))
 
-pub slice_bounds-best_taken-end : goal.slice_bounds-best_taken-end
-slice_bounds-best_taken-end c = sym (length-take-le _ _ c.if-north-stands.false)
-
-pub slice_bounds-best_taken-end-2 : goal.slice_bounds-best_taken-end-2
-slice_bounds-best_taken-end-2 c = sym (length-take-le _ _ c.if-score-stands.false)
-
-pub best_taken-requires : goal.best_taken-requires
-best_taken-requires c = c.requires
+pub returns-in_err-take_entries : goal.returns-in_err-take_entries
+returns-in_err-take_entries c =
+    let p = err_from_is_err_and c.from_residual-in_err-take_entries.result c.from_residual-in_err-take_entries.ensures.1 in
+    rw (p.1, p.2)
+    (broken_words _ _ _ _ _ _ _ _ (search rules) (search rules) c.in_ok-ok_or.field-0.now c.in_ok-ok_or-2.field-0.now _ _ _ (search rules) (search rules) c.none-held.ensures
+    c.take_entries.ensures _ c.in_err-take_entries.was)
 
 pub returns : goal.returns
-returns c = cut_taken _ _ _ _ _ _ _ c.if-north-stands.false c.if-score-stands.false _ _ c.best_taken.ensures
+returns c =
+    rw c.keys.ensures
+    (found_best _ _ _ _ _ _ _ _ (search rules) (search rules) c.in_ok-ok_or.field-0.now c.in_ok-ok_or-2.field-0.now _ _ _ (search rules) (search rules) c.none-held.ensures
+    c.take_entries.ensures c.requires.stands_fit c.requires.values_fit _ _ _ c.in_ok-take_entries.was c.write_held.ensures)
