@@ -1,7 +1,6 @@
 -- The loop that notes the entries' numbers, turn by turn; and that no number which is noted is of a 65th entry. Assumes nothing.
-use mathlib.Core.Path.{◌≡◌, sym, ◌∙◌}
+use mathlib.Core.Path.{◌≡◌, ◌∙◌}
 use mathlib.Core.Logic.{⊎_elim}
-use mathlib.Core.Bool.{true, false}
 use mathlib.Core.List.{List}
 use Prim.Native.Nat.{ℕ, zero, suc, ◌+◌, ◌-◌, ◌/◌, ◌≤◌, ◌<◌}
 use native.Mathlib.Omega.{arith}
@@ -9,10 +8,10 @@ use native.Mathlib.Numerals.{add-one}
 use lib.Dec.{ltb}
 use lib.ListN.{length, get_or, set}
 use borrow.Table.Steps.{cases}
-use borrow.Author.Tests.{lt-ltb, le-ltb}
+use borrow.Author.Tests.{lt-ltb}
 use Rattle.base.proofs.Members.{set_either, replicate_at}
 use Rattle.walk.specs.Entries.{entry_word}
-use Rattle.runs.specs.Notes.{notes_of, note_from, notes_in, blank}
+use Rattle.runs.specs.Notes.{note_from, notes_in, blank}
 
 -- ---- at entry i, which is left entries short of the last
 
@@ -22,32 +21,12 @@ pub record Noting (words : List ℕ) (first count : ℕ) (numbers₀ numbers : L
   pub within : i ≤ count
   pub same : notes_in words first count numbers₀ ≡ note_from words first (count - i) i numbers
 
-module _ (words : List ℕ) (first count : ℕ) (numbers₀ : List ℕ) where
-  pub note_missing : length words / 4 < first + count → notes_of numbers₀ false ≡ notes_in words first count numbers₀
-  unfolding notes_in
-  note_missing h = rw (lt-ltb (length words / 4) (first + count) h)
-
-  pub note_begins : first + count ≤ length words / 4 → count ≤ 64 → Noting words first count numbers₀ numbers₀ 0
-  unfolding notes_in
-  note_begins h k =
-      let z : count - 0 ≡ count = omega arith in
-      record { there = h; few = k; within = omega arith; same = rw (le-ltb (length words / 4) (first + count) h, z) }
-
-  module _ (numbers : List ℕ) (i : ℕ) (w : Noting words first count numbers₀ numbers i) where
-    module _ (l : i < count) where
-      pub note_breaks : 64 ≤ entry_word words (first + i) 0 → notes_of numbers false ≡ notes_in words first count numbers₀
-      unfolding note_from
-      note_breaks h = let z : count - i ≡ suc (count - (i + 1)) = omega arith in sym (w.same ∙ rw (z, le-ltb (entry_word words (first + i) 0) 64 h))
-
-      pub note_more : entry_word words (first + i) 0 < 64 → Noting words first count numbers₀ (set numbers (entry_word words (first + i) 0) i) (i + 1)
-      unfolding note_from
-      note_more h =
-          let z : count - i ≡ suc (count - (i + 1)) = omega arith in
-          record { there = w.there; few = w.few; within = omega arith; same = w.same ∙ rw (z, lt-ltb (entry_word words (first + i) 0) 64 h, add-one i) }
-
-    pub note_ends : count ≤ i → notes_of numbers true ≡ notes_in words first count numbers₀
-    unfolding note_from
-    note_ends l = let z : count - i ≡ 0 = omega arith in sym (w.same ∙ rw z)
+module _ (words : List ℕ) (first count : ℕ) (numbers₀ numbers : List ℕ) (i : ℕ) (w : Noting words first count numbers₀ numbers i) where
+  pub note_more : i < count → entry_word words (first + i) 0 < 64 → Noting words first count numbers₀ (set numbers (entry_word words (first + i) 0) i) (i + 1)
+  unfolding note_from
+  note_more l h =
+      let z : count - i ≡ suc (count - (i + 1)) = omega arith in
+      record { there = w.there; few = w.few; within = omega arith; same = w.same ∙ rw (z, lt-ltb (entry_word words (first + i) 0) 64 h, add-one i) }
 
 -- ---- what is noted
 

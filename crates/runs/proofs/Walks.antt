@@ -1,14 +1,13 @@
--- A walk through the runs: place by place, and region by region. Assumes nothing.
+-- A walk through the runs, region by region. Assumes nothing.
 use mathlib.Core.Path.{◌≡◌, refl, sym, ap, ◌∙◌}
 use mathlib.Core.List.{List, [], ◌∷◌, ◌++◌}
 use mathlib.Core.Logic.{inl, ⊎_elim}
-use Prim.Native.Nat.{ℕ, ◌+◌, ◌-◌, ◌≤◌, ◌<◌}
+use Prim.Native.Nat.{ℕ, ◌-◌, ◌≤◌, ◌<◌}
 use native.Mathlib.Omega.{arith}
 use Rattle.std.proofs.Math.Nat.{min-eq_left, min-eq_right, le_of_lt}
-use native.Mathlib.Numerals.{add-one}
 use lib.IntN.{ℤ}
-use lib.ListN.{length, get_or, take, drop, length-take, length-drop, drop_of_length-le}
-use lib.Seq.{slice, slice-cons}
+use lib.ListN.{length, take, drop, length-take, length-drop, drop_of_length-le}
+use lib.Seq.{slice}
 use Rattle.std.specs.Prelude.{min, Result, Ok, Err}
 use Rattle.base.proofs.Tests.{le_or_lt}
 use Rattle.base.proofs.Members.{drop-take}
@@ -21,25 +20,18 @@ use Rattle.walk.proofs.Spelled.{within_facts, read_within}
 use Rattle.runs.proofs.Sights.{stands_few, places_enough}
 use Rattle.runs.specs.Sights.{Ready, Noted, entry_noted, run_by, run_of, touched_stands}
 
--- ---- at place i of a run
-
-pub place_and_later : (order : List ℕ) (i end : ℕ) → i < end → end ≤ length order → slice i end order ≡ get_or order i 0 ∷ slice (i + 1) end order
-place_and_later order i end l h = slice-cons i end order 0 l h ∙ rw (add-one i)
-
-pub run-over : (order : List ℕ) (i end : ℕ) → end ≤ i → slice i end order ≡ []
+-- a run that ends before it begins
+run-over : (order : List ℕ) (i end : ℕ) → end ≤ i → slice i end order ≡ []
 run-over order i end h = drop_of_length-le (take end order) {i = i} (omega (arith, length-take end order))
 
 -- ---- at the first of some regions
 
 module _ (n : Noted) (r : ℕ) (a : Result Entry Broken) (read : a ≡ entry_noted n r) where
-  -- its run, as the entry says that is noted for it; where that cannot be gone by, a stand that is not of the table
-  pub run_there : (x : Entry) → a ≡ Ok x → run_of n r ≡ slice x.first.0 x.past.0 n.order
+  -- its run, as the entry says that is noted for it
+  run_there : (x : Entry) → a ≡ Ok x → run_of n r ≡ slice x.first.0 x.past.0 n.order
   run_there x e = ap (run_by n) (sym read ∙ e)
 
-  pub run_broken : (b : Broken) → a ≡ Err b → run_of n r ≡ n.stands ∷ []
-  run_broken b e = ap (run_by n) (sym read ∙ e)
-
-  pub run-within : (x : Entry) → a ≡ Ok x → x.past.0 ≤ n.stands
+  run-within : (x : Entry) → a ≡ Ok x → x.past.0 ≤ n.stands
   run-within x e = (within_facts n.stands x (read_within n.entries n.stands _ a x read e)).1
 
   pub run-fits : (east north : List ℤ) → Ready east north n → (x : Entry) → a ≡ Ok x → x.past.0 ≤ length n.order

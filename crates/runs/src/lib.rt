@@ -26,6 +26,7 @@ pub struct Runs<'a> {
 }
 
 // Whether there is a place for each stand, and a place in the order.
+#[tactic(auto, unfolding(crate::specs::Sights::agree, base::specs::Lists::every))]
 pub fn agree(set: Set) -> Result<(), Broken>
     ensures { result ≡ agreed set.entry.table.east.now set.entry.table.north.now set.entry.index.order.now }
 {
@@ -44,6 +45,7 @@ pub fn agree(set: Set) -> Result<(), Broken>
 
 // Those of some listed regions that the rectangle touches, with the number of the listing's first entry, if there are any. Where it touches
 // none of them no entry is read.
+#[tactic(auto, unfolding(crate::specs::Sights::listed_look))]
 fn touched_of(
     set: Set,
     listing: Listing,

@@ -11,6 +11,7 @@ use rules::{Broken, Grid};
 pub type EntryNumbers = [u8; Grid::REGIONS];
 
 // The numbers of count entries, each noted at its region. Broken, if one is missing or has no region.
+#[tactic(auto, unfolding(crate::specs::Notes::notes_in, crate::specs::Notes::note_from))]
 pub(crate) fn note(
     entries: &[u32],
     first: u32,

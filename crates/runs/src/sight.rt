@@ -26,6 +26,7 @@ impl<'a> Runs<'a> {
     }
 
     // Where a stand is that the order has. It may be any number, as the order's words may.
+    #[tactic(auto, unfolding(crate::specs::Sights::sighted))]
     pub fn sight(self, stand: Stand) -> Result<Place, Broken>
         ensures { result ≡ sighted (easts self.entry) (norths self.entry) stand.0 }
     {

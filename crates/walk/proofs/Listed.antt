@@ -6,7 +6,7 @@ use mathlib.Core.List.{List, []}
 use Prim.Native.Nat.{ℕ, ◌+◌, ◌*◌, ◌/◌, ◌≤◌, ◌<◌}
 use native.Mathlib.Omega.{arith}
 use lib.ListN.{length, get_or}
-use borrow.Author.Tests.{lt-ltb, le-ltb, le-leb, lt-leb}
+use borrow.Author.Tests.{lt-ltb, le-ltb, lt-leb}
 use Rattle.std.specs.Prelude.{None, Ok, Err}
 use Rattle.base.specs.Lists.{In, begins, each, up_to}
 use Rattle.base.proofs.Tests.{refuted}
@@ -28,26 +28,10 @@ use Rattle.meaning.proofs.Records.{record_less, record_word_lem, bit_words_lengt
 use Rattle.walk.specs.declared.listing.Listing.{Listing}
 use Rattle.walk.specs.Walks.{broken, node_in}
 use Rattle.walk.specs.Nodes.{node_of}
-use Rattle.walk.specs.Listings.{entries, record_at, record_word, cells_at, first_entry, listing_in, listing_at, listing_of}
+use Rattle.walk.specs.Listings.{entries, record_word, cells_at, listing_in, listing_at, listing_of}
 use Rattle.walk.specs.Entries.{as_read, SpelledFrom}
 use Rattle.walk.proofs.Lawful.{node_of_in, node_of_out, node_row_lem, nodes_within, node_found}
 use Rattle.walk.proofs.Spelled.{entries_spelled}
-
--- ---- on any words
-
-module _ (nodes bits : List ℕ) (j : ℕ) where
-  pub no_listing : length nodes / 8 ≤ j → Err broken ≡ listing_in nodes bits j
-  unfolding listing_in
-  no_listing h = rw (le-leb _ _ h)
-
-  module _ (there : j < length nodes / 8) where
-    pub no_record : length bits / 2 ≤ record_at nodes j → Err broken ≡ listing_in nodes bits j
-    unfolding listing_in
-    no_record h = rw (lt-leb _ _ there, le-leb _ _ h)
-
-    pub listing_is : record_at nodes j < length bits / 2 → entries (cells_at bits (record_at nodes j)) (first_entry nodes j) ≡ listing_in nodes bits j
-    unfolding listing_in
-    listing_is h = rw (lt-leb _ _ there, lt-leb _ _ h)
 
 -- ---- by the rules
 

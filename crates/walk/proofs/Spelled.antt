@@ -1,15 +1,15 @@
 -- One entry's words: the ways that it is read; and that on the words that building writes a node's entries are the rules'.
 -- Assumes nothing.
 use mathlib.Core.Path.{◌≡◌, sym, ap, ◌∙◌}
-use mathlib.Core.Bool.{true, false, ◌&&◌}
+use mathlib.Core.Bool.{true, ◌&&◌}
 use mathlib.Core.List.{List, [], ◌∷◌}
 use Prim.Native.Nat.{ℕ, suc, ◌+◌, ◌*◌, ◌/◌, ◌≤◌, ◌<◌}
 use native.Mathlib.Omega.{arith}
 use lib.Dec.{ltb}
 use lib.ListN.{length, get_or}
 use borrow.Table.Steps.{cases}
-use borrow.Author.Tests.{lt-ltb, le-ltb, le-leb, ltb-true, leb-true}
-use Rattle.std.specs.Prelude.{Result, Ok, Err}
+use borrow.Author.Tests.{lt-ltb, le-leb, ltb-true, leb-true}
+use Rattle.std.specs.Prelude.{Result, Ok}
 use Rattle.base.specs.Lists.{each}
 use Rattle.base.proofs.Tests.{and_parts}
 use Rattle.base.proofs.Members.{length-each, get_or-each, get_or_in}
@@ -26,7 +26,6 @@ use Rattle.meaning.specs.Meaning.{no_entry, entry_at}
 use Rattle.meaning.proofs.Words.{entries_length, entry_words_length, entries_fit, entry_word_lem}
 use Rattle.meaning.proofs.Entries.{entries_mean, entry_own}
 use Rattle.walk.specs.declared.entry.Entry.{Entry}
-use Rattle.walk.specs.Walks.{broken}
 use Rattle.walk.specs.Entries.{entry_word, entry_in, entry_within, entry_read, as_read, SpelledFrom}
 
 -- ---- on any words
@@ -40,19 +39,9 @@ module _ (places : ℕ) (e : Entry) where
   unfolding entry_within
   within_by h k = rw (lt-ltb _ _ h, le-leb _ _ k)
 
-module _ (words : List ℕ) (places number : ℕ) where
-  pub no_entry_lem : length words / 4 ≤ number → Err broken ≡ entry_read words places number
-  unfolding entry_read
-  no_entry_lem h = rw (le-ltb _ _ h)
-
-  module _ (there : number < length words / 4) where
-    pub not_within : entry_within places (entry_in words number) ≡ false → Err broken ≡ entry_read words places number
-    unfolding entry_read
-    not_within h = rw (lt-ltb _ _ there, h)
-
-    pub entry_is : entry_within places (entry_in words number) ≡ true → Ok (entry_in words number) ≡ entry_read words places number
-    unfolding entry_read
-    entry_is h = rw (lt-ltb _ _ there, h)
+pub entry_is : (words : List ℕ) (places number : ℕ) → number < length words / 4 → entry_within places (entry_in words number) ≡ true → Ok (entry_in words number) ≡ entry_read words places number
+unfolding entry_read
+entry_is words places number there h = rw (lt-ltb _ _ there, h)
 
 -- one that was read is there, and within the places
 module _ (words : List ℕ) (places number : ℕ) (r : Result Entry Broken) (x : Entry) (read : r ≡ entry_read words places number) (e : r ≡ Ok x) where

@@ -1,16 +1,14 @@
--- One turn of the search among siblings, and one letter of the walk to a text's node, on any words.
+-- The search among siblings and the walk to a text's node, by what is left of them, on any words.
 -- Assumes nothing.
-use mathlib.Core.Path.{◌≡◌, refl, sym, ◌∙◌}
+use mathlib.Core.Path.{◌≡◌, refl}
 use mathlib.Core.List.{List}
 use Prim.Native.Nat.{ℕ, zero, suc, ◌+◌, ◌/◌, ◌≤◌, ◌<◌}
 use native.Mathlib.Omega.{arith}
-use native.Mathlib.Numerals.{add-one}
-use lib.ListN.{length, drop, get_or, drop_of_length-le}
-use lib.Seq.{drop-cons}
+use lib.ListN.{length, drop}
 use borrow.Author.Tests.{lt-ltb, le-ltb, le-leb, lt-leb, eq-eqb, ne_eqb}
 use Rattle.std.specs.Prelude.{Some, None, Ok, Err}
-use Rattle.rules.specs.Names.{folded, folded_text}
-use Rattle.walk.specs.Walks.{Child, broken, node, node_word, siblings, child_in, on_from, node_from, node_in}
+use Rattle.rules.specs.Names.{folded_text}
+use Rattle.walk.specs.Walks.{broken, node, node_word, siblings, child_in, node_from, node_in}
 
 -- the search for the child stands at c: from here it gives what it gives from the start, and there is fuel for all before past
 pub record Searching (words : List ℕ) (above byte past c : ℕ) : Type 0 where
@@ -54,23 +52,3 @@ module _ (words : List ℕ) (above byte : ℕ) where
 pub record Walking (words text : List ℕ) (n i : ℕ) : Type 0 where
   pub within : i ≤ length text
   pub rest : node_in words (folded_text text) ≡ node_from words n (folded_text (drop i text))
-
-module _ (words text : List ℕ) where
-  module _ (n i : ℕ) (w : Walking words text n i) where
-    pub walk_ends : length text ≤ i → Ok (Some (node n)) ≡ node_in words (folded_text text)
-    unfolding node_from
-    walk_ends h = sym (w.rest ∙ rw (drop_of_length-le text h))
-
-    module _ (more : i < length text) (to : Child) (there : to ≡ child_in words n (folded (get_or text i 0))) where
-      letter : node_in words (folded_text text) ≡ on_from to (λ m. node_from words m (folded_text (drop (i + 1) text)))
-      unfolding node_from
-      letter = w.rest ∙ rw (drop-cons text i 0 more, add-one, ← there)
-
-      pub walk_on : (below : ℕ) → to ≡ Ok (Some (node below)) → Walking words text below (i + 1)
-      walk_on below e = record { within = omega arith; rest = letter ∙ rw e }
-
-      pub walk_stops : to ≡ Ok None → Ok None ≡ node_in words (folded_text text)
-      walk_stops e = sym (letter ∙ rw e)
-
-      pub walk_breaks : to ≡ Err broken → Err broken ≡ node_in words (folded_text text)
-      walk_breaks e = sym (letter ∙ rw e)

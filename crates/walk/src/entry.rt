@@ -16,6 +16,7 @@ pub struct Entry {
 }
 
 // Whether an entry is of a region, and its run within so many places.
+#[tactic(auto, unfolding(crate::specs::Entries::entry_within))]
 fn within(entry: Entry, places: usize) -> bool
     ensures { result ≡ entry_within places entry }
 {
@@ -26,6 +27,7 @@ fn within(entry: Entry, places: usize) -> bool
 }
 
 // The entry of a number, in an order of so many places. None is read that is not there, has no region, or whose run goes past the places.
+#[tactic(auto, unfolding(crate::specs::Entries::entry_read))]
 pub fn entry_at(entries: &[u32], number: usize, places: usize) -> Result<Entry, Broken>
     ensures { result ≡ entry_read (given entries) places number }
 {

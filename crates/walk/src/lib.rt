@@ -56,6 +56,7 @@ fn child_typed(nodes: &[u32], above: Node, byte: u8) -> Result<Option<Node>, Bro
 }
 
 // The node of a typed text, from the root letter by letter, if a name begins so.
+#[tactic(auto, unfolding(crate::specs::Walks::node_from))]
 pub fn node_of(nodes: &[u32], typed: &[u8]) -> Result<Option<Node>, Broken>
     ensures { result ≡ node_in (given nodes) (folded_text (given typed)) }
 {

@@ -22,6 +22,7 @@ pub struct Listing {
 pub type Listed = Result<Option<Listing>, Broken>;
 
 // A node's entries are those of the regions in its bit record.
+#[tactic(auto, unfolding(crate::specs::Listings::listing_in))]
 fn entries_of(nodes: &[u32], bits: &[u32], node: Node) -> Listed
     ensures { result ≡ listing_in (given nodes) (given bits) node.0 }
 {
