@@ -10,7 +10,6 @@ use native.Mathlib.Nat.{zero-add, add_comm}
 use lib.ListN.{length, get_or-eq_default}
 use lib.Pow.{low, high}
 use Rattle.std.specs.Int.{from_bool}
-use borrow.Author.Tests.{eq-eqb, ne_eqb}
 use Rattle.base.specs.Lists.{up_to, keep, each, sort_by, In}
 use Rattle.base.specs.Bits.{word_of, bit_at}
 use Rattle.rules.specs.Places.{regions}

@@ -13,7 +13,7 @@ use Rattle.node.specs.declared.cursor.Cursor.{Cursor}
 use Rattle.node.specs.Columns.{IndexColumns, LawfulColumns, bits_among}
 use Rattle.node.specs.Visits.{Visit, root_cursor, keeps_in, served_in, kept_of}
 use Rattle.node.specs.Rows.{stands_at, bits_at, entries_at}
-use Rattle.std.specs.Prelude.{Option, Some, None}
+use Rattle.std.specs.Prelude.{Some, None}
 use Rattle.node.specs.declared.Work.{Work}
 use Rattle.rules.specs.declared.Sizes.{Sizes}
 use Rattle.words.specs.Words.{Trail, root_trail, served_at, trail_past, rows_from, records_from, entry_words_from, node_words_of, entry_words_of, bit_words_of, node_count_of, Counted, Rooms, has_words, ComparesAll, visit_of, trail_of, Moved, has_row, has_entries, has_record, has_node}

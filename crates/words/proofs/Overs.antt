@@ -10,7 +10,6 @@ use native.Mathlib.Numerals.{add-one}
 use native.Mathlib.Nat.{add-zero}
 use lib.ListN.{length, take, drop, set, length-append, take-append-drop, drop_of_length-le, length-drop}
 use lib.Seq.{take_all, sets, length-sets, sets-eq, drop-drop, length-take-le, drop-cons, get_or-take}
-use borrow.Author.Tests.{eq-eqb, ne_eqb}
 use borrow.Rule.Slice.PartMut.{put_mid}
 use lib.Dec.{eqb}
 use Rattle.std.specs.List.{starts_with}
@@ -21,10 +20,9 @@ use Rattle.base.proofs.Members.{length-each}
 use Rattle.base.proofs.Rows as rows
 use Rattle.base.proofs.Begins.{begins_parts}
 use Rattle.node.specs.Columns.{at, Sized, entry_from, entries_from}
-use Rattle.node.specs.Visits.{halves_of}
 use Rattle.node.specs.declared.Work.{Work}
 use Rattle.words.specs.Over.{over}
-use Rattle.words.specs.Words.{entry_rows, entries_held, kept_words}
+use Rattle.words.specs.Words.{entry_rows, entries_held}
 
 -- ---- words in a room that has place for them are stored one after the other
 

@@ -10,7 +10,7 @@ use lib.ListN.{length, drop}
 use Rattle.base.specs.Lists.{every, begins}
 use Rattle.base.proofs.Tests.{every_of, every_not}
 use Rattle.node.specs.declared.cursor.Cursor.{Cursor}
-use Rattle.std.specs.Prelude.{Option, Some, None}
+use Rattle.std.specs.Prelude.{Some, None}
 use Rattle.node.specs.declared.Gathered.{Gathered}
 use Rattle.node.specs.declared.Work.{Work}
 use Rattle.node.specs.declared.records.Served.{Served}

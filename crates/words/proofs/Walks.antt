@@ -7,10 +7,7 @@ use Prim.Native.Nat.{ℕ, suc, ◌+◌, ◌-◌, ◌*◌, ◌≤◌, ◌<◌}
 use native.Mathlib.Omega.{arith}
 use borrow.Author.Rules.{rules}
 use native.Mathlib.Nat.{lt_of_not-le}
-use lib.Dec.{eqb}
-use lib.ListN.{length, length-append, length-set, set, replicate, drop_of_length-le}
-use borrow.Table.Steps.{cases}
-use borrow.Author.Tests.{eqb-true, eqb-false}
+use lib.ListN.{length, length-append, length-set, set, drop_of_length-le}
 use lib.Count.{ones}
 use Rattle.std.specs.Int.{from_bool}
 use Rattle.base.specs.Lists.{from_on, up_to, each_list}

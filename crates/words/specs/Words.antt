@@ -1,5 +1,5 @@
 -- The words of all nodes, entries and bit records, from the columns alone, and what a turn of each loop leaves.
-use Rattle.std.specs.Prelude.{◌≡◌, Option, Some, None, Bool, true, false, cond, List, [], ◌∷◌, ◌++◌, ℕ, suc, ◌+◌, ◌*◌, ◌≤◌, ◌<◌, eqb, length, drop, set, replicate}
+use Rattle.std.specs.Prelude.{◌≡◌, Option, Some, None, Bool, true, false, cond, List, [], ◌∷◌, ◌++◌, ℕ, suc, ◌+◌, ◌*◌, ◌≤◌, ◌<◌, length, drop, set, replicate}
 use Rattle.std.specs.Int.{from_bool}
 use Rattle.base.specs.Lists.{every, each, each_list, total, begins}
 use Rattle.rules.specs.declared.Index as lent

@@ -8,18 +8,6 @@ use Rattle.node.proofs.Ends.{length-short, grown_small}
 use Rattle.node.proofs.Gathering.{past_is}
 use Rattle.node.proofs.past_number.Goals as goal
 
-pub overflow_sub-value_at : goal.overflow_sub-value_at
-overflow_sub-value_at c = omega (arith, c.value_at.ensures, c.requires.long)
-
-pub overflow_add-behind : goal.overflow_add-behind
-overflow_add-behind c = omega (arith, c.requires.run, c.requires.grows.few)
-
-pub overflow_add-result-2 : goal.overflow_add-result-2
-overflow_add-result-2 c =
-    let own = length-short _ _ c.requires.grows c.args.cursor.stand.0 in
-    let grew = grown_small _ _ c.requires.grows (c.args.cursor.stand.0 + 1) c.args.past.0 c.requires.run.1 in
-    omega (arith, c.from-own.ensures, c.value_at.ensures, c.grown-grew.ensures, c.requires.low)
-
 pub overflow_add-result-3 : goal.overflow_add-result-3
 overflow_add-result-3 c =
     let own = length-short _ _ c.requires.grows c.args.cursor.stand.0 in

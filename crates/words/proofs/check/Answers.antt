@@ -1,6 +1,5 @@
 -- `words::check` meets its contract: the loop's invariant is `Checking`, whose laws are of proofs/Checks.antt. Assumes nothing.
-use native.Mathlib.Omega.{arith}
-use Rattle.words.proofs.Walks.{carrying, standing, root-trail}
+use Rattle.words.proofs.Walks.{carrying, root-trail}
 use Rattle.words.proofs.Checks.{checking, checking_not, checking_more, checking_end}
 use mathlib.Core.Path.{refl}
 use Rattle.words.proofs.check.Goals as goal
@@ -12,14 +11,8 @@ loop-here-init c =
     let b = c.before_the_root-work.ensures in
     checking (root-trail r b) r p c.count_nodes-all.ensures (carrying p r c.count_nodes-all.ensures b)
 
-pub check_node-requires : goal.check_node-requires
-check_node-requires c = record { lawful = c.requires; standing = standing c.loop-here.invariant.carried c.loop-here-test.true }
-
 pub returns-in_err-here : goal.returns-in_err-here
 returns-in_err-here c = rw c.from_residual.ensures (checking_not c.loop-here.invariant c.loop-here-test.true (c.check_node.ensures.different c.in_err-here.was))
-
-pub loop-here-smaller : goal.loop-here-smaller
-loop-here-smaller c = omega (arith, (c.check_node.ensures.same _ c.in_ok-here.was).1.stepped.number, c.loop-here-test.true)
 
 pub loop-here-preserved : goal.loop-here-preserved
 loop-here-preserved c =

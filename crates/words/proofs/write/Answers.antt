@@ -1,6 +1,6 @@
 -- `words::write` meets its contract: the loop's invariant is `Writing`, whose laws are of proofs/Writes.antt. Assumes nothing.
 use Rattle.words.proofs.Walks.{carrying, standing, root-trail}
-use Rattle.words.proofs.Writes.{writing, writing_room, writing_more, writing_end}
+use Rattle.words.proofs.Writes.{writing, writing_room, writing_more}
 use Rattle.words.proofs.write.Goals as goal
 
 pub loop-cursor-init : goal.loop-cursor-init
@@ -18,6 +18,3 @@ write_node-cursor-requires c =
 
 pub loop-cursor-preserved : goal.loop-cursor-preserved
 loop-cursor-preserved c = writing_more c.loop-cursor.invariant c.loop-cursor-test.true c.write_node-cursor.ensures
-
-pub returns : goal.returns
-returns c = writing_end c.loop-cursor.invariant c.loop-cursor-test.false

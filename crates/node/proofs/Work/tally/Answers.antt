@@ -8,7 +8,7 @@ use Prim.Native.Nat.{ℕ}
 use borrow.Author.Tests.{ne_eqb}
 use Rattle.base.specs.Bits.{bit_at}
 use Rattle.node.specs.Columns.{at}
-use Rattle.node.proofs.Held.{tallying, tallying_more, tallying_end, place_small}
+use Rattle.node.proofs.Held.{tallying, tallying_more, place_small}
 use Rattle.node.proofs.Work.tally.Goals.{then-known, else-known}
 use Rattle.node.proofs.Work.tally.Goals as goal
 
@@ -46,6 +46,3 @@ loop-stand-preserved c =
           _ place _ _ so_far c.max.ensures,
       c.loop-stand.invariant.1,
     )
-
-pub returns : goal.returns
-returns c = record { tallied = tallying_end _ _ _ _ _ _ _ _ _ c.loop-stand.invariant.0 c.loop-stand-test.false; kept = c.loop-stand.invariant.1 }

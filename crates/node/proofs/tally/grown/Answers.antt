@@ -1,14 +1,8 @@
 -- `node::tally::grown` meets its contract: the loop's invariant is `Growing`, whose laws are of proofs/Ends.antt. Assumes nothing.
 use borrow.Author.Rules.{rules}
 use native.Mathlib.Omega.{arith}
-use Rattle.node.proofs.Ends.{growing, growing_more, growing_fits, growing_end}
+use Rattle.node.proofs.Ends.{growing_more, growing_fits, growing_end}
 use Rattle.node.proofs.tally.grown.Goals as goal
-
-pub loop-stand-init : goal.loop-stand-init
-loop-stand-init c = search (rules, growing)
-
-pub overflow_sub-columns : goal.overflow_sub-columns
-overflow_sub-columns c = c.requires.0.part c.loop-stand.stand (search rules)
 
 pub overflow_add-sum : goal.overflow_add-sum
 overflow_add-sum c =

@@ -4,15 +4,12 @@ use mathlib.Core.Path.{sym, ap, ◌∙◌}
 use native.Mathlib.Nat.{add-zero}
 use lib.ListN.{length}
 use Rattle.node.specs.Columns.{entries_from}
-use Rattle.words.proofs.Overs.{from_not, from_more, from_end, slots_from, slots_next, slots_past, slots_small}
+use Rattle.words.proofs.Overs.{from_not, from_more, from_end, slots_from, slots_next, slots_past}
 use Rattle.words.proofs.rooms.has_entries.Goals as goal
 
 pub loop-rank-init : goal.loop-rank-init
 unfolding entries_from slots_from
 loop-rank-init c = record { is = rw add-zero }
-
-pub entry_row-row-requires : goal.entry_row-row-requires
-entry_row-row-requires c = let p = c.requires.0 in slots_small c.args.work.now _ p.size p.few _ p.small c.loop-rank-test.true
 
 pub returns-then-not-has_words : goal.returns-then-not-has_words
 returns-then-not-has_words c =

@@ -2,14 +2,11 @@
 use native.Mathlib.Omega.{arith}
 use mathlib.Core.Path.{ap}
 use lib.ListN.{length}
-use Rattle.words.proofs.Overs.{filled_more, filled_end, slots_filled, slots_next, slots_past, slots_small}
+use Rattle.words.proofs.Overs.{filled_more, filled_end, slots_filled, slots_next, slots_past}
 use Rattle.words.proofs.rooms.put_entries.Goals as goal
 
 pub loop-rank-init : goal.loop-rank-init
 loop-rank-init c = let p = c.requires in slots_filled _ _ p.0.size p.0.few (omega arith) p.1
-
-pub entry_row-row-requires : goal.entry_row-row-requires
-entry_row-row-requires c = let p = c.requires.0 in slots_small c.args.work.now _ p.size p.few _ p.small c.loop-rank-test.true
 
 pub loop-rank-preserved : goal.loop-rank-preserved
 loop-rank-preserved c =

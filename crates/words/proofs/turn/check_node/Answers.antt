@@ -1,34 +1,19 @@
 -- `words::turn::check_node` meets its contract, by those of the calls that it makes and the laws of proofs/Turns.antt. Assumes nothing.
-use borrow.Author.Rules.{rules}
-use native.Mathlib.Omega.{arith}
 use mathlib.Core.Path.{sym, ◌∙◌}
-use Rattle.node.proofs.Gathering.{length_fits}
-use Rattle.words.proofs.Turns.{gather_asks, row-asks, row_size, advance_asks, row_differs, entries_differ, record_differs, agrees}
+use Rattle.words.proofs.Turns.{gather_asks, row_differs, entries_differ, record_differs, agrees}
 use Rattle.words.proofs.turn.check_node.Goals as goal
 
 pub gather-gathered-requires : goal.gather-gathered-requires
 gather-gathered-requires c = gather_asks c.requires
 
-pub serve-served-requires : goal.serve-served-requires
-serve-served-requires c = length_fits _ _ c.requires.lawful.grows c.args.cursor c.requires.standing.on
-
-pub row-words-requires : goal.row-words-requires
-row-words-requires c = row-asks c.requires c.gather-gathered.ensures c.serve-served.ensures
-
 pub returns-then-not-has_words : goal.returns-then-not-has_words
 returns-then-not-has_words c = row_differs c.requires c.gather-gathered.ensures c.serve-served.ensures c.row-words.ensures (sym c.has_words.ensures ∙ c.if-not-has_words.true)
-
-pub has_entries-requires : goal.has_entries-requires
-has_entries-requires c = let g = c.gather-gathered.ensures in (search rules, omega (arith, c.requires.standing.low, c.requires.standing.few))
 
 pub returns-then-not-has_entries : goal.returns-then-not-has_entries
 returns-then-not-has_entries c = entries_differ c.requires c.gather-gathered.ensures c.serve-served.ensures (sym c.has_entries.ensures ∙ c.if-not-has_entries.true)
 
 pub returns-then-not-has_record : goal.returns-then-not-has_record
 returns-then-not-has_record c = record_differs c.requires c.gather-gathered.ensures c.serve-served.ensures (sym c.has_record.ensures ∙ c.if-not-has_record.true)
-
-pub advance-requires : goal.advance-requires
-advance-requires c = advance_asks c.requires c.gather-gathered.ensures c.serve-served.ensures
 
 pub returns : goal.returns
 returns c =

@@ -3,21 +3,11 @@ use borrow.Author.Rules.{rules}
 use mathlib.Core.Path.{ap}
 use native.Mathlib.Omega.{arith}
 use lib.ListN.{length}
-use Rattle.node.proofs.Gathering.{length_fits}
-use Rattle.words.proofs.Turns.{gather_asks, row-asks, row_size, count_now, record_now, advance_asks, moved, wrote}
+use Rattle.words.proofs.Turns.{gather_asks, count_now, record_now, moved, wrote}
 use Rattle.words.proofs.turn.write_node.Goals as goal
 
 pub gather-gathered-requires : goal.gather-gathered-requires
 gather-gathered-requires c = gather_asks c.requires.turn
-
-pub serve-served-requires : goal.serve-served-requires
-serve-served-requires c = length_fits _ _ c.requires.turn.lawful.grows c.args.cursor c.requires.turn.standing.on
-
-pub row-words-requires : goal.row-words-requires
-row-words-requires c = row-asks c.requires.turn c.gather-gathered.ensures c.serve-served.ensures
-
-pub put_words-requires : goal.put_words-requires
-put_words-requires c = omega (arith, c.requires.room.row_room, row_size c.requires.turn c.gather-gathered.ensures c.serve-served.ensures c.row-words.ensures)
 
 pub put_entries-requires : goal.put_entries-requires
 put_entries-requires c =
@@ -27,9 +17,6 @@ put_entries-requires c =
 pub put_record-requires : goal.put_record-requires
 put_record-requires c =
     omega (arith, c.requires.room.record_room, ap length (record_now c.requires.turn c.gather-gathered.ensures c.serve-served.ensures))
-
-pub advance-requires : goal.advance-requires
-advance-requires c = advance_asks c.requires.turn c.gather-gathered.ensures c.serve-served.ensures
 
 pub returns : goal.returns
 returns c =
