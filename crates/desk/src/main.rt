@@ -4,8 +4,8 @@
 
 ghost use Rattle.std.specs.Prelude.{◌≤◌, IfOk, length};
 
-use desk_answer::{BITS_ROOM, ENTRIES_ROOM, ORDER_ROOM, OUTPUT_MOST, answer};
-use desk_form::Reading;
+use desk_answer::{BITS_ROOM, ENTRIES_ROOM, ORDER_ROOM, OUTPUT_MOST, Rooms, answer};
+use desk_form::{Parts, Reading};
 use std::io;
 use std::io::Read;
 
@@ -16,6 +16,7 @@ const INPUT_ROOM: usize = Reading::BYTES_MOST + 1;
 fn read_full(reader: &mut impl Read, room: &mut [u8]) -> io::Result<usize>
     ensures { IfOk result (λ n. n ≤ length room.new) }
 {
+    // Stays: no heap. read_to_end wants one, and read_exact takes no input that is shorter than the room.
     let mut done = 0;
     while done < room.len() {
         let count = reader.read(&mut room[done..])?;
@@ -29,29 +30,21 @@ fn read_full(reader: &mut impl Read, room: &mut [u8]) -> io::Result<usize>
 
 fn main(rt: HostRuntime) -> io::Result<()> {
     let mut input = [0u8; INPUT_ROOM];
-    let mut text = [0u8; Reading::BYTES_MOST];
-    let mut starts = [0u32; Reading::STARTS_ROOM];
-    let mut east = [0i32; Reading::STANDS_ROOM];
-    let mut north = [0i32; Reading::STANDS_ROOM];
-    let mut score = [0u32; Reading::STANDS_ROOM];
-    let mut order = [0u32; ORDER_ROOM];
-    let mut nodes = [0u32; 12_296];
-    let mut entries = [0u32; ENTRIES_ROOM];
-    let mut bits = [0u32; BITS_ROOM];
+    let mut parts = Parts {
+        text: [0; Reading::BYTES_MOST],
+        starts: [0; Reading::STARTS_ROOM],
+        east: [0; Reading::STANDS_ROOM],
+        north: [0; Reading::STANDS_ROOM],
+        score: [0; Reading::STANDS_ROOM],
+    };
+    let mut rooms = Rooms {
+        order: [0; ORDER_ROOM],
+        nodes: [0; 12_296],
+        entries: [0; ENTRIES_ROOM],
+        bits: [0; BITS_ROOM],
+    };
     let mut out = [0u8; OUTPUT_MOST];
     let count = read_full(&mut rt.stdin(), &mut input)?;
-    let length = answer(
-        &input[..count],
-        &mut text,
-        &mut starts,
-        &mut east,
-        &mut north,
-        &mut score,
-        &mut order,
-        &mut nodes,
-        &mut entries,
-        &mut bits,
-        &mut out,
-    );
+    let length = answer(&input[..count], &mut parts, &mut rooms, &mut out);
     rt.write_all(&out[..length])
 }

@@ -51,7 +51,7 @@ module _ (text starts : List ℕ) where
             short = rw (one_more i) (simp length-append (omega (arith, s.short, p.short)));
           }
 
-      pub all_listed : {before : List ℕ} → count ≤ i → Puts (line (ascii "found=") (decimal_of count)) before 0 out at → Listing count out at after r i
-          → Puts (found_lines text starts found values count) before 0 after r
+      pub all_listed : {before : List ℕ} → i ≡ length found → Puts (line (ascii "found=") (decimal_of (length found))) before 0 out at → Listing count out at after r i
+          → Puts (found_lines text starts found values) before 0 after r
       unfolding found_lines
-      all_listed h p s = let e : i ≡ count = omega (arith, s.inside) in rw e at (then p s.puts)
+      all_listed e p s = rw e at (then p s.puts)

@@ -4,11 +4,13 @@
 mod printing;
 mod reply;
 
+ghost use Rattle.std.specs.Prelude.{◌≡◌};
 ghost use Rattle.base.specs.Lent.{given};
-ghost use Rattle.desk_answer.specs.Promises.{AnswersInput};
+ghost use Rattle.rules.specs.Indexes.{lent_index};
+ghost use Rattle.desk_answer.specs.Promises.{rooms_index, AnswersInput};
 
-use desk_form::{Reading, read_input};
-use finder::{Ranking, Refusal, Stand};
+use desk_form::{Parts, Reading, read_input};
+use finder::{Index, Ranking, Refusal, Stand};
 use printing::put_refusal;
 use reply::reply;
 use rules::layout::{ENTRY_WORDS, NODE_WORDS, RECORD_WORDS};
@@ -28,53 +30,43 @@ pub const HITS_MOST: usize = Ranking::K_MOST as usize;
 // How many bytes are printed at most: some 30 for the first line, and at most 96 for a hit.
 pub const OUTPUT_MOST: usize = 2_048;
 
+// The rooms for an index.
+#[derive(Drop)]
+pub struct Rooms {
+    pub order: [u32; ORDER_ROOM],
+    pub nodes: [u32; NODES_ROOM],
+    pub entries: [u32; ENTRIES_ROOM],
+    pub bits: [u32; BITS_ROOM],
+}
+
+impl Rooms {
+    // The index that they hold, lent.
+    fn index(&self) -> Index<'_>
+        ensures { lent_index result ≡ rooms_index self.now }
+    {
+        Index {
+            order: &self.order,
+            nodes: &self.nodes,
+            entries: &self.entries,
+            bits: &self.bits,
+        }
+    }
+}
+
 // Reads an input, finds what it asks for, and puts what is printed at the start of `out`, which past it stays as it was; the answer
-// is how many bytes that is. The other rooms are for the table and its index.
+// is how many bytes that is. The table and its index go to the other rooms.
 pub fn answer(
     input: &[u8],
-    text: &mut [u8; Reading::BYTES_MOST],
-    starts: &mut [u32; Reading::STARTS_ROOM],
-    east: &mut [i32; Reading::STANDS_ROOM],
-    north: &mut [i32; Reading::STANDS_ROOM],
-    score: &mut [u32; Reading::STANDS_ROOM],
-    order: &mut [u32; ORDER_ROOM],
-    nodes: &mut [u32; NODES_ROOM],
-    entries: &mut [u32; ENTRIES_ROOM],
-    bits: &mut [u32; BITS_ROOM],
+    parts: &mut Parts,
+    rooms: &mut Rooms,
     out: &mut [u8; OUTPUT_MOST],
 ) -> usize
     ensures { AnswersInput (given input) out.old out.new result }
 {
-    let reading = read_input(input, text, starts, east, north, score);
-    let Reading::Of {
-        stands,
-        bytes,
-        grid,
-        from,
-        past,
-        ranking,
-    } = reading
-    else {
+    let Ok(reading) = read_input(input, parts) else {
         return put_refusal(out, Refusal::InputMalformed);
     };
-    let text: &[u8] = text;
-    let starts: &[u32] = starts;
-    let east: &[i32] = east;
-    let north: &[i32] = north;
-    let score: &[u32] = score;
-    reply(
-        out,
-        &text[..bytes],
-        &starts[..stands + 1],
-        &east[..stands],
-        &north[..stands],
-        &score[..stands],
-        grid,
-        order,
-        nodes,
-        entries,
-        bits,
-        &input[from..past],
-        ranking,
-    )
+    let table = parts.table(reading.bytes, reading.stands);
+    let typed = &input[reading.from..reading.past];
+    reply(out, table, reading.grid, rooms, typed, reading.ranking)
 }

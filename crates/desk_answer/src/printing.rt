@@ -1,5 +1,5 @@
 // What is printed, put as lines into the room for it. Each call answers where the next line goes.
-ghost use Rattle.std.specs.Prelude.{◌+◌, ◌≤◌, length};
+ghost use Rattle.std.specs.Prelude.{◌≡◌, ◌+◌, ◌≤◌, length};
 ghost use Rattle.base.specs.Lent.{given};
 ghost use Rattle.rules.specs.Numbers.{refusal_number};
 ghost use Rattle.rules.specs.Names.{name};
@@ -7,8 +7,8 @@ ghost use Rattle.lines.specs.Puts.{Puts};
 ghost use Rattle.desk_form.specs.Printed.{printed_refusal};
 ghost use Rattle.desk_answer.specs.Printing.{found_lines, NamesListed, PutsHit};
 
-use crate::{HITS_MOST, OUTPUT_MOST};
-use finder::{Refusal, Stand};
+use crate::OUTPUT_MOST;
+use finder::{Refusal, Stand, Table};
 use lines::{put_line, put_number};
 use table::names::name_of;
 
@@ -16,44 +16,29 @@ use table::names::name_of;
 pub fn put_refusal(out: &mut [u8; OUTPUT_MOST], why: Refusal) -> usize
     ensures { Puts (printed_refusal (refusal_number why)) out.old 0 out.new result }
 {
-    put_number(out, 0, b"refused=", why.number() as u64)
+    put_number(out, 0, b"refused=", u64::from(u32::from(why)))
 }
 
 // A hit's three lines: stand number, name and value.
-fn put_hit(
-    out: &mut [u8; OUTPUT_MOST],
-    at: usize,
-    text: &[u8],
-    starts: &[u32],
-    stand: Stand,
-    value: u64,
-) -> usize
-    requires { (at + 96 ≤ 2048) × (length (name text.now starts.now stand.0) ≤ 24) }
-    ensures { PutsHit (given text) (given starts) stand.0 value out.old at out.new result }
+fn put_hit(out: &mut [u8; OUTPUT_MOST], at: usize, table: Table, stand: Stand, value: u64) -> usize
+    requires { (at + 96 ≤ 2048) × (length (name table.text.now table.starts.now stand.0) ≤ 24) }
+    ensures { PutsHit table.entry.text.now table.entry.starts.now stand.0 value out.old at out.new result }
 {
-    let name = name_of(text, starts, stand);
-    let at = put_number(out, at, b"object=", stand.0 as u64);
+    let name = name_of(table.text, table.starts, stand);
+    let at = put_number(out, at, b"object=", u64::from(stand.0));
     let at = put_line(out, at, b"name=", name);
     put_number(out, at, b"value=", value)
 }
 
 // How many hits there are, then each.
-pub fn put_hits(
-    out: &mut [u8; OUTPUT_MOST],
-    text: &[u8],
-    starts: &[u32],
-    found: &[u32; HITS_MOST],
-    values: &[u64; HITS_MOST],
-    count: usize,
-) -> usize
-    requires { NamesListed text.now starts.now found.now count }
-    ensures { Puts (found_lines (given text) (given starts) (given found) (given values) count) out.old 0 out.new result }
+pub fn put_hits(out: &mut [u8; OUTPUT_MOST], table: Table, found: &[u32], values: &[u64]) -> usize
+    requires names { NamesListed table.text.now table.starts.now found.now }
+    requires each_valued { length values.now ≡ length found.now }
+    ensures { Puts (found_lines table.entry.text.now table.entry.starts.now (given found) (given values)) out.old 0 out.new result }
 {
-    let mut at = put_number(out, 0, b"found=", count as u64);
-    let mut i = 0;
-    while i < count {
-        at = put_hit(out, at, text, starts, Stand(found[i]), values[i]);
-        i += 1;
+    let mut at = put_number(out, 0, b"found=", found.len() as u64);
+    for (stand, value) in found.iter().zip(values) {
+        at = put_hit(out, at, table, Stand(*stand), *value);
     }
     at
 }

@@ -2,8 +2,8 @@
 // Each answer stands behind the name of its case; what is printed is held to the file stdout.
 #![tactic(auto)]
 
-use desk_answer::{BITS_ROOM, ENTRIES_ROOM, NODES_ROOM, ORDER_ROOM, OUTPUT_MOST, answer};
-use desk_form::Reading;
+use desk_answer::{BITS_ROOM, ENTRIES_ROOM, NODES_ROOM, ORDER_ROOM, OUTPUT_MOST, Rooms, answer};
+use desk_form::{Parts, Reading};
 use lines::put;
 use std::io;
 
@@ -15,38 +15,27 @@ fn print_answer(rt: &impl Print, room: &[u8], count: usize) -> io::Result<()> {
     if room.len() < count {
         return Ok(());
     }
-    let mut text = [0u8; Reading::BYTES_MOST];
-    let mut starts = [0u32; Reading::STARTS_ROOM];
-    let mut east = [0i32; Reading::STANDS_ROOM];
-    let mut north = [0i32; Reading::STANDS_ROOM];
-    let mut score = [0u32; Reading::STANDS_ROOM];
-    let mut order = [0u32; ORDER_ROOM];
-    let mut nodes = [0u32; NODES_ROOM];
-    let mut entries = [0u32; ENTRIES_ROOM];
-    let mut bits = [0u32; BITS_ROOM];
+    let mut parts = Parts {
+        text: [0; Reading::BYTES_MOST],
+        starts: [0; Reading::STARTS_ROOM],
+        east: [0; Reading::STANDS_ROOM],
+        north: [0; Reading::STANDS_ROOM],
+        score: [0; Reading::STANDS_ROOM],
+    };
+    let mut rooms = Rooms {
+        order: [0; ORDER_ROOM],
+        nodes: [0; NODES_ROOM],
+        entries: [0; ENTRIES_ROOM],
+        bits: [0; BITS_ROOM],
+    };
     let mut out = [0u8; OUTPUT_MOST];
-    let length = answer(
-        &room[..count],
-        &mut text,
-        &mut starts,
-        &mut east,
-        &mut north,
-        &mut score,
-        &mut order,
-        &mut nodes,
-        &mut entries,
-        &mut bits,
-        &mut out,
-    );
+    let length = answer(&room[..count], &mut parts, &mut rooms, &mut out);
     rt.write_all(&out[..length])
 }
 
 // Puts bytes behind those before `at`, if there is room.
 fn put_if_room(input: &mut [u8], at: usize, bytes: &[u8]) -> usize {
-    if input.len() < at {
-        return at;
-    }
-    if input.len() - at < bytes.len() {
+    if input.len() < at || input.len() - at < bytes.len() {
         return at;
     }
     put(input, at, bytes)
@@ -63,10 +52,8 @@ fn print_case(
 ) -> io::Result<()> {
     let mut input = [0u8; INPUT_ROOM];
     let mut at = put_if_room(&mut input, 0, head);
-    let mut i = 0;
-    while i < times {
+    for _ in 0..times {
         at = put_if_room(&mut input, at, lines);
-        i += 1;
     }
     at = put_if_room(&mut input, at, tail);
     rt.write_all(name)?;
@@ -74,154 +61,154 @@ fn print_case(
     print_answer(rt, &input, at)
 }
 
-// An input with this line in its place; the line names the case.
-fn print_line(rt: &impl Print, before: &[u8], line: &[u8], after: &[u8]) -> io::Result<()> {
-    print_case(rt, line, before, line, 1, after)
+// An input with each of these lines in its place; the line names the case.
+fn print_lines(rt: &impl Print, before: &[u8], lines: &[&[u8]], after: &[u8]) -> io::Result<()> {
+    for line in lines {
+        print_case(rt, line, before, line, 1, after)?;
+    }
+    Ok(())
 }
 
-fn print_west(rt: &impl Print, line: &[u8]) -> io::Result<()> {
-    print_line(
+fn print_west(rt: &impl Print, lines: &[&[u8]]) -> io::Result<()> {
+    print_lines(
         rt,
         b"",
-        line,
+        lines,
         b"\nsouth=0\ncell=10\nstands=0\ntext=\neast=5\nnorth=5\nweight=8\nk=2\n",
     )
 }
 
-fn print_cell(rt: &impl Print, line: &[u8]) -> io::Result<()> {
-    print_line(
+fn print_cell(rt: &impl Print, lines: &[&[u8]]) -> io::Result<()> {
+    print_lines(
         rt,
         b"west=0\nsouth=0\n",
-        line,
+        lines,
         b"\nstands=0\ntext=\neast=5\nnorth=5\nweight=8\nk=2\n",
     )
 }
 
 // One stand follows.
-fn print_stands(rt: &impl Print, line: &[u8]) -> io::Result<()> {
-    print_line(
+fn print_stands(rt: &impl Print, lines: &[&[u8]]) -> io::Result<()> {
+    print_lines(
         rt,
         b"west=0\nsouth=0\ncell=10\n",
-        line,
+        lines,
         b"\nname=kibo\neast=5\nnorth=5\nscore=100\ntext=\neast=5\nnorth=5\nweight=8\nk=2\n",
     )
 }
 
-// The first of two stands; the other one's name is kito.
-fn print_name(rt: &impl Print, line: &[u8]) -> io::Result<()> {
-    print_line(
-        rt,
-        b"west=0\nsouth=0\ncell=10\nstands=2\n",
-        line,
-        b"\neast=5\nnorth=5\nscore=100\nname=kito\neast=9\nnorth=9\nscore=400\ntext=ki\neast=5\nnorth=5\nweight=8\nk=2\n",
-    )
-}
-
-fn print_east(rt: &impl Print, line: &[u8]) -> io::Result<()> {
-    print_line(
+fn print_east(rt: &impl Print, lines: &[&[u8]]) -> io::Result<()> {
+    print_lines(
         rt,
         b"west=0\nsouth=0\ncell=10\nstands=1\nname=kibo\n",
-        line,
+        lines,
         b"\nnorth=5\nscore=100\ntext=ki\neast=5\nnorth=5\nweight=8\nk=2\n",
     )
 }
 
-fn print_score(rt: &impl Print, line: &[u8]) -> io::Result<()> {
-    print_line(
+fn print_score(rt: &impl Print, lines: &[&[u8]]) -> io::Result<()> {
+    print_lines(
         rt,
         b"west=0\nsouth=0\ncell=10\nstands=1\nname=kibo\neast=5\nnorth=5\n",
-        line,
-        b"\ntext=ki\neast=5\nnorth=5\nweight=16\nk=2\n",
-    )
-}
-
-// A question on a stand.
-fn print_text(rt: &impl Print, line: &[u8]) -> io::Result<()> {
-    print_line(
-        rt,
-        b"west=0\nsouth=0\ncell=10\nstands=1\nname=kibo\neast=5\nnorth=5\nscore=100\n",
-        line,
-        b"\neast=5\nnorth=5\nweight=8\nk=2\n",
-    )
-}
-
-// The question's last lines.
-fn print_asked(rt: &impl Print, lines: &[u8]) -> io::Result<()> {
-    print_line(
-        rt,
-        b"west=0\nsouth=0\ncell=10\nstands=1\nname=kibo\neast=5\nnorth=5\nscore=100\ntext=ki\n",
         lines,
-        b"\n",
+        b"\ntext=ki\neast=5\nnorth=5\nweight=16\nk=2\n",
     )
 }
 
 // Numbers, as they are written.
 fn print_numbers(rt: &impl Print) -> io::Result<()> {
-    print_west(rt, b"west=-0")?;
-    print_west(rt, b"west=00")?;
-    print_west(rt, b"west=+1")?;
-    print_west(rt, b"west=-")?;
-    print_west(rt, b"west=")?;
-    print_west(rt, b"west=0 ")?;
-    print_west(rt, b"West=0")
+    print_west(
+        rt,
+        &[
+            b"west=-0", b"west=00", b"west=+1", b"west=-", b"west=", b"west=0 ", b"West=0",
+        ],
+    )
 }
 
 // And their ranges, then the grid's.
 fn print_grids(rt: &impl Print) -> io::Result<()> {
-    print_west(rt, b"west=2147483648")?;
-    print_west(rt, b"west=-2147483649")?;
-    print_west(rt, b"west=2147483647")?;
-    print_west(rt, b"west=-1000001")?;
-    print_west(rt, b"west=-1000000")?;
-    print_west(rt, b"west=-1")?;
-    print_cell(rt, b"cell=65536")?;
-    print_cell(rt, b"cell=65535")?;
-    print_cell(rt, b"cell=8193")?;
-    print_cell(rt, b"cell=8192")?;
-    print_cell(rt, b"cell=0")
+    print_west(
+        rt,
+        &[
+            b"west=2147483648",
+            b"west=-2147483649",
+            b"west=2147483647",
+            b"west=-1000001",
+            b"west=-1000000",
+            b"west=-1",
+        ],
+    )?;
+    print_cell(
+        rt,
+        &[
+            b"cell=65536",
+            b"cell=65535",
+            b"cell=8193",
+            b"cell=8192",
+            b"cell=0",
+        ],
+    )
 }
 
+// The first of two stands; the other one's name is kito.
 fn print_names(rt: &impl Print) -> io::Result<()> {
-    print_name(rt, b"name=")?;
-    print_name(rt, b"name=Kibo")?;
-    print_name(rt, b"name=name=kibo")?;
-    print_name(rt, b"name=kiaaaaaaaaaaaaaaaaaaaaaaa")?;
-    print_name(rt, b"name=kiaaaaaaaaaaaaaaaaaaaaaa")?;
-    print_name(rt, b"name=kito a")?;
-    print_name(rt, b"name=kito")
+    print_lines(
+        rt,
+        b"west=0\nsouth=0\ncell=10\nstands=2\n",
+        &[
+            b"name=",
+            b"name=Kibo",
+            b"name=name=kibo",
+            b"name=kiaaaaaaaaaaaaaaaaaaaaaaa",
+            b"name=kiaaaaaaaaaaaaaaaaaaaaaa",
+            b"name=kito a",
+            b"name=kito",
+        ],
+        b"\neast=5\nnorth=5\nscore=100\nname=kito\neast=9\nnorth=9\nscore=400\ntext=ki\neast=5\nnorth=5\nweight=8\nk=2\n",
+    )
 }
 
 fn print_columns(rt: &impl Print) -> io::Result<()> {
-    print_stands(rt, b"stands=0")?;
-    print_stands(rt, b"stands=2")?;
-    print_stands(rt, b"stands=1")?;
-    print_east(rt, b"east=80")?;
-    print_east(rt, b"east=-1")?;
-    print_east(rt, b"east=79")?;
-    print_score(rt, b"score=1001")?;
-    print_score(rt, b"score=1000")
+    print_stands(rt, &[b"stands=0", b"stands=2", b"stands=1"])?;
+    print_east(rt, &[b"east=80", b"east=-1", b"east=79"])?;
+    print_score(rt, &[b"score=1001", b"score=1000"])
 }
 
-// A typed text may have capitals, and a name may not.
+// A question on a stand. A typed text may have capitals, and a name may not.
 fn print_texts(rt: &impl Print) -> io::Result<()> {
-    print_text(rt, b"text=Ki")?;
-    print_text(rt, b"text=k@")?;
-    print_text(rt, b"text=k[")?;
-    print_text(rt, b"text=k!")?;
-    print_text(rt, b"text=aaaaaaaaaaaaaaaaaaaaaaaa!")?;
-    print_text(rt, b"text=aaaaaaaaaaaaaaaaaaaaaaaa")?;
-    print_text(rt, b"text=")
+    print_lines(
+        rt,
+        b"west=0\nsouth=0\ncell=10\nstands=1\nname=kibo\neast=5\nnorth=5\nscore=100\n",
+        &[
+            b"text=Ki",
+            b"text=k@",
+            b"text=k[",
+            b"text=k!",
+            b"text=aaaaaaaaaaaaaaaaaaaaaaaa!",
+            b"text=aaaaaaaaaaaaaaaaaaaaaaaa",
+            b"text=",
+        ],
+        b"\neast=5\nnorth=5\nweight=8\nk=2\n",
+    )
 }
 
+// The question's last lines.
 fn print_questions(rt: &impl Print) -> io::Result<()> {
-    print_asked(rt, b"east=80\nnorth=79\nweight=8\nk=2")?;
-    print_asked(rt, b"east=79\nnorth=79\nweight=0\nk=16")?;
-    print_asked(rt, b"east=5\nnorth=5\nweight=17\nk=2")?;
-    print_asked(rt, b"east=5\nnorth=5\nweight=8\nk=0")?;
-    print_asked(rt, b"east=5\nnorth=5\nweight=8\nk=17")?;
-    print_asked(rt, b"east=5\nnorth=5\nweight=8\nk=02")?;
-    print_asked(rt, b"east=5\nnorth=5\nweight=8\nk=2\nk=2")?;
-    print_asked(rt, b"north=5\neast=5\nweight=8\nk=2")
+    print_lines(
+        rt,
+        b"west=0\nsouth=0\ncell=10\nstands=1\nname=kibo\neast=5\nnorth=5\nscore=100\ntext=ki\n",
+        &[
+            b"east=80\nnorth=79\nweight=8\nk=2",
+            b"east=79\nnorth=79\nweight=0\nk=16",
+            b"east=5\nnorth=5\nweight=17\nk=2",
+            b"east=5\nnorth=5\nweight=8\nk=0",
+            b"east=5\nnorth=5\nweight=8\nk=17",
+            b"east=5\nnorth=5\nweight=8\nk=02",
+            b"east=5\nnorth=5\nweight=8\nk=2\nk=2",
+            b"north=5\neast=5\nweight=8\nk=2",
+        ],
+        b"\n",
+    )
 }
 
 // Inputs that two refusals fit.

@@ -2,41 +2,26 @@
 -- Assumes nothing.
 use mathlib.Core.Path.{refl}
 use native.Mathlib.Omega.{arith}
-use Rattle.desk_answer.proofs.Readings.{counted, parts_read, refused_14, replied}
+use Rattle.desk_answer.proofs.Readings.{handed_read, refused_14, replied}
 use Rattle.desk_answer.proofs.answer.Goals as goal
 
 pub returns-in_default : goal.returns-in_default
 returns-in_default c = refused_14 _ _ _ c.put_refusal.ensures _ c.in_default.ensures refl
 
-pub slice_bounds-reply-end : goal.slice_bounds-reply-end
-slice_bounds-reply-end c = counted (parts_read _ _ _ _ _ _ _ _ _ c.in-Of.ensures).1.text
+pub table-table-requires-clause-short : goal.table-table-requires-clause-short
+table-table-requires-clause-short c = (handed_read _ _ _ _ c.in-Ok.ensures).1.text.within
 
-pub slice_bounds-reply-end-2 : goal.slice_bounds-reply-end-2
-slice_bounds-reply-end-2 c = counted (parts_read _ _ _ _ _ _ _ _ _ c.in-Of.ensures).1.starts
+pub table-table-requires-clause-few : goal.table-table-requires-clause-few
+table-table-requires-clause-few c = (handed_read _ _ _ _ c.in-Ok.ensures).1.few
 
-pub slice_bounds-reply-end-3 : goal.slice_bounds-reply-end-3
-slice_bounds-reply-end-3 c = counted (parts_read _ _ _ _ _ _ _ _ _ c.in-Of.ensures).1.east
+pub slice_bounds-typed-count : goal.slice_bounds-typed-count
+slice_bounds-typed-count c = (handed_read _ _ _ _ c.in-Ok.ensures).1.forward
 
-pub slice_bounds-reply-end-4 : goal.slice_bounds-reply-end-4
-slice_bounds-reply-end-4 c = counted (parts_read _ _ _ _ _ _ _ _ _ c.in-Of.ensures).1.north
+pub slice_bounds-typed-start : goal.slice_bounds-typed-start
+slice_bounds-typed-start c = let p = (handed_read _ _ _ _ c.in-Ok.ensures).1 in omega (arith, p.forward, p.inside)
 
-pub slice_bounds-reply-end-5 : goal.slice_bounds-reply-end-5
-slice_bounds-reply-end-5 c = counted (parts_read _ _ _ _ _ _ _ _ _ c.in-Of.ensures).1.score
-
-pub overflow_add-stands : goal.overflow_add-stands
-overflow_add-stands c = let p = (parts_read _ _ _ _ _ _ _ _ _ c.in-Of.ensures).1 in record { fits = omega (arith, p.few) }
-
-pub slice_bounds-reply-count : goal.slice_bounds-reply-count
-slice_bounds-reply-count c = (parts_read _ _ _ _ _ _ _ _ _ c.in-Of.ensures).1.forward
-
-pub slice_bounds-reply-start : goal.slice_bounds-reply-start
-slice_bounds-reply-start c = let p = (parts_read _ _ _ _ _ _ _ _ _ c.in-Of.ensures).1 in omega (arith, p.forward, p.inside)
-
-pub slice_bounds-reply-end-6 : goal.slice_bounds-reply-end-6
-slice_bounds-reply-end-6 c = let p = (parts_read _ _ _ _ _ _ _ _ _ c.in-Of.ensures).1 in omega (arith, p.forward, p.inside)
-
-pub reply-requires : goal.reply-requires
-reply-requires c = let p = (parts_read _ _ _ _ _ _ _ _ _ c.in-Of.ensures).1 in omega (arith, p.few, counted p.score)
+pub slice_bounds-typed-end : goal.slice_bounds-typed-end
+slice_bounds-typed-end c = let p = (handed_read _ _ _ _ c.in-Ok.ensures).1 in omega (arith, p.forward, p.inside)
 
 pub returns : goal.returns
-returns c = replied _ _ _ c.reply.ensures _ _ _ _ _ _ c.in-Of.ensures refl
+returns c = replied _ _ _ c.reply.ensures _ c.in-Ok.ensures (rw c.table-table.ensures)

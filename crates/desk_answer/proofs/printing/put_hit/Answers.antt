@@ -21,4 +21,4 @@ put_number-requires c =
     number_room _ _ _ _ (search rules) (omega (arith, c.requires.0, c.requires.1, past_number _ _ c.put_number-at.ensures (search rules), past-line _ _ c.put_line-at.ensures, ap length c.name_of-name.ensures))
 
 pub returns : goal.returns
-returns c = hit_put _ _ _ _ _ (search rules) (search rules) c.name_of-name.ensures c.requires.1 c.put_number-at.ensures c.put_line-at.ensures c.put_number.ensures
+returns c = hit_put _ _ _ _ _ (search rules) (search rules) c.name_of-name.ensures c.requires.1 (rw c.from.ensures at c.put_number-at.ensures) c.put_line-at.ensures c.put_number.ensures

@@ -10,4 +10,4 @@ put_number-requires c = number_room _ _ _ _ (search rules) (search rules)
 
 pub returns : goal.returns
 unfolding printed_refusal
-returns c = rw c.number.ensures at c.put_number.ensures
+returns c = rw (c.from-2.ensures, c.from.ensures) at c.put_number.ensures

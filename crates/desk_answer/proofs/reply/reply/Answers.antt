@@ -1,14 +1,16 @@
--- `reply::reply`: a refusal is the table's; else the set is lawful, and the ranked question answers.
+-- `reply::reply`: the lines of what was found are the reply, and so is a refusal's.
 -- Assumes nothing.
-use mathlib.Core.Path.{refl}
-use Rattle.rules.specs.Names.{folded_text}
-use Rattle.desk_answer.proofs.Building.{made_refused}
+use Rattle.desk_answer.proofs.Asking.{refusal_told, names_short, each_valued, hits_told}
 use Rattle.desk_answer.proofs.reply.reply.Goals as goal
 
-pub returns-in-Refused : goal.returns-in-Refused
-returns-in-Refused c =
-    let a = c.args in
-    rw (made_refused _ _ _ (folded_text a.typed.now) a.asked _ c.in-Refused.ensures) at c.put_refusal.ensures
+pub put_hits-requires-clause-names : goal.put_hits-requires-clause-names
+put_hits-requires-clause-names c = names_short _ _ _ _ _ _ _ c.in-Ok.ensures
 
-pub ask-requires : goal.ask-requires
-ask-requires c = c.in_default.ensures.lawful refl
+pub put_hits-requires-clause-each_valued : goal.put_hits-requires-clause-each_valued
+put_hits-requires-clause-each_valued c = each_valued _ _ _ _ _ _ _ c.in-Ok.ensures
+
+pub returns-in-Ok : goal.returns-in-Ok
+returns-in-Ok c = rw (hits_told _ _ _ _ _ _ _ c.in-Ok.ensures) at c.put_hits.ensures
+
+pub returns-in-Err : goal.returns-in-Err
+returns-in-Err c = rw (refusal_told _ _ _ _ c.in-Err.why c.in-Err.ensures) at c.put_refusal.ensures
