@@ -1,5 +1,5 @@
-// The walk through the nodes in pre-order. A cursor is five numbers by value; what grows with it, the path of the nodes above it and
-// each region's next place in the stand order, is lent beside it, so that counting carries no more of it than it needs.
+// The walk through the nodes in pre-order. A cursor is five numbers by value; what grows with it, what lies above it and each region's next
+// place in the stand order, is in the work beside it, so that counting carries no more of it than it needs.
 ghost use Rattle.std.specs.Prelude.{◌≡◌};
 ghost use Rattle.node.specs.Columns.{columns_of};
 ghost use Rattle.node.specs.Visits.{root_cursor, places_at, Stepped, Advanced};
@@ -42,6 +42,7 @@ pub fn step(columns: Columns, cursor: Cursor, held: u32, kept: u32) -> Cursor
     let records = cursor.records + kept;
     let mut stand = cursor.stand.0 as usize;
     let mut length = cursor.length + 1;
+    // Stays: a for is no plainer, since each stand brings the length that the next test holds against it.
     while stand < columns.lengths.len() && columns.lengths[stand] < length {
         stand += 1;
         length = value_at(columns.shared, Stand(stand as u32)) + 1;

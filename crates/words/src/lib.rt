@@ -37,6 +37,7 @@ pub fn count(columns: Columns) -> Sizes
     let all = count_nodes(columns);
     let mut regions = [0u64; Session::PATH];
     let mut cursor = root();
+    // Stays: a for is no plainer, here and below, since the cursor counts its nodes itself.
     while cursor.number.0 < all {
         let length = cursor.length;
         let bits = regions_under(columns, cursor.stand, length);

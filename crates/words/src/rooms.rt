@@ -1,4 +1,6 @@
 // Words put into a lent room, and compared with one: any words, a node's bit record, and its entries out of the slots of its regions.
+// Stays: one function for putting and comparing is no plainer, since putting asks for room and cannot fail, and comparing asks for none and
+// can: each caller would have to say which it is.
 ghost use Rattle.std.specs.Prelude.{◌≡◌, ◌+◌, ◌*◌, ◌≤◌, ◌<◌, length, drop};
 ghost use Rattle.base.specs.Lists.{begins};
 ghost use Rattle.rules.specs.Indexes.{entry_row};

@@ -10,6 +10,7 @@ use rules::Index;
 use rules::layout::{ENTRY_WORDS, NODE_WORDS, RECORD_WORDS};
 
 // The node's words, in the rooms.
+// Stays: a struct of the three rooms is no plainer, since each contract would have to say of each field that it is the same loan still.
 pub fn write_node(
     columns: Columns,
     cursor: Cursor,
