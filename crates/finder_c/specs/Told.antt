@@ -8,8 +8,6 @@ use Rattle.rules.specs.declared.Set.{Set}
 use Rattle.rules.specs.declared.Place.{Place}
 use Rattle.rules.specs.declared.Ranking.{Ranking}
 use Rattle.rules.specs.Names.{rest_of, rest_at}
-use Rattle.rules.specs.Tables.{lent_table, table_in}
-use Rattle.rules.specs.Indexes.{lent_index, index_in}
 use Rattle.rules.specs.Outcomes.{Outcome, outcome}
 use Rattle.rules.specs.Numbers.{Told, BuildTold, CheckTold, AnyTold}
 use Rattle.finder_c.specs.declared.Located.{Located}
@@ -34,11 +32,14 @@ found_told r = record { refusal = r.refusal; number = r.count }
 abbrev pub any_told : AnyFound → AnyTold
 any_told r = record { refusal = r.refusal; yes = r.yes; stand = r.stand }
 
--- a set whose parts are lent one by one
-pub record Together (text starts : Lent (List ℕ)) (east north : Lent (List ℤ)) (score : Lent (List ℕ)) (g : Grid) (order nodes entries bits : Lent (List ℕ)) (s : Set) : Type 0 where
-  pub table : lent_table s.table ≡ table_in text starts east north score
-  pub grid : s.grid ≡ g
-  pub index : lent_index s.index ≡ index_in order nodes entries bits
+-- the set whose parts are lent one by one
+abbrev pub set_in : (text starts : Lent (List ℕ)) (east north : Lent (List ℤ)) (score : Lent (List ℕ)) → Grid → (order nodes entries bits : Lent (List ℕ)) → Set
+set_in text starts east north score g order nodes entries bits =
+    record {
+      table = record { text = text.entry; starts = starts.entry; east = east.entry; north = north.entry; score = score.entry };
+      grid = g;
+      index = record { order = order.entry; nodes = nodes.entry; entries = entries.entry; bits = bits.entry };
+    }
 
 -- what came of a question with one room, and with two
 abbrev pub found_in : Found → LentMut (List ℕ) → Outcome

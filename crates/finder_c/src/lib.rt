@@ -13,7 +13,7 @@ ghost use Rattle.rules.specs.Sessions.{fresh_session};
 ghost use Rattle.rules.specs.Promises.{RangePromise, AnyPromise, RankedPromise, TypedRangePromise, TypedAnyPromise, TypedRankedPromise};
 ghost use Rattle.index.specs.Promises.{BuildPromise, index_given, index_left};
 ghost use Rattle.session.specs.Promises.{TypePromise, RubPromise};
-ghost use Rattle.finder_c.specs.Told.{Tells, located_told, built_told, checked_told, found_told, any_told, found_in, founds_in, ranking_of, RestPart, Together};
+ghost use Rattle.finder_c.specs.Told.{Tells, located_told, built_told, checked_told, found_told, any_told, found_in, founds_in, ranking_of, RestPart, set_in};
 
 use finder::{
     Grid, Index, Place, RangeRefusal, Ranking, Rect, Refusal, Session, Set, Sizes, Stand, Table,
@@ -90,11 +90,13 @@ impl From<Result<Sizes, Refusal>> for Built {
 
     fn from(answer: Result<Sizes, Refusal>) -> Built {
         match answer {
-            Ok(Sizes {
-                nodes,
-                entries,
-                bits,
-            }) => Built {
+            Ok(
+                Sizes {
+                    nodes,
+                    entries,
+                    bits,
+                },
+            ) => Built {
                 refusal: 0,
                 nodes,
                 entries,
@@ -115,11 +117,13 @@ impl From<Option<Sizes>> for Checked {
 
     fn from(answer: Option<Sizes>) -> Checked {
         match answer {
-            Some(Sizes {
-                nodes,
-                entries,
-                bits,
-            }) => Checked {
+            Some(
+                Sizes {
+                    nodes,
+                    entries,
+                    bits,
+                },
+            ) => Checked {
                 lawful: 1,
                 nodes,
                 entries,
@@ -204,7 +208,7 @@ fn set_of<'a>(
     entries: &'a [u32],
     bits: &'a [u32],
 ) -> Set<'a>
-    ensures { Together text starts east north score grid order nodes entries bits result }
+    ensures { result ≡ set_in text starts east north score grid order nodes entries bits }
 {
     Set {
         table: Table {

@@ -1,6 +1,7 @@
--- `krz_range_typed` tells the numbers of what came of the question. Assumes nothing.
+-- `krz_range_typed` tells the numbers of what came of the question, of the parts put together. Assumes nothing.
 use Rattle.finder_c.proofs.Told.{told-kept}
 use Rattle.finder_c.proofs.krz_range_typed.Goals as goal
 
 pub returns : goal.returns
-returns c = told-kept _ _ _ _ _ _ _ c.of_range.ensures c.range_typed.ensures
+returns c =
+    told-kept _ _ _ _ _ _ _ c.into.ensures (rw c.set_of-set.ensures at c.range_typed.ensures)
