@@ -2,16 +2,12 @@
 use mathlib.Core.Path.{◌≡◌, sym, ◌∙◌}
 use native.Mathlib.Omega.{arith}
 use lib.ListN.{length}
-use lib.Seq.{length-take-le}
 use borrow.Author.Rules.{rules}
 use Rattle.letters.proofs.Ways.{within}
 use Rattle.letters.proofs.letters_verdict.Goals as goal
 
-pub slice_bounds-text-end : goal.slice_bounds-text-end
-slice_bounds-text-end c = let size : length c.args.session.text ≡ 24 = search rules in omega arith
-
 pub slice_bounds-text_verdict-end : goal.slice_bounds-text_verdict-end
-slice_bounds-text_verdict-end c = let size : length c.args.session.text ≡ 24 = search rules in sym (length-take-le _ c.args.session.text (omega arith))
+slice_bounds-text_verdict-end c = let size : length c.args.session.text ≡ 24 = search rules in omega arith
 
 pub returns : goal.returns
 returns c = c.text_verdict.ensures ∙ sym (within _ (search rules))
