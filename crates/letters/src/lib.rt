@@ -19,7 +19,7 @@ use table::text::text_verdict;
 use walk::listing::listing_at;
 
 // A session is refused 7 for a length that none has, else as its letters are.
-#[tactic(auto, using(crate::proofs::Ways::over))]
+#[tactic(auto, unfolding(crate::specs::Letters::letters_refusal))]
 fn letters_verdict(session: Session) -> Result<(), Refusal>
     ensures { verdict_number result ≡ letters_refusal session }
 {
