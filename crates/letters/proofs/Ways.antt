@@ -23,27 +23,26 @@ use Rattle.rules.specs.Promises.{Kept, LawfulBoth, TypedRangePromise, TypedAnyPr
 use Rattle.rules.proofs.Folds.{text_same}
 use Rattle.rules.proofs.Outcomes.{settled-refused}
 use Rattle.rules.proofs.Outcomes as outcomes
-use Rattle.walk.specs.declared.Child.{Child}
-use Rattle.walk.specs.declared.listing.Listing.{Listing}
-use Rattle.walk.specs.Listings.{listing_at}
-use Rattle.walk.specs.Asked.{Listed}
+use Rattle.walk.specs.Walks.{Child}
+use Rattle.walk.specs.Listings.{Listed, listing_at}
+use Rattle.walk.specs.Asked as asked
 use Rattle.walk.proofs.Asked.{from_kept, text_refused, node-listed}
 use Rattle.session.specs.Strokes.{reached}
 use Rattle.session.proofs.Sessions.{lawful-short, lawful-reached}
 use Rattle.range.specs.Promises.{RangeFrom}
 use Rattle.any.specs.Promises.{AnyFrom}
-use Rattle.search.specs.Searches.{stand_columns}
+use Rattle.search.specs.Searches.{table_columns}
 use Rattle.ranked.specs.Promises.{RankedFrom}
 use Rattle.letters.specs.Letters.{letters_refusal}
 
 -- ---- what the letters are refused with
 
 module _ (s : Session) where
-  pub over : 24 < s.len → letters_refusal s ≡ 7
+  over : 24 < s.len → letters_refusal s ≡ 7
   unfolding letters_refusal
   over h = rw (lt-ltb 24 s.len h)
 
-  pub within : s.len ≤ 24 → letters_refusal s ≡ text_refusal (folded_text (letters_of s))
+  within : s.len ≤ 24 → letters_refusal s ≡ text_refusal (folded_text (letters_of s))
   unfolding letters_refusal
   within h = rw (le-ltb 24 s.len h)
 
@@ -77,8 +76,8 @@ module _ (t : Table) (g : Grid) (x : Index) (s : Session) where
       step (inr f) = text_refused (LawfulBoth t g x s) comes_to meant refused (folded_text (letters_of s)) n whatever why f
 
   -- where its path leads is the listing of its letters, which a lawful session has folded
-  served : (at : Listing) (c : Child) → at ≡ listing_at x.nodes x.bits c → c ≡ reached s → LawfulBoth t g x s
-      → Listed t.east t.north t.score g x.order x.entries at t (folded_text (letters_of s))
+  served : (at : Listed) (c : Child) → at ≡ listing_at x.nodes x.bits c → c ≡ reached s → LawfulBoth t g x s
+      → asked.Listed t.east t.north t.score g x.order x.entries at t (folded_text (letters_of s))
   served at c e came l = rw (text_same (letters_of s) l.session.allowed) (node-listed t g x (letters_of s) at (e ∙ ap (listing_at x.nodes x.bits) (came ∙ lawful-reached t s l.session)) l.set)
 
   module _ (r : Rect) (rooms : List (List ℕ)) where
@@ -86,20 +85,20 @@ module _ (t : Table) (g : Grid) (x : Index) (s : Session) where
     range_refused =
         refused_by (λ n list. range_outcome n list rooms) (range_list t g (folded_text (letters_of s)) r) (λ n. refused n rooms) (rect_refusal r) (λ n list some. settled-refused n _ _ _ _ _ some)
 
-    pub range_reached : (at : Listing) (c : Child) (o : Outcome) → letters_refusal s ≡ 0 → at ≡ listing_at x.nodes x.bits c → c ≡ reached s
-        → RangeFrom t.east t.north g x.order x.entries at r rooms o → TypedRangePromise t g x s r rooms o
+    pub range_reached : (at : Listed) (c : Child) (o : Outcome) → letters_refusal s ≡ 0 → at ≡ listing_at x.nodes x.bits c → c ≡ reached s
+        → RangeFrom t g x at r rooms o → TypedRangePromise t g x s r rooms o
     range_reached at c o fine e came w =
-        from_kept _ (λ t' q. Listed t.east t.north t'.score g x.order x.entries at t' q) (λ n list. range_outcome n list rooms) (λ t p. range_list t g p r) (refused 7 rooms) o t (folded_text (letters_of s))
+        from_kept _ (λ t' q. asked.Listed t.east t.north t'.score g x.order x.entries at t' q) (λ n list. range_outcome n list rooms) (λ t p. range_list t g p r) (refused 7 rooms) o t (folded_text (letters_of s))
         (rect_refusal r) (taken s fine) (served at c e came) w
 
   module _ (r : Rect) where
     pub any_refused : (why : Refusal) → refusal_number why ≡ letters_refusal s → TypedAnyPromise t g x s r (refusing_any (refusal_number why))
     any_refused = refused_by any_outcome (range_list t g (folded_text (letters_of s)) r) refusing_any (rect_refusal r) outcomes.any_refused
 
-    pub any_reached : (at : Listing) (c : Child) (o : AnyTold) → letters_refusal s ≡ 0 → at ≡ listing_at x.nodes x.bits c → c ≡ reached s
-        → AnyFrom t.east t.north g x.order x.entries at r o → TypedAnyPromise t g x s r o
+    pub any_reached : (at : Listed) (c : Child) (o : AnyTold) → letters_refusal s ≡ 0 → at ≡ listing_at x.nodes x.bits c → c ≡ reached s
+        → AnyFrom t g x at r o → TypedAnyPromise t g x s r o
     any_reached at c o fine e came w =
-        from_kept _ (λ t' q. Listed t.east t.north t'.score g x.order x.entries at t' q) any_outcome (λ t p. range_list t g p r) (refusing_any 7) o t (folded_text (letters_of s))
+        from_kept _ (λ t' q. asked.Listed t.east t.north t'.score g x.order x.entries at t' q) any_outcome (λ t p. range_list t g p r) (refusing_any 7) o t (folded_text (letters_of s))
         (rect_refusal r) (taken s fine) (served at c e came) w
 
   module _ (q : Ranking) (rooms : List (List ℕ)) where
@@ -107,8 +106,8 @@ module _ (t : Table) (g : Grid) (x : Index) (s : Session) where
     ranked_refused =
         refused_by (λ n hits. ranked_outcome n q.k hits rooms) (ranking t g (folded_text (letters_of s)) q) (λ n. refused n rooms) (ranking_refusal g q) (λ n hits some. settled-refused n _ _ _ _ _ some)
 
-    pub ranked_reached : (at : Listing) (c : Child) (o : Outcome) → letters_refusal s ≡ 0 → at ≡ listing_at x.nodes x.bits c → c ≡ reached s
-        → RankedFrom (stand_columns t.east t.north t.score) g x.order x.entries at q rooms o → TypedRankedPromise t g x s q rooms o
+    pub ranked_reached : (at : Listed) (c : Child) (o : Outcome) → letters_refusal s ≡ 0 → at ≡ listing_at x.nodes x.bits c → c ≡ reached s
+        → RankedFrom (table_columns t) g x.order x.entries at q rooms o → TypedRankedPromise t g x s q rooms o
     ranked_reached at c o fine e came w =
-        from_kept _ (Listed t.east t.north t.score g x.order x.entries at) (λ n hits. ranked_outcome n q.k hits rooms) (λ t p. ranking t g p q) (refused 7 rooms) o t (folded_text (letters_of s))
+        from_kept _ (asked.Listed t.east t.north t.score g x.order x.entries at) (λ n hits. ranked_outcome n q.k hits rooms) (λ t p. ranking t g p q) (refused 7 rooms) o t (folded_text (letters_of s))
         (ranking_refusal g q) (taken s fine) (served at c e came) w

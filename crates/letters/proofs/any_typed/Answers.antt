@@ -1,15 +1,13 @@
 -- `letters::any_typed` keeps its promise: the letters are refused, or the path says where they came to (proofs/Ways.antt). Assumes nothing.
-use mathlib.Core.Path.{sym, ap, ◌∙◌}
-use Rattle.rules.specs.Numbers.{verdict_number}
+use mathlib.Core.Path.{sym}
+use Rattle.std.proofs.lemmas.Result.{err_from_is_err_and}
 use Rattle.letters.proofs.Ways.{any_refused, any_reached}
 use Rattle.letters.proofs.any_typed.Goals as goal
 
-pub returns-in-Refused : goal.returns-in-Refused
-returns-in-Refused c = any_refused _ _ _ _ _ c.in-Refused.why (ap verdict_number (sym c.in-Refused.is) ∙ c.letters_verdict.ensures)
+pub returns-in_err-letters_verdict : goal.returns-in_err-letters_verdict
+returns-in_err-letters_verdict c =
+    let p = err_from_is_err_and c.from_residual.result c.from_residual.ensures.1 in
+    rw (p.1, p.2) (any_refused _ _ _ _ _ _ c.in_err-letters_verdict.ensures)
 
 pub returns : goal.returns
-returns c =
-    any_reached _ _ _ _ _ _ _ _
-    (sym c.letters_verdict.ensures ∙ ap verdict_number c.in_default.is)
-    c.listing_at-at.ensures c.reached.ensures
-    c.any_from.ensures
+returns c = any_reached _ _ _ _ _ _ _ _ (sym c.in_ok-letters_verdict.ensures) c.listing_at-at.ensures c.reached.ensures c.any_from.ensures
