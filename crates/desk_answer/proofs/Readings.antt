@@ -8,7 +8,7 @@ use lib.ListN.{length, take, drop, length-append, length-take}
 use lib.Seq.{take-append_seam, drop-append_seam}
 use Rattle.base.specs.Lists.{each, each_list}
 use Rattle.base.proofs.Members.{length-each}
-use Rattle.std.specs.Prelude.{Ok, Err}
+use Rattle.std.specs.Prelude.{Some, None, Ok, Err}
 use Rattle.rules.specs.declared.Refusal.{Refusal}
 use Rattle.rules.specs.Names.{folded_text}
 use Rattle.rules.specs.Tables.{Table}
@@ -16,7 +16,7 @@ use Rattle.rules.proofs.Numbers.{refusal_some}
 use Rattle.lines.specs.Writing.{ascii, signed_of, decimal_of, line}
 use Rattle.lines.specs.Puts.{Puts}
 use Rattle.lines.specs.Says.{part}
-use Rattle.lines.specs.Reads.{Got, got, nothing}
+use Rattle.lines.specs.Reads.{Got}
 use Rattle.lines.proofs.Lines.{lost}
 use Rattle.desk_form.specs.Form.{StandLines, Input, grid_text, stand_text, question_text, input_text, InRanges}
 use Rattle.desk_form.specs.Columns.{joined_names, starts_from, table_from, fronts, laid_over, laid_table, text_at}
@@ -34,8 +34,8 @@ pub of_form_or_not : {X : Type 0} (input : List ℕ) → ((r : Input) → InRang
 of_form_or_not {X} input form other = step (read_input input) refl
   where
     step : (f : Got Input) → read_input input ≡ f → X
-    step (got r rest) e = let s = input_sound input r rest e in form r s.0 s.1
-    step nothing e = other (λ r h t. lost (sym e ∙ ap read_input (sym t) ∙ input_back r h))
+    step (Some (r, rest)) e = let s = input_sound input r rest e in form r s.0 s.1
+    step None e = other (λ r h t. lost (sym e ∙ ap read_input (sym t) ∙ input_back r h))
 
 -- the first n of a list are these
 pub record Front {A : Type 0} (n : ℕ) (l w : List A) : Type 0 where

@@ -15,6 +15,7 @@ use Rattle.desk_form.specs.Form.{StandLines, Input, grid_text, stand_text, quest
 use Rattle.lines.specs.Reads.{got, onward}
 use Rattle.desk_form.specs.Reads.{grid_lines, stand_by, stand_lines, all_stands, question_lines, ended, input_of, all_lines, read_input}
 use Rattle.lines.specs.Back.{ReadBack}
+use Rattle.std.proofs.lemmas.Option.{some_pair_parts}
 use Rattle.base.proofs.Tests.{tested}
 use Rattle.lines.proofs.Lines.{lost, as_got, in_a_row, past-line, read_back}
 
@@ -146,4 +147,4 @@ input_sound l r rest e =
 
 -- so no two records in their ranges have one text
 pub one_record : (r s : Input) → InRanges r → InRanges s → input_text r ≡ input_text s → r ≡ s
-one_record r s h k e = let q : got r [] ≡ got s [] = sym (input_back r h) ∙ ap read_input e ∙ input_back s k in cc
+one_record r s h k e = (some_pair_parts r s [] [] (sym (input_back r h) ∙ ap read_input e ∙ input_back s k)).0

@@ -2,6 +2,7 @@
 -- Assumes nothing.
 use mathlib.Core.Path.{◌≡◌, refl, sym, ap, ◌∙◌, ap₂}
 use mathlib.Core.List.{List, [], ◌∷◌, ◌++◌, append_assoc, append-nil}
+use Rattle.std.specs.Prelude.{Some, None}
 use Prim.Native.Nat.{ℕ, suc, ◌+◌, ◌-◌, ◌≤◌, ◌<◌}
 use native.Mathlib.Omega.{arith}
 use lib.IntN.{ℤ}
@@ -13,7 +14,7 @@ use Rattle.rules.specs.Tables.{Table, table_of}
 use Rattle.lines.specs.Writing.{line}
 use Rattle.desk_form.specs.Form.{StandLines, stand_text}
 use Rattle.desk_form.specs.Columns.{joined_names, starts_from, table_from, laid_over, laid_table}
-use Rattle.lines.specs.Reads.{Got, got, nothing, onward}
+use Rattle.lines.specs.Reads.{Got, got, onward}
 use Rattle.desk_form.specs.Reads.{stand_lines, all_stands}
 use Rattle.lines.specs.Says.{part, Reached}
 use Rattle.lines.specs.Puts.{Puts}
@@ -108,14 +109,14 @@ pub record Laying (l : List ℕ) (at n : ℕ) (rooms now : Table) (bytes next i 
 
 onward_none : (x : Got (List StandLines)) → x ≡ onward x (before [])
 unfolding onward before
-onward_none (got more rest) = refl
-onward_none nothing = refl
+onward_none (Some (more, rest)) = refl
+onward_none None = refl
 
 onward_more : (x : Got (List StandLines)) (stands : List StandLines) (s : StandLines)
     → onward (onward x (λ more. got (s ∷ more))) (before stands) ≡ onward x (before (stands ++ (s ∷ [])))
 unfolding onward before
-onward_more (got more rest) stands s = ap (λ m. got m rest) (sym (append_assoc stands (s ∷ []) more))
-onward_more nothing stands s = refl
+onward_more (Some (more, rest)) stands s = ap (λ m. got m rest) (sym (append_assoc stands (s ∷ []) more))
+onward_more None stands s = refl
 
 module _ (l : List ℕ) (at n : ℕ) (rooms : Table) where
   -- one stand's turn
@@ -124,9 +125,9 @@ module _ (l : List ℕ) (at n : ℕ) (rooms : Table) where
   unfolding all_stands
   turn x i next stands h e = let k : n - i ≡ suc (n - (i + 1)) = omega arith in rw (k, e)
 
-  pub no_stand : (now : Table) (bytes next i : ℕ) → i < n → stand_lines (drop next l) ≡ nothing → Laying l at n rooms now bytes next i → all_stands n (drop at l) ≡ nothing
+  pub no_stand : (now : Table) (bytes next i : ℕ) → i < n → stand_lines (drop next l) ≡ None → Laying l at n rooms now bytes next i → all_stands n (drop at l) ≡ None
   unfolding onward
-  no_stand now bytes next i h e s = s.rest ∙ turn nothing i next s.stands h e
+  no_stand now bytes next i h e s = s.rest ∙ turn None i next s.stands h e
 
   pub all_laid : (now : Table) (bytes next i : ℕ) → n ≤ i → Laying l at n rooms now bytes next i → StandsReached l (all_stands n (drop at l)) rooms now bytes next
   unfolding onward all_stands before

@@ -19,7 +19,7 @@ use Rattle.rules.specs.Tables.{Table}
 use Rattle.desk_form.specs.Form.{Input}
 use Rattle.desk_form.specs.Columns.{table_from, laid_table, text_at}
 use Rattle.desk_form.specs.Answers.{reading_numbers, reading_of, ReadsInput}
-use Rattle.lines.specs.Reads.{got, nothing, onward}
+use Rattle.lines.specs.Reads.{got, onward}
 use Rattle.desk_form.specs.Reads.{grid_lines, all_stands, question_lines, input_of, all_lines, read_input}
 use Rattle.lines.specs.Says.{part, Reached}
 use Rattle.desk_form.specs.Says.{StandsReached, QuestionReached}
@@ -49,7 +49,7 @@ same_reading : {stands stands' bytes bytes' from from' past past' : ℕ} {grid :
 same_reading a b c d = rw (a, b, c, d)
 
 module _ (l : List ℕ) (rooms after : Table) where
-  refused : read_input l ≡ nothing → ReadsInput l rooms (Err InputMalformed) after
+  refused : read_input l ≡ None → ReadsInput l rooms (Err InputMalformed) after
   refused e = record { of_form = λ r h t. lost (sym e ∙ ap read_input (sym t) ∙ input_back r h); other = λ no. refl }
 
   accepted : (answer : Result Reading Refusal) (r : Input) (rest : List ℕ) → read_input l ≡ got r rest → reading_numbers answer ≡ reading_of r
@@ -61,21 +61,21 @@ module _ (l : List ℕ) (rooms after : Table) where
         other = λ no. absurd (no r (input_sound l r rest e).0 (input_sound l r rest e).1);
       }
 
-  lines_refused : all_lines l ≡ nothing → ReadsInput l rooms (Err InputMalformed) after
+  lines_refused : all_lines l ≡ None → ReadsInput l rooms (Err InputMalformed) after
   unfolding read_input
   lines_refused e = refused (cases (leb (length l) 16384) (λ q. rw (q, e)) (λ q. rw q))
 
-  pub no_opening : grid_lines l ≡ nothing → ReadsInput l rooms (Err InputMalformed) after
+  pub no_opening : grid_lines l ≡ None → ReadsInput l rooms (Err InputMalformed) after
   unfolding all_lines onward
   no_opening e = lines_refused (rw e)
 
   module _ (grid : Grid) (n at₁ : ℕ) (opening : Reached l (grid_lines l) (grid, n) at₁) where
-    pub no_stands : all_stands n (drop at₁ l) ≡ nothing → ReadsInput l rooms (Err InputMalformed) after
+    pub no_stands : all_stands n (drop at₁ l) ≡ None → ReadsInput l rooms (Err InputMalformed) after
     unfolding all_lines onward
     no_stands e = lines_refused (rw (opening.is, e))
 
     module _ (bytes at₂ : ℕ) (laid : StandsReached l (all_stands n (drop at₁ l)) rooms after bytes at₂) where
-      pub no_question : question_lines (drop at₂ l) ≡ nothing → ReadsInput l rooms (Err InputMalformed) after
+      pub no_question : question_lines (drop at₂ l) ≡ None → ReadsInput l rooms (Err InputMalformed) after
       unfolding all_lines onward
       no_question e = lines_refused (rw (opening.is, laid.reached.is, e))
 

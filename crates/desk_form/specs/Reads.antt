@@ -1,10 +1,10 @@
 -- What the code computes: readers of the input's groups of lines, and of the whole.
 -- That they take exactly what Form writes is proved in proofs/Inputs.
-use Rattle.std.specs.Prelude.{cond, List, [], ◌∷◌, ℕ, zero, suc, leb, length}
+use Rattle.std.specs.Prelude.{Some, None, cond, List, [], ◌∷◌, ℕ, zero, suc, leb, length}
 use Rattle.rules.specs.declared.Grid.{Grid}
 use Rattle.rules.specs.declared.Ranking.{Ranking}
 use Rattle.lines.specs.Writing.{ascii}
-use Rattle.lines.specs.Reads.{Reader, Got, got, nothing, ◌>>=◌, done, bytes_line, unsigned_line, signed_line}
+use Rattle.lines.specs.Reads.{Reader, Got, got, ◌>>=◌, done, bytes_line, unsigned_line, signed_line}
 use Rattle.desk_form.specs.Form.{StandLines, Input}
 
 -- the grid, and how many stands follow
@@ -30,8 +30,8 @@ stand_lines = stand_by (ascii "name=") (ascii "score=")
 
 -- how many lines are as they should be, up to the first of the four that is not: so that one's number, from 0
 unfoldable pub past : {A : Type 0} → Got A → (List ℕ → ℕ) → ℕ
-past (got a rest) more = suc (more rest)
-past nothing more = 0
+past (Some (a, rest)) more = suc (more rest)
+past None more = 0
 
 unfoldable pub first_bad : List ℕ → List ℕ → List ℕ → ℕ
 first_bad first last l₀ =
@@ -53,7 +53,7 @@ question_lines = do
 -- nothing behind the last line
 abbrev pub ended : {A : Type 0} → A → Reader A
 ended a [] = got a []
-ended a (b ∷ l) = nothing
+ended a (b ∷ l) = None
 
 abbrev pub input_of : Grid → List StandLines → List ℕ × Ranking → Input
 input_of grid stands question = record { grid = grid; stands = stands; text = question.0; ranking = question.1 }
@@ -66,4 +66,4 @@ all_lines = do
   ended (input_of head.0 stands question)
 
 unfoldable pub read_input : Reader Input
-read_input l = cond (leb (length l) 16384) (all_lines l) nothing
+read_input l = cond (leb (length l) 16384) (all_lines l) None

@@ -5,7 +5,7 @@ use Rattle.lines.specs.Writing.{ascii}
 use Rattle.desk_form.specs.Form.{StandLines}
 use Rattle.rules.specs.Tables.{Table}
 use Rattle.desk_form.specs.Columns.{joined_names, table_from, laid_table}
-use Rattle.lines.specs.Reads.{Got, nothing}
+use Rattle.lines.specs.Reads.{Got}
 use Rattle.desk_form.specs.Reads.{stand_by, first_bad, all_stands, question_lines}
 use Rattle.desk_form.specs.declared.group.StandRead.{StandRead}
 use Rattle.desk_form.specs.declared.group.TornLine.{TornLine}
@@ -21,7 +21,7 @@ pub record StandReached (input : List ℕ) (keyed : ℕ) (f : Got StandLines) (f
 
 -- they were not, and this is the first that is not as it should be
 pub record StandTorn (first last l : List ℕ) (line : ℕ) : Type 0 where
-  pub none : stand_by first last l ≡ nothing
+  pub none : stand_by first last l ≡ None
   pub bad : line ≡ first_bad first last l
   pub of_four : line < 4
 
@@ -39,7 +39,7 @@ pub record QuestionReached (input : List ℕ) (at : ℕ) (f : Got (List ℕ × R
 
 abbrev pub SaysQuestion : List ℕ → ℕ → Option (Question × ℕ) → Type 0
 SaysQuestion input at (Some (q, next)) = QuestionReached input at (question_lines (drop at input)) q.text.start q.text.end q.ranking next
-SaysQuestion input at None = question_lines (drop at input) ≡ nothing
+SaysQuestion input at None = question_lines (drop at input) ≡ None
 
 -- the parts of a table have room for so many stands, and for as many bytes of names as there are bytes
 pub record RoomFor (input : List ℕ) (at stands : ℕ) : Type 0 where
@@ -56,4 +56,4 @@ pub record StandsReached (input : List ℕ) (f : Got (List StandLines)) (rooms a
 
 abbrev pub SaysStands : List ℕ → ℕ → ℕ → Table → Table → Option (ℕ × ℕ) → Type 0
 SaysStands input at n rooms after (Some (bytes, next)) = StandsReached input (all_stands n (drop at input)) rooms after bytes next
-SaysStands input at n rooms after None = all_stands n (drop at input) ≡ nothing
+SaysStands input at n rooms after None = all_stands n (drop at input) ≡ None

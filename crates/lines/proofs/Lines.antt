@@ -4,6 +4,7 @@ use mathlib.Core.Path.{◌≡◌, refl, sym, ap, ◌∙◌, ap₂}
 use mathlib.Core.Logic.{⊎_elim}
 use mathlib.Core.List.{List, [], ◌∷◌, ◌++◌, append_assoc}
 use Rattle.std.specs.Prelude.{Option, Some, None}
+use Rattle.std.proofs.lemmas.Option.{none-some, some_pair_parts}
 use Prim.Native.Nat.{ℕ, suc, ◌<◌}
 use native.Mathlib.Numerals.{add-one}
 use native.Mathlib.Omega.{arith}
@@ -17,23 +18,23 @@ use Rattle.base.proofs.Tests.{tested}
 use Rattle.base.proofs.Begins.{begins-append, begins_is_take}
 use Rattle.base.proofs.Members.{position_seam}
 use Rattle.lines.specs.Writing.{line, OneLine}
-use Rattle.lines.specs.Reads.{Got, got, nothing, Reader, onward, to_feed, bytes_line, valued, value_line}
+use Rattle.lines.specs.Reads.{Got, got, Reader, onward, to_feed, bytes_line, valued, value_line}
 use Rattle.lines.specs.Back.{ValueBack, ReadBack, WrittenReadBack}
 use Rattle.lines.proofs.Decimals.{decimal_law, decimal_line, signed_law, signed_line_lem}
 
-pub lost : {A X : Type 0} {a : A} {rest : List ℕ} → nothing ≡ got a rest → X
-lost e = let z : ◌≡◌ {A = ℕ} 0 1 = cc in absurd (omega arith)
+pub lost : {A X : Type 0} {a : A} {rest : List ℕ} → None ≡ got a rest → X
+lost e = absurd (none-some _ e)
 
 -- what holds of what was given holds of what is got
 pub as_got : {A : Type 0} (P : A → List ℕ → Type 0) (a b : A) (l rest : List ℕ) → got a l ≡ got b rest → P a l → P b rest
-as_got P a b l rest e p = let s : a ≡ b = cc in let t : l ≡ rest = cc in rw (s, t) at p
+as_got P a b l rest e p = let s = some_pair_parts a b l rest e in rw (s.0, s.1) at p
 
 -- where two readers in a row got something, so did the first, and the second behind it
 pub in_a_row : {A B X : Type 0} (x : Got A) (f : A → Reader B) (b : B) (rest : List ℕ) → onward x f ≡ got b rest
     → ((a : A) (l : List ℕ) → x ≡ got a l → f a l ≡ got b rest → X) → X
 unfolding onward
-in_a_row (got a l) f b rest e next = next a l refl e
-in_a_row nothing f b rest e next = lost e
+in_a_row (Some (a, l)) f b rest e next = next a l refl e
+in_a_row None f b rest e next = lost e
 
 -- a list splits where x first stands
 position_split : (x : ℕ) (l : List ℕ) → position_in x l < length l → (In x (take (position_in x l) l) → ⊥) × (l ≡ take (position_in x l) l ++ (x ∷ drop (suc (position_in x l)) l))

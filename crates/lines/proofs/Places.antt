@@ -16,7 +16,7 @@ use borrow.Table.Steps.{cases}
 use borrow.Author.Tests.{ltb-true, eq-eqb, ne_eqb, eqb-true, eqb-false}
 use Rattle.base.specs.Lists.{begins, position_in}
 use Rattle.std.proofs.lemmas.Option.{none-some, cond_some}
-use Rattle.lines.specs.Reads.{got, nothing, onward, to_feed, bytes_line, value_line, grown_by, well_led, decimal_in}
+use Rattle.lines.specs.Reads.{got, onward, to_feed, bytes_line, value_line, grown_by, well_led, decimal_in}
 use Rattle.lines.specs.Says.{part, Reached, PartReached}
 
 -- the library's tests of a list's beginning, and of a number in it
@@ -31,7 +31,7 @@ key_test (x ∷ key) (y ∷ l) = rw (eqb_swap x y, key_test key l)
 feed_place : (l : List ℕ) → position_in 10 l ≡ position_or_len (λ b. eqb b 10) l
 feed_place = is_position_or_len (position_in 10) (λ b. eqb b 10) refl (λ y l. rw (eqb_swap 10 y) (ap (λ n. cond (eqb 10 y) 0 n) (omega arith)))
 
-no_feed : (l : List ℕ) → None ≡ position (λ b. eqb b 10) l → to_feed l ≡ nothing
+no_feed : (l : List ℕ) → None ≡ position (λ b. eqb b 10) l → to_feed l ≡ None
 unfolding to_feed
 no_feed l e =
     rw (feed_place l)
@@ -48,7 +48,7 @@ module _ (l key : List ℕ) (at : ℕ) where
   whole : take (length l - at) (drop at l) ≡ drop at l
   whole = take_all (length l - at) (drop at l) (omega (arith, length-drop at l))
 
-  pub key_missing : pointwise eqb (take (length key) (take (length l - at) (drop at l))) key ≡ false → bytes_line key (drop at l) ≡ nothing
+  pub key_missing : pointwise eqb (take (length key) (take (length l - at) (drop at l))) key ≡ false → bytes_line key (drop at l) ≡ None
   unfolding bytes_line
   key_missing e = rw (rw (whole, key_test key (drop at l)) at e)
 
@@ -57,7 +57,7 @@ module _ (l key : List ℕ) (at : ℕ) where
     unfolding bytes_line
     after_key = rw (rw (whole, key_test key (drop at l)) at key-is, is, whole)
 
-    pub feed_missing : None ≡ position (λ b. eqb b 10) rest → bytes_line key (drop at l) ≡ nothing
+    pub feed_missing : None ≡ position (λ b. eqb b 10) rest → bytes_line key (drop at l) ≡ None
     feed_missing e = after_key ∙ no_feed rest e
 
     pub line_there : (n : ℕ) → Some n ≡ position (λ b. eqb b 10) rest → PartReached l (at + length key) (bytes_line key (drop at l)) (at + length key) (at + length key + n)
@@ -100,12 +100,12 @@ module _ (most : ℕ) where
 
 -- a line's value, where the line was got, and where it was not
 module _ {A : Type 0} (read : List ℕ → Option A) (key rest : List ℕ) where
-  pub value_missing : bytes_line key rest ≡ nothing → value_line read key rest ≡ nothing
+  pub value_missing : bytes_line key rest ≡ None → value_line read key rest ≡ None
   unfolding value_line onward
   value_missing e = rw e
 
   module _ (l : List ℕ) (keyed from past : ℕ) (there : PartReached l keyed (bytes_line key rest) from past) where
-    pub value_broken : read (part from past l) ≡ None → value_line read key rest ≡ nothing
+    pub value_broken : read (part from past l) ≡ None → value_line read key rest ≡ None
     unfolding value_line onward
     value_broken e = rw (there.reached.is, e)
 

@@ -4,17 +4,19 @@ use Rattle.std.specs.Prelude.{Option, Some, None, Bool, true, false, cond, not, 
 use Rattle.base.specs.Lists.{every, begins, position_in}
 use Rattle.lines.specs.Writing.{ascii}
 
-pub data Got (A : Type 0) : Type 0 where
-  got : A → List ℕ → Got A
-  nothing : Got A
+abbrev pub Got : Type 0 → Type 0
+Got A = Option (A × List ℕ)
+
+abbrev pub got : {A : Type 0} → A → List ℕ → Got A
+got a rest = Some (a, rest)
 
 abbrev pub Reader : Type 0 → Type 0
 Reader A = List ℕ → Got A
 
 -- one reader and then another, from where the first left off
 unfoldable pub onward : {A B : Type 0} → Got A → (A → Reader B) → Got B
-onward (got a rest) f = f a rest
-onward nothing f = nothing
+onward (Some (a, rest)) f = f a rest
+onward None f = None
 
 infixl 20 ◌>>=◌
 abbrev pub ◌>>=◌ : {A B : Type 0} → Reader A → (A → Reader B) → Reader B
@@ -24,15 +26,15 @@ abbrev pub ◌>>=◌ : {A B : Type 0} → Reader A → (A → Reader B) → Read
 unfoldable pub to_feed : Reader (List ℕ)
 to_feed l =
     let at : ℕ = position_in 10 l in
-    cond (ltb at (length l)) (got (take at l) (drop (suc at) l)) nothing
+    cond (ltb at (length l)) (got (take at l) (drop (suc at) l)) None
 
 -- a line with this key, whose value may be any bytes
 unfoldable pub bytes_line : List ℕ → Reader (List ℕ)
-bytes_line key l = cond (begins key l) (to_feed (drop (length key) l)) nothing
+bytes_line key l = cond (begins key l) (to_feed (drop (length key) l)) None
 
 -- one with a value that is read by itself
 abbrev pub valued : {A : Type 0} → Option A → Reader A
-valued None l = nothing
+valued None l = None
 valued (Some a) l = got a l
 
 unfoldable pub value_line : {A : Type 0} → (List ℕ → Option A) → List ℕ → Reader A

@@ -3,7 +3,7 @@ use Rattle.std.specs.Prelude.{◌≡◌, Option, Some, None, List, ℕ, ◌+◌,
 use Rattle.std.specs.Fn.{Shared, FnReturnsAt}
 use Rattle.std.specs.Borrow.{Bor}
 use Rattle.std.specs.declared.ops.Range.{Range}
-use Rattle.lines.specs.Reads.{Got, got, nothing}
+use Rattle.lines.specs.Reads.{Got, got}
 
 -- the bytes from one place of the input to another
 abbrev pub part : ℕ → ℕ → List ℕ → List ℕ
@@ -22,11 +22,11 @@ pub record PartReached (input : List ℕ) (keyed : ℕ) (f : Got (List ℕ)) (fr
 
 abbrev pub SaysBytes : List ℕ → ℕ → Got (List ℕ) → Option (Range ℕ) → Type 0
 SaysBytes input keyed f (Some value) = PartReached input keyed f value.start value.end
-SaysBytes input keyed f None = f ≡ nothing
+SaysBytes input keyed f None = f ≡ None
 
 abbrev pub Says : {A : Type 0} → List ℕ → Got A → Option (A × ℕ) → Type 0
 Says input f (Some line) = Reached input f line.0 line.1
-Says input f None = f ≡ nothing
+Says input f None = f ≡ None
 
 -- a call of this closure on some bytes gives what is read of them
 abbrev pub ReadsBy : {F A : Type 0} → Shared F (Bor (List ℕ) × Unit {0}) (Option A) → F → (List ℕ → Option A) → Type 0
