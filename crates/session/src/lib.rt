@@ -73,6 +73,7 @@ pub fn type_byte(nodes: &[u32], session: &mut Session, byte: u8) -> Result<(), R
 }
 
 // The last letter of the session that is lent, rubbed out. Its places are 0 again, as behind any text.
+#[tactic(auto, unfolding(crate::specs::Strokes::rubbed_out, crate::specs::Strokes::shortened))]
 pub fn rub_out(session: &mut Session) -> Result<(), Refusal>
     ensures step { Struck (rubbed_out session.old) session.old session.new result }
     ensures promise { RubPromise session.old session.new result }

@@ -2,25 +2,12 @@
 use mathlib.Core.Path.{sym}
 use borrow.Author.Rules.{rules}
 use Rattle.session.specs.Strokes.{shortened}
-use Rattle.session.proofs.Steps.{rubbed_over, rubbed_none, rubbed_last, struck_by}
+use Rattle.session.proofs.Steps.{rubbed_over, rubbed_last}
 use Rattle.session.proofs.Promises.{rub_written}
 use Rattle.session.proofs.rub_out.Goals as goal
 
-pub returns-then-len-gt-NAME_MOST-clause-step : goal.returns-then-len-gt-NAME_MOST-clause-step
-returns-then-len-gt-NAME_MOST-clause-step c = struck_by _ _ _ (sym (rubbed_over _ (search rules)))
-
 pub returns-then-len-gt-NAME_MOST-clause-promise : goal.returns-then-len-gt-NAME_MOST-clause-promise
 returns-then-len-gt-NAME_MOST-clause-promise c = rub_written _ _ (sym (rubbed_over _ (search rules))) (search rules)
-
-pub returns-then-len-eq0-clause-step : goal.returns-then-len-eq0-clause-step
-returns-then-len-eq0-clause-step c = struck_by _ _ _ (sym (rubbed_none _ (search rules)))
-
-pub returns-then-len-eq0-clause-promise : goal.returns-then-len-eq0-clause-promise
-returns-then-len-eq0-clause-promise c = rub_written _ _ (sym (rubbed_none _ (search rules))) (search rules)
-
-pub returns-clause-step : goal.returns-clause-step
-unfolding shortened
-returns-clause-step c = struck_by _ _ _ (sym (rubbed_last _ (search rules) (search rules)))
 
 pub returns-clause-promise : goal.returns-clause-promise
 unfolding shortened
