@@ -59,9 +59,6 @@ module _ (c : StandColumns) (g : Grid) (q : Ranking) (order entries : List ℕ) 
         let cut_is : Keeps (listed_taken (cut c) g q order entries l) q.k held r = rw (norths, scores, nothing) at w in
         rw (le-leb (length c.east) (length c.north) long-north, le-leb (length c.east) (length c.score) long-score) (sym cut_is.is)
 
-    pub broken_words : (b : Broken) → r ≡ Err b → BestListed c g q order entries l rooms (ranked_came (Err NotLawful) found values)
-    broken_words b e = rw (taken, e)
-
     pub found_best : q.k ≤ length found → q.k ≤ length values → (u : Unit) (found' values' : List ℕ) → r ≡ Ok u → Written held found values found' values'
         → BestListed c g q order entries l rooms (ranked_came (Ok (length held)) found' values')
     found_best f v u found' values' e t = rw (taken, e) (held_come q.k held found values found' values' w.few f v t)

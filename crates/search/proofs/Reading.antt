@@ -1,13 +1,11 @@
 -- What it says that a stand can be read and an entry be used, both ways.
 -- Assumes nothing.
-use mathlib.Core.Path.{◌≡◌, sym}
-use mathlib.Core.Bool.{true, and-true}
+use mathlib.Core.Path.{◌≡◌}
+use mathlib.Core.Bool.{true}
 use mathlib.Core.List.{List}
 use Prim.Native.Nat.{ℕ, ◌≤◌, ◌<◌}
-use lib.Dec.{ltb}
 use lib.ListN.{length, get_or}
 use borrow.Author.Tests.{ltb-true, leb-true, lt-ltb, le-leb}
-use Rattle.base.specs.Lists.{every}
 use Rattle.base.proofs.Tests.{every-at, every_of}
 use Rattle.rules.specs.declared.Grid.{Grid}
 use Rattle.rules.specs.Places.{in_grid}
@@ -44,13 +42,6 @@ module _ (c : StandColumns) (g : Grid) (s : ℕ) where
       every_of _
       (lt-ltb _ _ f.small, (lt-ltb _ _ f.has_east, (lt-ltb _ _ f.has_north, (lt-ltb _ _ f.has_score, (le-leb _ _ f.scored, (f.inside, tt))))))
 
-  -- past the other tests the place decides
-  pub place_decides : s < 1024 → s < length c.east → s < length c.north → s < length c.score → get_or c.score s 0 ≤ 1000
-      → in_grid g (place_in c.east c.north s) ≡ readable_stand c g s
-  unfolding readable_stand every
-  place_decides a b d e f =
-      rw (lt-ltb _ _ a, lt-ltb _ _ b, lt-ltb _ _ d, lt-ltb _ _ e, le-leb _ _ f) (sym (and-true (in_grid g (place_in c.east c.north s))))
-
 -- ---- an entry
 
 pub record EntryFacts (order : List ℕ) (x : Entry) : Type 0 where
@@ -71,7 +62,3 @@ module _ (order : List ℕ) (x : Entry) where
   pub entry_usable : EntryFacts order x → usable order x ≡ true
   unfolding usable
   entry_usable f = every_of _ (le-leb _ _ f.scored, (lt-ltb _ _ f.some, (lt-ltb _ _ f.small, tt)))
-
-  pub first_decides : x.score ≤ 1000 → x.first.0 < x.past.0 → ltb (get_or order x.first.0 0) 1024 ≡ usable order x
-  unfolding usable every
-  first_decides a b = rw (le-leb _ _ a, lt-ltb _ _ b) (sym (and-true (ltb (get_or order x.first.0 0) 1024)))

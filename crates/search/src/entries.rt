@@ -15,6 +15,7 @@ use walk::listing::Listing;
 
 impl<'a> Search<'a> {
     // Whether an entry can be gone by: a score in its limits, some place, a first stand that a key has room for.
+    #[tactic(auto, unfolding(crate::specs::Searches::usable, base::specs::Lists::every), using(walk::proofs::Spelled::within_facts))]
     fn usable(&self, entry: Entry) -> bool
         requires { entry_within (length self.now.order.now) entry ≡ true }
         ensures { result ≡ usable self.now.order.now entry }

@@ -21,6 +21,7 @@ impl<'a> Search<'a> {
     }
 
     // Whether a stand can be reckoned with: a number that a key has room for, a place of the grid, a score in its limits.
+    #[tactic(auto, unfolding(crate::specs::Searches::readable_stand, base::specs::Lists::every))]
     fn readable(&self, s: usize) -> bool
         ensures { result ≡ readable_stand (columns_of self.now) self.now.grid s }
     {

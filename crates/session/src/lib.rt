@@ -73,6 +73,7 @@ pub fn with_letter(nodes: &[u32], session: Session, byte: u8) -> Result<Session,
 }
 
 // The last letter rubbed out, by value. Its places are 0 again, as behind any text.
+#[tactic(auto, unfolding(crate::specs::Strokes::rubbed_out, crate::specs::Strokes::shortened))]
 pub fn rubbed_out(session: Session) -> Result<Session, Refusal>
     ensures step { result ≡ rubbed_out session }
     ensures places { length session.text ≡ 24 }

@@ -2,7 +2,7 @@
 use borrow.Author.Rules.{rules}
 use mathlib.Core.Logic.{inl, inr}
 use Rattle.std.proofs.lemmas.Result.{err_from_is_err_and}
-use Rattle.search.proofs.Answering.{short_column, broken_words, found_best}
+use Rattle.search.proofs.Answering.{short_column, found_best}
 use Rattle.search.proofs.best_listed.Goals as goal
 
 pub returns-in_err-ok_or : goal.returns-in_err-ok_or
@@ -14,13 +14,6 @@ pub returns-in_err-ok_or-2 : goal.returns-in_err-ok_or-2
 returns-in_err-ok_or-2 c =
     let p = err_from_is_err_and c.from_residual-in_err-ok_or-2.result c.from_residual-in_err-ok_or-2.ensures.1 in
     rw (p.1, p.2) (short_column _ _ _ _ _ _ _ _ (inr (search rules)))
-
-pub returns-in_err-take_entries : goal.returns-in_err-take_entries
-returns-in_err-take_entries c =
-    let p = err_from_is_err_and c.from_residual-in_err-take_entries.result c.from_residual-in_err-take_entries.ensures.1 in
-    rw (p.1, p.2)
-    (broken_words _ _ _ _ _ _ _ _ (search rules) (search rules) c.in_ok-ok_or.field-0.now c.in_ok-ok_or-2.field-0.now _ _ _ (search rules) (search rules) c.none-held.ensures
-    c.take_entries.ensures _ c.in_err-take_entries.was)
 
 pub returns : goal.returns
 returns c =
