@@ -13,8 +13,8 @@ use Rattle.rules.specs.declared.Refusal.{Refusal}
 use Rattle.rules.specs.declared.Session.{Session}
 use Rattle.rules.specs.declared.Refusal.TheVariants.{NotLawful, TextByteNotAllowed, TextTooLong, NothingToRubOut}
 use Rattle.rules.specs.Names.{allowed}
-use Rattle.walk.specs.Walks.{broken, node, child_in}
-use Rattle.session.specs.Strokes.{lost, next_on, shortened, led_to, led_on, struck, arrived, typed_on, rubbed_out, reached}
+use Rattle.walk.specs.Walks.{node, child_in}
+use Rattle.session.specs.Strokes.{Stroke, Struck, verdict, stands, lost, next_on, shortened, led_to, led_on, struck, arrived, typed_on, rubbed_out, reached}
 
 -- ---- where the letters led, and where one more leads
 
@@ -37,10 +37,6 @@ module _ (letters last : ℕ) where
     next_child on = rw on
 
 module _ (s : Session) where
-  pub reached-over : 24 < s.len → reached s ≡ Err broken
-  unfolding reached
-  reached-over h = rw (lt-ltb 24 s.len h)
-
   module _ (h : s.len ≤ 24) where
     pub reached_nowhere : lost s.len (get_or s.path s.len 0) ≡ true → reached s ≡ Ok None
     unfolding reached
@@ -91,6 +87,11 @@ module _ (nodes : List ℕ) (s : Session) (b : ℕ) where
 
     pub typed_arrived : allowed b ≡ true → typed_on nodes s b ≡ arrived s b (next_on nodes s.len (get_or s.path s.len 0) b)
     typed_arrived h = sym (typed_on_lem _ (sym (led_on_lem nodes s.len _ b room h)))
+
+-- ---- what is seen of a stroke in the session lent
+
+pub struck_by : (s : Session) (r whole : Stroke) → r ≡ whole → Struck whole s (stands s r) (verdict r)
+struck_by s r whole e = record { verdict = ap verdict e; session = ap (stands s) e }
 
 -- ---- rubbing out
 

@@ -1,5 +1,5 @@
 -- A keystroke as the code makes it, on any words and any session; and where a session's letters came to.
-use Rattle.std.specs.Prelude.{Bool, Some, None, Result, Ok, Err, cond, not, ◌&&◌, List, ℕ, ◌+◌, ◌-◌, eqb, ltb, set, get_or}
+use Rattle.std.specs.Prelude.{◌≡◌, Bool, Some, None, Result, Ok, Err, cond, not, ◌&&◌, List, ℕ, ◌+◌, ◌-◌, eqb, ltb, set, get_or}
 use Rattle.rules.specs.declared.Session.{Session}
 use Rattle.rules.specs.declared.Refusal.{Refusal}
 use Rattle.rules.specs.declared.Refusal.TheVariants.{NotLawful, TextByteNotAllowed, TextTooLong, NothingToRubOut}
@@ -18,6 +18,11 @@ verdict (Err why) = Err why
 abbrev pub stands : Session → Stroke → Session
 stands s (Ok s') = s'
 stands s (Err why) = s
+
+-- of a lent session, before and after
+pub record Struck (r : Stroke) (s s' : Session) (v : Result Unit Refusal) : Type 0 where
+  pub verdict : v ≡ verdict r
+  pub session : s' ≡ stands s r
 
 -- a 0 past some letters says that they led nowhere
 unfoldable pub lost : ℕ → ℕ → Bool

@@ -1,12 +1,12 @@
-// Keystrokes: a letter typed or rubbed out, by value and on the one session record that a caller lends; and where its letters came to.
+// Keystrokes: a letter typed into the one session record that a caller lends, or rubbed out of it; and where its letters came to.
 // Nothing is asked of session and nodes: on any words a keystroke ends, reads nothing outside them, and a refused one alters nothing.
 #![tactic(auto)]
 
-ghost use Rattle.std.specs.Prelude.{◌≡◌, ◌≤◌, ◌<◌, IfOk, length};
+ghost use Rattle.std.specs.Prelude.{◌≡◌, ◌≤◌, ◌<◌, IfOk};
 ghost use Rattle.base.specs.Lent.{given};
 ghost use Rattle.rules.specs.Names.{folded};
 ghost use Rattle.session.specs.Promises.{TypePromise, RubPromise};
-ghost use Rattle.session.specs.Strokes.{lost, next_on, led_on, typed_on, rubbed_out, reached};
+ghost use Rattle.session.specs.Strokes.{Struck, lost, next_on, led_on, typed_on, rubbed_out, reached};
 
 use rules::{Broken, Node, Refusal, Session, Stand};
 use table::names::{allowed, folded};
@@ -53,10 +53,11 @@ fn leads(nodes: &[u32], letters: usize, last: Node, byte: u8) -> Result<u32, Ref
     }
 }
 
-// A letter typed, by value: one look among the children of the last letter's node, however long the text.
-pub fn with_letter(nodes: &[u32], session: Session, byte: u8) -> Result<Session, Refusal>
-    ensures step { result ≡ typed_on (given nodes) session (folded byte) }
-    ensures places { length session.text ≡ 24 }
+// A letter typed into the session that is lent: one look among the children of the last letter's node, however long the text.
+// A refusal leaves the session as it was. It is changed in place: handed back in a Result it would be copied once more.
+pub fn type_byte(nodes: &[u32], session: &mut Session, byte: u8) -> Result<(), Refusal>
+    ensures step { Struck (typed_on (given nodes) session.old (folded byte)) session.old session.new result }
+    ensures promise { TypePromise (given nodes) byte session.old session.new result }
 {
     let len = session.len as usize;
     if Stand::NAME_MOST < len {
@@ -65,18 +66,17 @@ pub fn with_letter(nodes: &[u32], session: Session, byte: u8) -> Result<Session,
     let letter = folded(byte);
     let last = Node(session.path[len]);
     let node = leads(nodes, len, last, letter)?;
-    let mut longer = session;
-    longer.text[len] = letter;
-    longer.path[len + 1] = node;
-    longer.len += 1;
-    Ok(longer)
+    session.text[len] = letter;
+    session.path[len + 1] = node;
+    session.len += 1;
+    Ok(())
 }
 
-// The last letter rubbed out, by value. Its places are 0 again, as behind any text.
+// The last letter of the session that is lent, rubbed out. Its places are 0 again, as behind any text.
 #[tactic(auto, unfolding(crate::specs::Strokes::rubbed_out, crate::specs::Strokes::shortened))]
-pub fn rubbed_out(session: Session) -> Result<Session, Refusal>
-    ensures step { result ≡ rubbed_out session }
-    ensures places { length session.text ≡ 24 }
+pub fn rub_out(session: &mut Session) -> Result<(), Refusal>
+    ensures step { Struck (rubbed_out session.old) session.old session.new result }
+    ensures promise { RubPromise session.old session.new result }
 {
     let len = session.len as usize;
     if Stand::NAME_MOST < len {
@@ -85,26 +85,9 @@ pub fn rubbed_out(session: Session) -> Result<Session, Refusal>
     if len == 0 {
         return Err(Refusal::NothingToRubOut);
     }
-    let mut shorter = session;
-    shorter.text[len - 1] = 0;
-    shorter.path[len] = 0;
-    shorter.len -= 1;
-    Ok(shorter)
-}
-
-// A letter typed into the session that is lent. A refusal leaves the session as it was.
-pub fn type_byte(nodes: &[u32], session: &mut Session, byte: u8) -> Result<(), Refusal>
-    ensures { TypePromise (given nodes) byte session.old session.new result }
-{
-    *session = with_letter(nodes, *session, byte)?;
-    Ok(())
-}
-
-// The last letter of the session that is lent, rubbed out.
-pub fn rub_out(session: &mut Session) -> Result<(), Refusal>
-    ensures { RubPromise session.old session.new result }
-{
-    *session = rubbed_out(*session)?;
+    session.text[len - 1] = 0;
+    session.path[len] = 0;
+    session.len -= 1;
     Ok(())
 }
 

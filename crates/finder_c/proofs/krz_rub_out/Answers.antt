@@ -2,4 +2,4 @@
 use Rattle.finder_c.proofs.krz_rub_out.Goals as goal
 
 pub returns : goal.returns
-returns c = record { answer = c.rub_out.result; promised = c.rub_out.ensures; same = c.number_of.ensures }
+returns c = record { answer = c.rub_out.result; promised = c.rub_out.ensures.promise; same = c.number_of.ensures }

@@ -2,4 +2,4 @@
 use Rattle.finder_c.proofs.krz_type.Goals as goal
 
 pub returns : goal.returns
-returns c = record { answer = c.type_byte.result; promised = c.type_byte.ensures; same = c.number_of.ensures }
+returns c = record { answer = c.type_byte.result; promised = c.type_byte.ensures.promise; same = c.number_of.ensures }

@@ -1,13 +1,14 @@
--- `session::rub_out` keeps its promise by the step by value: what that gives is written, or nothing is. Assumes nothing.
-use mathlib.Core.Path.{sym, ◌∙◌}
-use Rattle.std.proofs.lemmas.Result.{err_from_is_err_and}
+-- `session::rub_out` meets its contract: each return by the tests that lead there (proofs/Steps.antt). Assumes nothing.
+use mathlib.Core.Path.{sym}
+use borrow.Author.Rules.{rules}
+use Rattle.session.specs.Strokes.{shortened}
+use Rattle.session.proofs.Steps.{rubbed_over, rubbed_last}
 use Rattle.session.proofs.Promises.{rub_written}
 use Rattle.session.proofs.rub_out.Goals as goal
 
-pub returns-in_err-session : goal.returns-in_err-session
-returns-in_err-session c =
-    let p = err_from_is_err_and c.from_residual.result c.from_residual.ensures.1 in
-    rw (p.1, p.2) (rub_written _ _ (sym c.in_err-session.was ∙ c.rubbed_out.ensures.step) c.rubbed_out.ensures.places)
+pub returns-then-len-gt-NAME_MOST-clause-promise : goal.returns-then-len-gt-NAME_MOST-clause-promise
+returns-then-len-gt-NAME_MOST-clause-promise c = rub_written _ _ (sym (rubbed_over _ (search rules))) (search rules)
 
-pub returns : goal.returns
-returns c = rub_written _ _ (sym c.in_ok-session.was ∙ c.rubbed_out.ensures.step) c.rubbed_out.ensures.places
+pub returns-clause-promise : goal.returns-clause-promise
+unfolding shortened
+returns-clause-promise c = rub_written _ _ (sym (rubbed_last _ (search rules) (search rules))) (search rules)
