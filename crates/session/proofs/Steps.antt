@@ -13,7 +13,7 @@ use Rattle.rules.specs.declared.Refusal.{Refusal}
 use Rattle.rules.specs.declared.Session.{Session}
 use Rattle.rules.specs.declared.Refusal.TheVariants.{NotLawful, TextByteNotAllowed, TextTooLong, NothingToRubOut}
 use Rattle.rules.specs.Names.{allowed}
-use Rattle.walk.specs.Walks.{broken, node, child_in}
+use Rattle.walk.specs.Walks.{node, child_in}
 use Rattle.session.specs.Strokes.{Stroke, Struck, verdict, stands, lost, next_on, shortened, led_to, led_on, struck, arrived, typed_on, rubbed_out, reached}
 
 -- ---- where the letters led, and where one more leads
@@ -37,10 +37,6 @@ module _ (letters last : ℕ) where
     next_child on = rw on
 
 module _ (s : Session) where
-  pub reached-over : 24 < s.len → reached s ≡ Err broken
-  unfolding reached
-  reached-over h = rw (lt-ltb 24 s.len h)
-
   module _ (h : s.len ≤ 24) where
     pub reached_nowhere : lost s.len (get_or s.path s.len 0) ≡ true → reached s ≡ Ok None
     unfolding reached

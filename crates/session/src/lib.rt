@@ -54,7 +54,7 @@ fn leads(nodes: &[u32], letters: usize, last: Node, byte: u8) -> Result<u32, Ref
 }
 
 // A letter typed into the session that is lent: one look among the children of the last letter's node, however long the text.
-// A refusal leaves the session as it was.
+// A refusal leaves the session as it was. It is changed in place: handed back in a Result it would be copied once more.
 pub fn type_byte(nodes: &[u32], session: &mut Session, byte: u8) -> Result<(), Refusal>
     ensures step { Struck (typed_on (given nodes) session.old (folded byte)) session.old session.new result }
     ensures promise { TypePromise (given nodes) byte session.old session.new result }
