@@ -1,11 +1,12 @@
 -- What comes too late by the longer leg of its way comes too late by its length: it is passed over, and offering it changes nothing.
 -- Assumes nothing.
-use mathlib.Core.Path.{◌≡◌, ap}
+use mathlib.Core.Path.{◌≡◌, sym, ap}
 use mathlib.Core.Bool.{true}
 use mathlib.Core.List.{List}
-use Prim.Native.Nat.{ℕ, ◌≤◌}
+use Prim.Native.Nat.{ℕ, ◌≤◌, ◌<◌}
 use native.Mathlib.Omega.{arith}
-use lib.ListN.{length, get_or}
+use lib.ListN.{length, take, get_or}
+use Rattle.base.specs.Lists.{insert_by}
 use Rattle.rules.specs.declared.Grid.{Grid}
 use Rattle.rules.specs.declared.Ranking.{Ranking}
 use Rattle.rules.specs.declared.Hit.{Hit}
@@ -18,13 +19,14 @@ use Rattle.grid.specs.declared.worth.Way.{Way}
 use Rattle.grid.specs.Ways.{way_between, way_to_region, longer_leg, way_length, WayIn}
 use Rattle.grid.proofs.Values.{value_order}
 use Rattle.grid.proofs.Ways.{between_length, to_region_length, leg_most, between_in, to_region_in}
-use Rattle.best.specs.Keys.{key_of}
+use Rattle.best.specs.Keys.{key_of, larger}
+use Rattle.best.specs.Holds.{Falling}
 use Rattle.best.proofs.Keys.{key_most}
 use Rattle.search.specs.Asked.{Ready}
 use Rattle.search.specs.Searches.{StandColumns, Keyable, hit_at, hit_in, bound_hit, passed_over, readable_stand, MayTake}
 use Rattle.search.proofs.Asking.{asked-inside, keyable}
 use Rattle.search.proofs.Reading.{stand_facts, entry_facts}
-use Rattle.search.proofs.Keeping.{passed_below}
+use Rattle.search.proofs.Keeping.{passed_kept, passed_below}
 
 module _ (D : ℕ) (q : Ranking) (score : ℕ) (w : Way) (stand : ℕ) where
   -- by its leg a stand is worth no less
@@ -40,6 +42,11 @@ module _ (D : ℕ) (q : Ranking) (score : ℕ) (w : Way) (stand : ℕ) where
   pub late_passed : (k : ℕ) (held : List ℕ) → passed_over k held (key_of (hit_at D q score (longer_leg w) stand)) ≡ true
       → true ≡ passed_over k held (key_of (hit_at D q score (way_length w) stand))
   late_passed k held e = passed_below k (key_of (hit_at D q score (way_length w) stand)) held (key_of (hit_at D q score (longer_leg w) stand)) leg_key e
+
+  -- so that offering it changes nothing
+  pub late_offered : (k : ℕ) (held : List ℕ) → 0 < k → length held ≤ k → Falling held → passed_over k held (key_of (hit_at D q score (longer_leg w) stand)) ≡ true
+      → held ≡ take k (insert_by larger (key_of (hit_at D q score (way_length w) stand)) held)
+  late_offered k held some few falling e = passed_kept k (key_of (hit_at D q score (way_length w) stand)) held some few falling (sym (late_passed k held e))
 
 -- ---- hits at the end of their ways
 

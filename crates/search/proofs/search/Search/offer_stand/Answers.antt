@@ -4,9 +4,9 @@ use mathlib.Core.Path.{sym, ◌∙◌}
 use Rattle.grid.proofs.Ways.{short}
 use Rattle.search.proofs.Asking.{some_asked, few_asked}
 use Rattle.search.proofs.Reading.{stand_facts}
-use Rattle.search.proofs.Keeping.{last_decides, passed_kept}
+use Rattle.search.proofs.Keeping.{last_decides}
 use Rattle.search.proofs.Offering.{unreadable, seen}
-use Rattle.search.proofs.Legs.{late_passed, stand_inside, stand_keyable, stand_key}
+use Rattle.search.proofs.Legs.{late_offered, stand_inside, stand_keyable, stand_key}
 use Rattle.search.proofs.search.Search.offer_stand.Goals as goal
 
 pub returns-then-not-readable : goal.returns-then-not-readable
@@ -28,8 +28,8 @@ pub returns-then-late_by_leg : goal.returns-then-late_by_leg
 returns-then-late_by_leg c =
     let s = c.args.self.now in
     seen _ _ _ _ _ _ _ (sym c.if-not-readable.ensures) (stand_key _ _ _ _ s.ready _ (sym c.if-not-readable.ensures) _ (rw c.place_of.ensures at c.way_between-way.ensures))
-    (passed_kept _ _ _ (some_asked _ _ s.ready.asks) c.requires c.kth.ensures.falling
-    (sym (late_passed _ s.asked _ _ _ _ _ (sym (last_decides _ _ _ _ (sym c.kth.ensures.last ∙ c.in-Some.is)) ∙ sym c.late_by_leg.ensures ∙ c.if-late_by_leg.true))))
+    (late_offered _ s.asked _ _ _ _ _ (some_asked _ _ s.ready.asks) c.requires c.kth.ensures.falling
+    (sym (last_decides _ _ _ _ (sym c.kth.ensures.last ∙ c.in-Some.is)) ∙ sym c.late_by_leg.ensures ∙ c.if-late_by_leg.true))
 
 pub length-requires : goal.length-requires
 length-requires c =
