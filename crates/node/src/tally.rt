@@ -83,11 +83,9 @@ impl Work {
         for stand in first.0..past.0 {
             let slot = region_at(columns.region, Stand(stand));
             let known = (bits >> slot) % 2 == 1;
-            let (place, so_far) = if known {
-                (self.places[slot], self.best[slot])
-            } else {
-                (self.next[slot], 0)
-            };
+            let next = self.next[slot];
+            let seen = (self.places[slot], self.best[slot]);
+            let (place, so_far) = if known { seen } else { (next, 0) };
             self.places[slot] = place + 1;
             self.best[slot] = so_far.max(columns.score[stand as usize]);
             bits |= 1u64 << slot;

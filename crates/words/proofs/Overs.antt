@@ -91,6 +91,9 @@ module _ {room : List ℕ} {p : ℕ} {words rest : List ℕ} {q : ℕ} (f : From
   pub from_end : rest ≡ [] → true ≡ begins words (drop p room)
   from_end e = sym (f.is ∙ rw e)
 
+pub word_next : (w : List ℕ) (k : ℕ) → k < length w → Next (drop k w) (at w k ∷ []) (drop (k + 1) w)
+word_next w k h = record { is = rw (add-one k) (drop-cons w k 0 h) }
+
 -- ---- by the library's own words
 
 -- a part of a room that was written, and one that is compared

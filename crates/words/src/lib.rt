@@ -7,9 +7,9 @@ pub mod rooms;
 pub mod turn;
 
 ghost use Rattle.std.specs.Prelude.{◌≡◌, length};
-ghost use Rattle.node.specs.Columns.{columns_of, Grows, Placed, LawfulColumns};
-ghost use Rattle.node.specs.Visits.{visits_from, places_at};
-ghost use Rattle.words.specs.Words.{blank_work, rooms_of, rooms_in, CountAsks, Counted, WriteAsks, WroteAll, ComparesAll};
+ghost use Rattle.node.specs.Columns.{columns_of, Grows, LawfulColumns};
+ghost use Rattle.node.specs.Visits.{visits_from};
+ghost use Rattle.words.specs.Words.{rooms_of, rooms_in, CountAsks, Counted, WriteAsks, WroteAll, ComparesAll};
 
 use node::cursor::{root, step};
 use node::records::keeps;
@@ -52,12 +52,13 @@ pub fn count(columns: Columns) -> Sizes
     }
 }
 
-// What the first turn works in: nothing lies above the root.
-fn before_the_root(columns: Columns) -> Work
-    requires { Placed columns.region.now }
-    ensures { result ≡ blank_work (places_at columns.entry.region.now 0) }
+// All words of the nodes, the entries and the bit records, in rooms that have place for them.
+pub fn write(columns: Columns, all: u32, nodes: &mut [u32], entries: &mut [u32], bits: &mut [u32])
+    requires { WriteAsks (columns_of columns) all (rooms_of nodes.old entries.old bits.old) }
+    ensures { WroteAll (columns_of columns.entry) (rooms_of nodes.old entries.old bits.old) (rooms_of nodes.new entries.new bits.new) }
 {
-    Work {
+    // Stays: fixed memory: handed out by a function, the work would be on the stack twice, which then is 8,000 bytes deep and not 7,088.
+    let mut work = Work {
         next: places_of(columns.region),
         above: Above {
             numbers: [0u32; Session::PATH],
@@ -67,15 +68,7 @@ fn before_the_root(columns: Columns) -> Work
         places: [0u32; Grid::REGIONS],
         best: [0u32; Grid::REGIONS],
         ranked: [0u32; Grid::REGIONS],
-    }
-}
-
-// All words of the nodes, the entries and the bit records, in rooms that have place for them.
-pub fn write(columns: Columns, all: u32, nodes: &mut [u32], entries: &mut [u32], bits: &mut [u32])
-    requires { WriteAsks (columns_of columns) all (rooms_of nodes.old entries.old bits.old) }
-    ensures { WroteAll (columns_of columns.entry) (rooms_of nodes.old entries.old bits.old) (rooms_of nodes.new entries.new bits.new) }
-{
-    let mut work = before_the_root(columns);
+    };
     let mut cursor = root();
     while cursor.number.0 < all {
         cursor = write_node(columns, cursor, &mut work, nodes, entries, bits);
@@ -88,7 +81,17 @@ pub fn check(columns: Columns, index: Index) -> Option<Sizes>
     ensures { ComparesAll (columns_of columns.entry) (rooms_in index.entry) result }
 {
     let all = count_nodes(columns);
-    let mut work = before_the_root(columns);
+    let mut work = Work {
+        next: places_of(columns.region),
+        above: Above {
+            numbers: [0u32; Session::PATH],
+            records: [0u32; Session::PATH],
+            regions: [0u64; Session::PATH],
+        },
+        places: [0u32; Grid::REGIONS],
+        best: [0u32; Grid::REGIONS],
+        ranked: [0u32; Grid::REGIONS],
+    };
     let mut here = root();
     while here.number.0 < all {
         here = check_node(columns, here, &mut work, index)?;

@@ -8,8 +8,8 @@ pub loop-here-init : goal.loop-here-init
 loop-here-init c =
     let p = c.requires in
     let r = c.root-here.ensures in
-    let b = c.before_the_root-work.ensures in
-    checking (root-trail r b) r p c.count_nodes-all.ensures (carrying p r c.count_nodes-all.ensures b)
+    let places = c.places_of.ensures in
+    checking (root-trail c.places_of.result r) r p c.count_nodes-all.ensures (carrying p r c.count_nodes-all.ensures places)
 
 pub returns-in_err-here : goal.returns-in_err-here
 returns-in_err-here c = rw c.from_residual.ensures (checking_not c.loop-here.invariant c.loop-here-test.true (c.check_node.ensures.different c.in_err-here.was))

@@ -7,8 +7,8 @@ pub loop-cursor-init : goal.loop-cursor-init
 loop-cursor-init c =
     let p = c.requires in
     let r = c.root-cursor.ensures in
-    let b = c.before_the_root-work.ensures in
-    writing (root-trail r b) r p (carrying p.lawful r p.count b)
+    let places = c.places_of.ensures in
+    writing (root-trail c.places_of.result r) r p (carrying p.lawful r p.count places)
 
 pub write_node-cursor-requires : goal.write_node-cursor-requires
 write_node-cursor-requires c =

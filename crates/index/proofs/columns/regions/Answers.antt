@@ -3,15 +3,14 @@
 use Prim.Native.Nat.{ℕ}
 use native.Mathlib.Omega.{arith}
 use mathlib.Core.Path.{◌≡◌, ◌∙◌}
-use mathlib.Core.Bool.{Bool}
 use lib.IntN.{ℤ, pos}
 use lib.ListN.{get_or}
 use Rattle.base.proofs.Machine.{both_arrive}
-use Rattle.rules.specs.Places.{in_grid, region_of}
+use Rattle.rules.specs.Places.{region_of}
 use Rattle.rules.specs.Tables.{place_in}
 use Rattle.rules.proofs.Places.{region_less}
 use Rattle.index.specs.Columns.{region_in}
-use Rattle.words.proofs.Filling.{front_more, front_end}
+use Rattle.words.proofs.Filling.{front_more}
 use borrow.Author.Rules.{rules}
 use Rattle.index.proofs.columns.regions.Goals as goal
 
@@ -24,14 +23,6 @@ told c =
     let region : ℤ → ℤ → ℕ = λ e n. region_of a.grid (record { east = e; north = n }) in
     c.region_of.ensures ∙ both_arrive region (get_or a.table.east.now i (pos 0)) (get_or a.table.north.now i (pos 0)) (search rules) (search rules)
 
-pub region_of-requires : goal.region_of-requires
-region_of-requires c =
-    let a = c.args in
-    let p = c.requires in
-    let i = c.loop-stand.stand in
-    let inside : ℤ → ℤ → Bool = λ e n. in_grid a.grid (record { east = e; north = n }) in
-    (p.lawful, both_arrive inside (get_or a.table.east.now i (pos 0)) (get_or a.table.north.now i (pos 0)) (search rules) (search rules) ∙ p.inside i c.loop-stand-test.true)
-
 pub overflow_cast-column : goal.overflow_cast-column
 overflow_cast-column c =
     let a = c.args in
@@ -41,6 +32,3 @@ overflow_cast-column c =
 
 pub loop-stand-preserved : goal.loop-stand-preserved
 loop-stand-preserved c = front_more c.loop-stand.invariant c.loop-stand-test.true (told c)
-
-pub returns : goal.returns
-returns c = front_end c.loop-stand.invariant c.loop-stand-test.false

@@ -12,6 +12,3 @@ told c = c.shared.ensures ∙ ap₂ shared_length c.name_of-before.ensures c.nam
 
 pub overflow_cast-result : goal.overflow_cast-result
 overflow_cast-result c = let s = c.requires in omega (arith, told c, shared_short _ _ _ _ s.0 s.1)
-
-pub returns : goal.returns
-returns c = told c
