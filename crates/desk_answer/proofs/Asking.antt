@@ -78,10 +78,6 @@ module _ (t : Table) (g : Grid) (p : List ℕ) (q : Ranking) where
     unfolding hits
     found_long = ap length b.stands ∙ length-each (λ (h : Hit). h.stand) hits
 
-    pub each_valued : length (take n values) ≡ length (take n found)
-    unfolding hits
-    each_valued = ap length b.worths ∙ length-each (λ (h : Hit). h.value) hits ∙ sym found_long
-
     -- a place of the two rooms
     stand_at : (i : ℕ) → i < length hits → get_or (take n found) i 0 ≡ (get_or hits i no_hit).stand
     unfolding hits

@@ -8,11 +8,9 @@ use lib.ListN.{length, take, drop, length-append, length-take}
 use lib.Seq.{take-append_seam, drop-append_seam}
 use Rattle.base.specs.Lists.{each, each_list}
 use Rattle.base.proofs.Members.{length-each}
-use Rattle.std.specs.Prelude.{Some, None, Ok, Err}
-use Rattle.rules.specs.declared.Refusal.{Refusal}
+use Rattle.std.specs.Prelude.{Some, None, Ok}
 use Rattle.rules.specs.Names.{folded_text}
 use Rattle.rules.specs.Tables.{Table}
-use Rattle.rules.proofs.Numbers.{refusal_some}
 use Rattle.lines.specs.Writing.{ascii, signed_of, decimal_of, line}
 use Rattle.lines.specs.Puts.{Puts}
 use Rattle.lines.specs.Says.{part}
@@ -22,7 +20,7 @@ use Rattle.desk_form.specs.Form.{StandLines, Input, grid_text, stand_text, quest
 use Rattle.desk_form.specs.Columns.{joined_names, starts_from, table_from, fronts, laid_over, laid_table, text_at}
 use Rattle.desk_form.specs.Answers.{ReadingTold, reading_numbers, reading_of, ReadsInput}
 use Rattle.desk_form.specs.Reads.{read_input}
-use Rattle.desk_form.specs.Printed.{printed_refusal, reply_to, output_of, Prints}
+use Rattle.desk_form.specs.Printed.{reply_to, output_of, Prints}
 use Rattle.desk_form.specs.declared.Reading.{Reading}
 use Rattle.desk_form.proofs.Inputs.{input_back, input_sound}
 use Rattle.desk_form.proofs.Layouts.{length_starts, same_table}
@@ -109,14 +107,6 @@ module _ (input : List ℕ) (rooms after : Table) {bytes out out' : List ℕ} {r
       let long : length (take r out') ≡ length bytes = ap length p.front in
       let e : r ≡ length (take r out') = omega (arith, p.next) in
       record { counts = (omega (arith, length-take r out'), e); prints = rw p.front prints; rest = p.rest }
-
-  pub refused_14 : (why : Refusal) → ReadsInput input rooms (Err why) after → bytes ≡ printed_refusal 14 → AnswersInput input out out' r
-  refused_14 why reads is =
-      answers
-      (record {
-        of_form = λ s h t. absurd (refusal_some why (ap (λ (a : ReadingTold). a.refusal) (reads.of_form s h t).0));
-        other = λ none. is;
-      })
 
   pub replied : (a : Reading) → ReadsInput input rooms (Ok a) after
       → bytes ≡ reply_to (fronts a.bytes a.stands after) a.grid (folded_text (part a.from a.past input)) a.ranking → AnswersInput input out out' r

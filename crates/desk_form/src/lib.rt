@@ -22,6 +22,7 @@ pub struct Reading {
     pub stands: usize,
     pub bytes: usize,
     pub grid: Grid,
+    // Stays: two places, and no Range, since ReadsInput tells both and a reading may be copied.
     pub from: usize,
     pub past: usize,
     pub ranking: Ranking,
