@@ -12,23 +12,29 @@ ghost use Rattle.any.specs.Promises.{AnyFrom};
 mod first;
 
 use first::first_in;
-use rules::{Grid, Rect, Refusal, Set, Stand};
+use rules::{Grid, Index, Rect, Refusal, Set, Stand, Table};
 use runs::notes::EntryNumbers;
 use runs::{Runs, agree, touched_regions};
 use table::text::text_verdict;
 use walk::listing::{Listed, listing_of};
 
 // The question from a text's listing; the text itself is no more needed.
+#[inline]
 pub fn any_from(set: Set, at: Listed, rect: Rect) -> Result<Option<Stand>, Refusal>
     ensures { AnyFrom (lent_table set.entry.table) set.entry.grid (lent_index set.entry.index) at rect (any_numbers result) }
 {
+    let Table { east, north, .. } = set.table;
+    let Index { order, entries, .. } = set.index;
     let mut numbers: EntryNumbers = [0; Grid::REGIONS];
-    let Some(touched) = touched_regions(set, at, rect, &mut numbers)? else {
+    let Some(touched) = touched_regions(set.grid, entries, at, rect, &mut numbers)? else {
         return Ok(None);
     };
-    agree(set)?;
+    agree(east, north, order)?;
     let runs = Runs {
-        set,
+        east,
+        north,
+        order,
+        entries,
         touched,
         numbers: &numbers,
     };

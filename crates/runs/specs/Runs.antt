@@ -5,13 +5,13 @@ use Rattle.runs.specs.declared.Runs.{Runs}
 use Rattle.runs.specs.Sights.{Noted, noted_in, touched_stands}
 
 abbrev pub easts : Runs → List ℤ
-easts r = r.set.table.east.now
+easts r = r.east.now
 
 abbrev pub norths : Runs → List ℤ
-norths r = r.set.table.north.now
+norths r = r.north.now
 
 abbrev pub noted : Runs → Noted
-noted r = noted_in (easts r) r.set.index.order.now r.set.index.entries.now r.touched.first r.numbers.now
+noted r = noted_in (easts r) r.order.now r.entries.now r.touched.first r.numbers.now
 
 -- the stands that there are to look at
 abbrev pub stands_there : Runs → List ℕ

@@ -4,6 +4,7 @@
 #![tactic(auto)]
 
 ghost use Rattle.std.specs.Prelude.{◌≡◌};
+ghost use Rattle.base.specs.Lent.{given};
 ghost use Rattle.runs.specs.Notes.{blank};
 ghost use Rattle.runs.specs.Sights.{noted_in, Ready, agreed, look_by, listed_look, look_at};
 
@@ -12,32 +13,35 @@ pub mod sight;
 
 use grid::cells::cells_of;
 use notes::{EntryNumbers, note};
-use rules::{Broken, Rect, Refusal, Set, Stand};
+use rules::{Broken, Grid, Rect, Refusal, Stand};
 use walk::listing::{Listed, Listing};
 
-// The runs of the regions that a rectangle touches, where `agree` does not refuse the set.
+// The runs of the regions that a rectangle touches, where `agree` does not refuse the set. Only what a scan of them reads is handed on.
 #[derive(Clone, Copy)]
 pub struct Runs<'a> {
-    pub set: Set<'a>,
+    pub east: &'a [i32],
+    pub north: &'a [i32],
+    pub order: &'a [u32],
+    pub entries: &'a [u32],
     // The regions, and the number of the first entry of the text's listing.
     pub touched: Listing,
     pub numbers: &'a EntryNumbers,
-    ghost ready: { Ready set.table.east.now set.table.north.now (noted_in set.table.east.now set.index.order.now set.index.entries.now touched.first numbers.now) },
+    ghost ready: { Ready east.now north.now (noted_in east.now order.now entries.now touched.first numbers.now) },
 }
 
 // Whether there is a place for each stand, and a place in the order.
 #[tactic(auto, unfolding(crate::specs::Sights::agree, base::specs::Lists::every))]
-pub fn agree(set: Set) -> Result<(), Broken>
-    ensures { result ≡ agreed set.entry.table.east.now set.entry.table.north.now set.entry.index.order.now }
+pub fn agree(east: &[i32], north: &[i32], order: &[u32]) -> Result<(), Broken>
+    ensures { result ≡ agreed (given east) (given north) (given order) }
 {
-    let stands = set.table.east.len();
+    let stands = east.len();
     if Stand::MOST < stands {
         return Err(Broken);
     }
-    if set.table.north.len() < stands {
+    if north.len() < stands {
         return Err(Broken);
     }
-    if set.index.order.len() < stands {
+    if order.len() < stands {
         return Err(Broken);
     }
     Ok(())
@@ -47,41 +51,43 @@ pub fn agree(set: Set) -> Result<(), Broken>
 // none of them no entry is read.
 #[tactic(auto, unfolding(crate::specs::Sights::listed_look))]
 fn touched_of(
-    set: Set,
+    grid: Grid,
+    entries: &[u32],
     listing: Listing,
     rect: Rect,
     numbers: &mut EntryNumbers,
 ) -> Result<Option<Listing>, Refusal>
     requires { numbers.old ≡ blank }
-    ensures { look_by result numbers.new ≡ listed_look set.entry.grid set.entry.index.entries.now listing.regions listing.first rect }
+    ensures { look_by result numbers.new ≡ listed_look grid (given entries) listing.regions listing.first rect }
 {
-    if !grid::lawful(set.grid) {
+    if !grid::lawful(grid) {
         return Err(Refusal::NotLawful);
     }
-    let regions = listing.regions.both(cells_of(set.grid, rect));
+    let regions = listing.regions.both(cells_of(grid, rect));
     if regions.is_empty() {
         return Ok(None);
     }
     let first = listing.first;
-    note(set.index.entries, first, listing.regions.count(), numbers)?;
+    note(entries, first, listing.regions.count(), numbers)?;
     Ok(Some(Listing { regions, first }))
 }
 
 // The regions of a text's listing that a rectangle touches.
 pub fn touched_regions(
-    set: Set,
+    grid: Grid,
+    entries: &[u32],
     at: Listed,
     rect: Rect,
     numbers: &mut EntryNumbers,
 ) -> Result<Option<Listing>, Refusal>
     requires { numbers.old ≡ blank }
-    ensures { look_by result numbers.new ≡ look_at set.entry.grid set.entry.index.entries.now at rect }
+    ensures { look_by result numbers.new ≡ look_at grid (given entries) at rect }
 {
     if !grid::rect_lawful(rect) {
         return Err(Refusal::RectReversed);
     }
     match at? {
-        Some(listing) => touched_of(set, listing, rect, numbers),
+        Some(listing) => touched_of(grid, entries, listing, rect, numbers),
         None => Ok(None),
     }
 }

@@ -13,12 +13,12 @@ impl<'a> Runs<'a> {
         requires { region < 64 }
         ensures { run_seen (noted self.entry) result ≡ run_of (noted self.entry) region }
     {
-        let order = self.set.index.order;
+        let order = self.order;
         let number = self.numbers[region as usize] as usize;
         let entry = entry_at(
-            self.set.index.entries,
+            self.entries,
             self.touched.first as usize + number,
-            self.set.table.east.len(),
+            self.east.len(),
         )?;
         let past = entry.past.0 as usize;
         let first = (entry.first.0 as usize).min(past);
@@ -31,12 +31,12 @@ impl<'a> Runs<'a> {
         ensures { result ≡ sighted (easts self.entry) (norths self.entry) stand.0 }
     {
         let s = stand.0 as usize;
-        if self.set.table.east.len() <= s {
+        if self.east.len() <= s {
             return Err(Broken);
         }
         Ok(Place {
-            east: self.set.table.east[s],
-            north: self.set.table.north[s],
+            east: self.east[s],
+            north: self.north[s],
         })
     }
 }

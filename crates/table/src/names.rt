@@ -21,7 +21,11 @@ pub struct Span {
 pub fn allowed(b: u8) -> bool
     ensures { result ≡ allowed b }
 {
-    matches!(b, b'a'..=b'z' | b'0'..=b'9' | b' ')
+    match b {
+        b'a'..=b'z' => true,
+        b'0'..=b'9' | b' ' => true,
+        _ => false,
+    }
 }
 
 // A typed byte as it is read: a capital as its small letter.
