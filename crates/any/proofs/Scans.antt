@@ -2,25 +2,21 @@
 use mathlib.Core.Path.{◌≡◌, refl, sym, ap, ◌∙◌}
 use mathlib.Core.Bool.{true, false, not}
 use mathlib.Core.List.{List, [], ◌∷◌, ◌++◌}
-use Prim.Native.Nat.{ℕ, ◌+◌, ◌≤◌, ◌<◌}
+use Prim.Native.Nat.{ℕ}
 use native.Mathlib.Omega.{arith}
-use native.Mathlib.Numerals.{add-one}
 use lib.Dec.{ltb}
 use lib.IntN.{ℤ}
-use lib.ListN.{length, get_or, drop, drop_of_length-le}
-use lib.Seq.{drop-cons}
+use lib.ListN.{length, drop}
 use borrow.Table.Steps.{cases}
 use Rattle.std.specs.Prelude.{Option, Some, None, Result, Ok, Err}
 use Rattle.std.specs.Borrow.{Bor}
 use Rattle.base.specs.Lists.{is_empty, first_of}
 use Rattle.base.proofs.Members.{empty_of}
 use Rattle.rules.specs.declared.Broken.{Broken}
-use Rattle.rules.specs.declared.Place.{Place}
 use Rattle.rules.specs.declared.Rect.{Rect}
 use Rattle.rules.specs.declared.Refusal.{Refusal}
 use Rattle.rules.specs.declared.Refusal.TheVariants.{NotLawful}
 use Rattle.rules.specs.declared.Stand.{Stand}
-use Rattle.rules.specs.Places.{in_rect}
 use Rattle.runs.specs.Sights.{inside, sighted, Noted, run_seen, run_of, touched_stands, Ready}
 use Rattle.runs.proofs.Sights.{is_unknown}
 use Rattle.runs.proofs.Walks.{run_and_later}
@@ -29,30 +25,6 @@ use Rattle.any.specs.Scans.{first_seen}
 module _ (east north : List ℤ) (rect : Rect) where
   abbrev scan : List ℕ → Result (Option Stand) Refusal
   scan seen = first_seen east north rect seen
-
-  -- ---- at place i of a run: what is left comes to what all of it does
-
-  module _ (run : List ℕ) (i : ℕ) (left : scan run ≡ scan (drop i run)) where
-    module _ (l : i < length run) (seen : Result Place Broken) (is : seen ≡ sighted east north (get_or run i 0)) where
-      turn : scan run ≡ scan (get_or run i 0 ∷ drop (i + 1) run)
-      turn = left ∙ ap scan (drop-cons run i 0 l ∙ rw (add-one i))
-
-      pub scan_breaks : (b : Broken) → seen ≡ Err b → Err NotLawful ≡ scan run
-      unfolding first_seen
-      scan_breaks b e = sym (turn ∙ rw (← is, e))
-
-      module _ (p : Place) (at : seen ≡ Ok p) where
-        pub scan_hits : in_rect rect p ≡ true → Ok (Some (record { 0 = get_or run i 0 })) ≡ scan run
-        unfolding first_seen
-        scan_hits e = sym (turn ∙ rw (← is, at, e))
-
-        pub scan_misses : in_rect rect p ≡ false → scan run ≡ scan (drop (i + 1) run)
-        unfolding first_seen
-        scan_misses e = turn ∙ rw (← is, at, e)
-
-    pub run_ends : length run ≤ i → Ok None ≡ scan run
-    unfolding first_seen
-    run_ends h = sym (left ∙ rw (drop_of_length-le run {i = i} h))
 
   -- ---- one list after another
 

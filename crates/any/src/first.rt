@@ -9,7 +9,7 @@ use rules::{Rect, Refusal, Stand};
 use runs::Runs;
 
 // The first of a run, if any of it is in the rectangle.
-#[tactic(auto, using(crate::proofs::Scans::scan_hits))]
+#[tactic(auto, unfolding(crate::specs::Scans::first_seen))]
 fn first_of_run(runs: Runs, run: &[u32], rect: Rect) -> Result<Option<Stand>, Refusal>
     ensures { result ≡ first_seen (easts runs.entry) (norths runs.entry) rect (given run) }
 {

@@ -16,7 +16,6 @@ use Rattle.base.proofs.Tests.{never, and_parts}
 use Rattle.rules.specs.declared.Broken.{Broken}
 use Rattle.rules.specs.declared.Place.{Place}
 use Rattle.rules.specs.declared.Rect.{Rect}
-use Rattle.rules.specs.Places.{in_rect}
 use Rattle.walk.specs.Walks.{broken}
 use Rattle.runs.specs.Sights.{inside, sighted, known}
 use Rattle.range.specs.Fetches.{Gathered, tallied, gathered}
@@ -30,19 +29,10 @@ sets_written words room h =
 module _ (east north : List ℤ) (rect : Rect) where
   -- ---- one stand
 
-  module _ (s : ℕ) (l room : List ℕ) (n : ℕ) (seen : Result Place Broken) (is : seen ≡ sighted east north s) where
-    pub stand_off : (b : Broken) → seen ≡ Err b → gathered east north rect room n (s ∷ l) ≡ tallied (Err b) room
-    unfolding gathered
-    stand_off b e = rw (← is, e)
-
-    module _ (p : Place) (at : seen ≡ Ok p) where
-      pub stand-in : in_rect rect p ≡ true → gathered east north rect room n (s ∷ l) ≡ gathered east north rect (set room n s) (suc n) l
-      unfolding gathered
-      stand-in e = rw (← is, at, e)
-
-      pub stand_out : in_rect rect p ≡ false → gathered east north rect room n (s ∷ l) ≡ gathered east north rect room n l
-      unfolding gathered
-      stand_out e = rw (← is, at, e)
+  pub stand_off : (s : ℕ) (l room : List ℕ) (n : ℕ) (seen : Result Place Broken) → seen ≡ sighted east north s → (b : Broken) → seen ≡ Err b
+      → gathered east north rect room n (s ∷ l) ≡ tallied (Err b) room
+  unfolding gathered
+  stand_off s l room n seen is b e = rw (← is, e)
 
   -- ---- one list after another
 

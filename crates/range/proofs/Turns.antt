@@ -1,27 +1,23 @@
 -- One turn of each loop, by what is left to do. Assumes nothing.
 use mathlib.Core.Path.{◌≡◌, refl, sym, ap, ◌∙◌}
 use mathlib.Core.Bool.{true, false, not}
-use mathlib.Core.List.{List, ◌∷◌, ◌++◌}
+use mathlib.Core.List.{List, ◌++◌}
 use Prim.Native.Nat.{ℕ, ◌+◌, ◌*◌, ◌≤◌, ◌<◌}
 use native.Mathlib.Omega.{arith}
-use native.Mathlib.Numerals.{add-one}
 use lib.IntN.{ℤ}
-use lib.ListN.{length, get_or, set, drop, drop_of_length-le}
-use lib.Seq.{drop-cons}
+use lib.ListN.{length, drop}
 use Rattle.std.specs.Prelude.{Result, Ok, Err}
 use Rattle.std.specs.Borrow.{Bor}
 use Rattle.base.specs.Lists.{is_empty, first_of}
 use Rattle.base.proofs.Members.{first_rest, empty_of, length-keep}
 use Rattle.rules.specs.declared.Broken.{Broken}
-use Rattle.rules.specs.declared.Place.{Place}
 use Rattle.rules.specs.declared.Rect.{Rect}
-use Rattle.rules.specs.Places.{in_rect}
 use Rattle.walk.specs.Walks.{broken}
-use Rattle.runs.specs.Sights.{inside, sighted, Noted, run_seen, run_of, touched_stands, Ready}
+use Rattle.runs.specs.Sights.{inside, Noted, run_seen, run_of, touched_stands, Ready}
 use Rattle.runs.proofs.Sights.{is_unknown}
 use Rattle.runs.proofs.Walks.{run-short, run_and_later}
 use Rattle.range.specs.Fetches.{Gathered, tallied, gathered}
-use Rattle.range.proofs.Gathers.{stand_off, stand-in, stand_out, walk_from, walk_counts}
+use Rattle.range.proofs.Gathers.{stand_off, walk_from, walk_counts}
 
 -- ---- gather_run: at place i of a run, with n found
 
@@ -29,40 +25,6 @@ pub record Gathering (east north : List ℤ) (rect : Rect) (found₀ : List ℕ)
   pub room : before + length run < 4294967296
   pub few : n ≤ before + i
   pub same : gathered east north rect found₀ before run ≡ gathered east north rect found n (drop i run)
-
-module _ (east north : List ℤ) (rect : Rect) (found₀ : List ℕ) (before : ℕ) (run : List ℕ) where
-  pub run_begins : before + length run < 4294967296 → Gathering east north rect found₀ before run found₀ 0 before
-  run_begins h = record { room = h; few = omega arith; same = refl }
-
-  module _ (found : List ℕ) (i n : ℕ) (w : Gathering east north rect found₀ before run found i n) where
-    module _ (l : i < length run) (seen : Result Place Broken) (is : seen ≡ sighted east north (get_or run i 0)) where
-      here : drop i run ≡ get_or run i 0 ∷ drop (i + 1) run
-      here = drop-cons run i 0 l ∙ rw (add-one i)
-
-      pub run_breaks : (b : Broken) → seen ≡ Err b → tallied (Err b) found ≡ gathered east north rect found₀ before run
-      run_breaks b e = sym (w.same ∙ ap (gathered east north rect found n) here ∙ stand_off east north rect (get_or run i 0) (drop (i + 1) run) found n seen is b e)
-
-      -- one place on, with what is found by then
-      module _ (p : Place) (at : seen ≡ Ok p) (found' : List ℕ) (n' : ℕ) where
-        pub run-hit : in_rect rect p ≡ true → found' ≡ set found n (get_or run i 0) → n' ≡ n + 1 → Gathering east north rect found₀ before run found' (i + 1) n'
-        run-hit q f m =
-            rw (f, m) (record {
-              room = w.room;
-              few = omega (arith, w.few);
-              same = w.same ∙ ap (gathered east north rect found n) here ∙ stand-in east north rect (get_or run i 0) (drop (i + 1) run) found n seen is p at q ∙ rw (add-one n);
-            })
-
-        pub run_miss : in_rect rect p ≡ false → found' ≡ found → n' ≡ n → Gathering east north rect found₀ before run found' (i + 1) n'
-        run_miss q f m =
-            rw (f, m) (record {
-              room = w.room;
-              few = omega (arith, w.few);
-              same = w.same ∙ ap (gathered east north rect found n) here ∙ stand_out east north rect (get_or run i 0) (drop (i + 1) run) found n seen is p at q;
-            })
-
-    pub run_ends : length run ≤ i → tallied (Ok n) found ≡ gathered east north rect found₀ before run
-    unfolding gathered
-    run_ends h = sym (w.same ∙ rw (drop_of_length-le run {i = i} h))
 
 -- ---- gather: before the regions that are left, with n found
 

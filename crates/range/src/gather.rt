@@ -21,6 +21,7 @@ fn put(found: &mut [u32], at: u32, stand: Stand)
 }
 
 // The stands of one run, behind as many as were found before. How many are found by then is answered.
+#[tactic(auto, unfolding(crate::specs::Fetches::gathered))]
 fn gather_run(
     runs: Runs,
     run: &[u32],

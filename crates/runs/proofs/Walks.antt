@@ -57,10 +57,5 @@ short_by n r east north ready (Err e) read = omega arith
 pub run-short : (n : Noted) (r : ℕ) (east north : List ℤ) → Ready east north n → length (run_of n r) ≤ 1024
 run-short n r east north ready = short_by n r east north ready (entry_noted n r) refl
 
-module _ (left : List ℕ) (some : is_empty left ≡ false) where
-  pub run_and_later : (n : Noted) (r : ℕ) → r ≡ first_of left → touched_stands n left ≡ run_of n r ++ touched_stands n (drop 1 left)
-  run_and_later n r least = rw least (ap (touched_stands n) (first_rest left some).0)
-
-  -- those that are left once it is done are fewer
-  pub fewer : (later : List ℕ) → later ≡ drop 1 left → length later < length left
-  fewer later e = omega (arith, ap length e, ap length (first_rest left some).0)
+pub run_and_later : (left : List ℕ) → is_empty left ≡ false → (n : Noted) (r : ℕ) → r ≡ first_of left → touched_stands n left ≡ run_of n r ++ touched_stands n (drop 1 left)
+run_and_later left some n r least = rw least (ap (touched_stands n) (first_rest left some).0)

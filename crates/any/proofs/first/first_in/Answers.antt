@@ -7,7 +7,6 @@ use Rattle.base.proofs.Tests.{holds}
 use Rattle.base.proofs.Members.{first_rest}
 use Rattle.grid.specs.Cells.{regions_in}
 use Rattle.grid.proofs.Listed.{listed_less}
-use Rattle.runs.proofs.Walks.{fewer}
 use Rattle.any.proofs.Scans.{scan_unread, scan_refused, scan_found, scan_on, scan_ends}
 use borrow.Author.Rules.{rules}
 use Rattle.any.proofs.first.first_in.Goals as goal
@@ -34,9 +33,6 @@ returns-in-Some c =
 pub loop-rect-preserved : goal.loop-rect-preserved
 loop-rect-preserved c =
     scan_on _ _ _ _ _ _ c.loop-rect.invariant (sym c.is_empty.ensures ∙ c.loop-rect-test.true) _ c.least.ensures _ c.run_of.ensures _ c.in_ok-run.was _ c.first_of_run.ensures _ (c.in_ok-first.was ∙ ap Ok c.in_default.is) c.but_least-left.ensures
-
-pub loop-rect-smaller : goal.loop-rect-smaller
-loop-rect-smaller c = fewer _ (sym c.is_empty.ensures ∙ c.loop-rect-test.true) _ c.but_least-left.ensures
 
 pub returns : goal.returns
 returns c = search (rules, scan_ends, holds)

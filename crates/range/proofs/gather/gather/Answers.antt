@@ -6,7 +6,6 @@ use Rattle.base.proofs.Tests.{holds}
 use Rattle.base.proofs.Members.{first_rest}
 use Rattle.grid.specs.Cells.{regions_in}
 use Rattle.grid.proofs.Listed.{listed_less, listed_few}
-use Rattle.runs.proofs.Walks.{fewer}
 use Rattle.range.proofs.Turns.{sweep_begins, sweep_unread, sweep_room, sweep_on, sweep_breaks, sweep_ends}
 use borrow.Author.Rules.{rules}
 use Rattle.range.proofs.gather.gather.Goals as goal
@@ -33,9 +32,6 @@ returns-in_err-n c =
     let p = err_from_is_err_and c.from_residual-in_err-n.result c.from_residual-in_err-n.ensures.1 in
     rw p.1 (sweep_breaks _ _ _ _ _ _ c.args.runs.ready _ _ _ c.loop-rect.invariant (sym c.is_empty.ensures ∙ c.loop-rect-test.true) _ c.least.ensures _ c.run_of.ensures _ c.in_ok-run.was _ _ _
     c.gather_run.ensures c.in_err-n.was)
-
-pub loop-rect-smaller : goal.loop-rect-smaller
-loop-rect-smaller c = fewer _ (sym c.is_empty.ensures ∙ c.loop-rect-test.true) _ c.but_least-left.ensures
 
 pub loop-rect-preserved : goal.loop-rect-preserved
 loop-rect-preserved c =
