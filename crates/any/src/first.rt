@@ -27,6 +27,7 @@ pub(crate) fn first_in(runs: Runs, rect: Rect) -> Result<Option<Stand>, Refusal>
     ensures { result ≡ first_seen (easts runs.entry) (norths runs.entry) rect (stands_there runs.entry) }
 {
     let mut left = runs.touched.regions;
+    // Stays: a `for` is no plainer, since what is gone through is a set of bits that shrinks.
     while !left.is_empty() {
         let run = runs.run_of(left.least())?;
         if let Some(first) = first_of_run(runs, run, rect)? {

@@ -49,6 +49,7 @@ pub(crate) fn gather(runs: Runs, rect: Rect, found: &mut [u32]) -> Result<u32, B
 {
     let mut n = 0;
     let mut left = runs.touched.regions;
+    // Stays: a `for` is no plainer, since what is gone through is a set of bits that shrinks.
     while !left.is_empty() {
         let run = runs.run_of(left.least())?;
         n = gather_run(runs, run, rect, found, n)?;
