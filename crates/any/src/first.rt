@@ -1,6 +1,5 @@
 // The scan over runs and their stands, which ends at the first stand in the rectangle: nothing is looked at past it.
 ghost use Rattle.std.specs.Prelude.{◌≡◌};
-ghost use Rattle.base.specs.Lent.{given};
 ghost use Rattle.runs.specs.Runs.{easts, norths, stands_there};
 ghost use Rattle.any.specs.Scans.{first_seen};
 
@@ -8,32 +7,24 @@ use grid::in_rect;
 use rules::{Rect, Refusal, Stand};
 use runs::Runs;
 
-// The first of a run, if any of it is in the rectangle.
-#[tactic(auto, unfolding(crate::specs::Scans::first_seen))]
-fn first_of_run(runs: Runs, run: &[u32], rect: Rect) -> Result<Option<Stand>, Refusal>
-    ensures { result ≡ first_seen (easts runs.entry) (norths runs.entry) rect (given run) }
-{
-    for stand in run {
-        let stand = Stand(*stand);
-        if in_rect(rect, runs.sight(stand)?) {
-            return Ok(Some(stand));
-        }
-    }
-    Ok(None)
-}
-
 // Runs are gone through in the order of their regions, as in the range's list, and not in the order of their entries, which is by score.
 pub(crate) fn first_in(runs: Runs, rect: Rect) -> Result<Option<Stand>, Refusal>
     ensures { result ≡ first_seen (easts runs.entry) (norths runs.entry) rect (stands_there runs.entry) }
 {
     let mut left = runs.touched.regions;
-    // Stays: a `for` is no plainer, since what is gone through is a set of bits that shrinks.
-    while !left.is_empty() {
-        let run = runs.run_of(left.least())?;
-        if let Some(first) = first_of_run(runs, run, rect)? {
-            return Ok(Some(first));
+    let first = 'scan: {
+        // Stays: a `for` is no plainer, since what is gone through is a set of bits that shrinks.
+        while !left.is_empty() {
+            let run = runs.run_of(left.least())?;
+            for stand in run {
+                let stand = Stand(*stand);
+                if in_rect(rect, runs.sight(stand)?) {
+                    break 'scan Some(stand);
+                }
+            }
+            left = left.but_least();
         }
-        left = left.but_least();
-    }
-    Ok(None)
+        None
+    };
+    Ok(first)
 }

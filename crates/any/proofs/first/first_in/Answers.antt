@@ -1,13 +1,14 @@
--- `first::first_in` meets its contract: by the regions that are left to look at.
+-- `first::first_in` meets its contract: by the stands that are left to look at, in the run and in the regions behind it.
 -- Assumes nothing.
 use mathlib.Core.Path.{sym, ap, ◌∙◌}
 use Rattle.std.proofs.lemmas.Result.{err_from_is_err_and}
-use Rattle.std.specs.Prelude.{Ok}
 use Rattle.base.proofs.Tests.{holds}
 use Rattle.base.proofs.Members.{first_rest}
 use Rattle.grid.specs.Cells.{regions_in}
 use Rattle.grid.proofs.Listed.{listed_less}
-use Rattle.any.proofs.Scans.{scan_unread, scan_refused, scan_found, scan_on, scan_ends}
+use Rattle.runs.specs.Runs.{noted}
+use Rattle.runs.specs.Sights.{touched_stands}
+use Rattle.any.proofs.Scans.{scan_unread, run_begins, scan_breaks, scan_hits, scan_misses, run_ends, scan_ends}
 use borrow.Author.Rules.{rules}
 use Rattle.any.proofs.first.first_in.Goals as goal
 
@@ -21,18 +22,22 @@ returns-in_err-run c =
     let p = err_from_is_err_and c.from_residual.result c.from_residual.ensures.1 in
     rw (p.1, p.2) (scan_unread _ _ _ _ _ _ c.loop-rect.invariant (sym c.is_empty.ensures ∙ c.loop-rect-test.true) _ c.least.ensures _ c.run_of.ensures c.args.runs.ready _ c.in_err-run.was)
 
-pub returns-in_err-first : goal.returns-in_err-first
-returns-in_err-first c =
-    let p = err_from_is_err_and c.from_residual-in_err-first.result c.from_residual-in_err-first.ensures.1 in
-    rw (p.1, p.2) (scan_refused _ _ _ _ _ _ c.loop-rect.invariant (sym c.is_empty.ensures ∙ c.loop-rect-test.true) _ c.least.ensures _ c.run_of.ensures _ c.in_ok-run.was _ c.first_of_run.ensures _ c.in_err-first.was)
+pub loop-stand-init : goal.loop-stand-init
+loop-stand-init c = run_begins _ _ _ _ _ _ c.loop-rect.invariant (sym c.is_empty.ensures ∙ c.loop-rect-test.true) _ c.least.ensures _ c.run_of.ensures _ c.in_ok-run.was
 
-pub returns-in-Some : goal.returns-in-Some
-returns-in-Some c =
-    scan_found _ _ _ _ _ _ c.loop-rect.invariant (sym c.is_empty.ensures ∙ c.loop-rect-test.true) _ c.least.ensures _ c.run_of.ensures _ c.in_ok-run.was _ c.first_of_run.ensures _ (c.in_ok-first.was ∙ ap Ok c.in-Some.is)
+pub returns-in_err-sight : goal.returns-in_err-sight
+returns-in_err-sight c =
+    let p = err_from_is_err_and c.from_residual-in_err-sight.result c.from_residual-in_err-sight.ensures.1 in
+    rw (p.1, p.2) (scan_breaks _ _ _ _ _ _ _ c.loop-stand.invariant c.loop-stand-test.true _ c.sight.ensures _ c.in_err-sight.was)
+
+pub returns-then-in_rect : goal.returns-then-in_rect
+returns-then-in_rect c = search (rules, scan_hits)
+
+pub loop-stand-preserved : goal.loop-stand-preserved
+loop-stand-preserved c = search (rules, scan_misses)
 
 pub loop-rect-preserved : goal.loop-rect-preserved
-loop-rect-preserved c =
-    scan_on _ _ _ _ _ _ c.loop-rect.invariant (sym c.is_empty.ensures ∙ c.loop-rect-test.true) _ c.least.ensures _ c.run_of.ensures _ c.in_ok-run.was _ c.first_of_run.ensures _ (c.in_ok-first.was ∙ ap Ok c.in_default.is) c.but_least-left.ensures
+loop-rect-preserved c = run_ends _ _ _ _ _ _ _ c.loop-stand.invariant c.loop-stand-test.false _ (ap (touched_stands (noted c.args.runs)) c.but_least-left.ensures)
 
-pub returns : goal.returns
-returns c = search (rules, scan_ends, holds)
+pub returns-after-loop-rect : goal.returns-after-loop-rect
+returns-after-loop-rect c = search (rules, scan_ends, holds)
