@@ -8,6 +8,7 @@ use rules::{Rect, Refusal, Stand};
 use runs::Runs;
 
 // Runs are gone through in the order of their regions, as in the range's list, and not in the order of their entries, which is by score.
+#[tactic(auto, using(crate::proofs::Scans::scan_hits))]
 pub(crate) fn first_in(runs: Runs, rect: Rect) -> Result<Option<Stand>, Refusal>
     ensures { result ≡ first_seen (easts runs.entry) (norths runs.entry) rect (stands_there runs.entry) }
 {

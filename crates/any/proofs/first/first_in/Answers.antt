@@ -8,7 +8,7 @@ use Rattle.grid.specs.Cells.{regions_in}
 use Rattle.grid.proofs.Listed.{listed_less}
 use Rattle.runs.specs.Runs.{noted}
 use Rattle.runs.specs.Sights.{touched_stands}
-use Rattle.any.proofs.Scans.{scan_unread, run_begins, scan_breaks, scan_hits, scan_misses, run_ends, scan_ends}
+use Rattle.any.proofs.Scans.{scan_unread, run_begins, scan_breaks, scan_misses, run_ends, scan_ends}
 use borrow.Author.Rules.{rules}
 use Rattle.any.proofs.first.first_in.Goals as goal
 
@@ -29,9 +29,6 @@ pub returns-in_err-sight : goal.returns-in_err-sight
 returns-in_err-sight c =
     let p = err_from_is_err_and c.from_residual-in_err-sight.result c.from_residual-in_err-sight.ensures.1 in
     rw (p.1, p.2) (scan_breaks _ _ _ _ _ _ _ c.loop-stand.invariant c.loop-stand-test.true _ c.sight.ensures _ c.in_err-sight.was)
-
-pub returns-then-in_rect : goal.returns-then-in_rect
-returns-then-in_rect c = search (rules, scan_hits)
 
 pub loop-stand-preserved : goal.loop-stand-preserved
 loop-stand-preserved c = search (rules, scan_misses)
