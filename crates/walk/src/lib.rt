@@ -30,7 +30,7 @@ pub fn child_of(nodes: &[u32], above: Node, byte: u8) -> Result<Option<Node>, Br
     }
     let wanted = byte as u32;
     let mut c = p + 1;
-    // Stays: a step goes to the next sibling's word, so that a `for` has nothing to go over.
+    // Stays: a `for` is no plainer, since each step goes to where the sibling's word says.
     while c < past {
         if nodes[c * NODE_WORDS + LAST_BYTE] == wanted {
             return Ok(Some(Node(c as u32)));
