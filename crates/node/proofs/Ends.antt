@@ -64,13 +64,8 @@ module _ (shared : List ℕ) (i l : ℕ) where
       let q : front_run l (drop e shared) ≡ 0 = rw (drop_of_length-le shared h) in
       record { end = omega (arith, s.rest); after = omega (arith, s.after); within = s.within }
 
-  -- no stand behind it shares less; none at all, where i is past the end itself
-  pub ending_all : (e : ℕ) → (i < length shared → Ending shared i l e) → i ≤ length shared → length shared ≤ e → Ends shared i l (length shared)
-  ending_all e s w h =
-      ⊎_elim
-      (λ (q : length shared ≤ i). record { end = omega (arith, end_none q); after = w; within = omega arith })
-      (λ (q : i < length shared). let k : e ≡ length shared = omega (arith, (s q).within) in rw k at (ending_last e (s q) h))
-      (le_or_lt (length shared) i)
+  pub ended : length shared ≤ i → i ≤ length shared → Ends shared i l i
+  ended h k = record { end = omega (arith, end_none h); after = omega arith; within = k }
 
   pub end_from : i ≤ end_of shared i l
   unfolding end_of
