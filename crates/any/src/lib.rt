@@ -18,8 +18,8 @@ use runs::{Runs, agree, touched_regions};
 use table::text::text_verdict;
 use walk::listing::{Listed, listing_of};
 
-// The question from a text's listing; the text itself is no more needed.
-#[inline]
+// The question from a text's listing; the text itself is no more needed. Inlined, as a set that is handed on is laid out in memory anew.
+#[inline(always)]
 pub fn any_from(set: Set, at: Listed, rect: Rect) -> Result<Option<Stand>, Refusal>
     ensures { AnyFrom (lent_table set.entry.table) set.entry.grid (lent_index set.entry.index) at rect (any_numbers result) }
 {

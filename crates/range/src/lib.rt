@@ -46,8 +46,8 @@ fn fill(runs: Runs, rect: Rect, found: &mut [u32]) -> Result<u32, RangeRefusal>
     Ok(matches)
 }
 
-// The question from a text's listing; the text itself is no more needed.
-#[inline]
+// The question from a text's listing; the text itself is no more needed. Inlined, as a set that is handed on is laid out in memory anew.
+#[inline(always)]
 pub fn range_from(set: Set, at: Listed, rect: Rect, found: &mut [u32]) -> Result<u32, RangeRefusal>
     ensures { RangeFrom (lent_table set.entry.table) set.entry.grid (lent_index set.entry.index) at rect (room_in found) (range_came_in result found) }
 {
