@@ -49,6 +49,7 @@ pub fn check(table: Table, grid: Grid, index: Index) -> Option<Sizes>
     ensures { checked_numbers result ≡ check_told (lent_table table.entry) grid (lent_index index.entry) }
 {
     table_refusal(table, grid).ok()?;
+    // Stays: fixed memory: what hands out arrays has them on the stack twice, so build and check each make the columns in place.
     let stands = table.score.len();
     let lengths = lengths(table);
     let shares = shares(table);
