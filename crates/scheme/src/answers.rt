@@ -1,7 +1,5 @@
 // The answers of the finder's calls on the small scheme, each on a line.
-use finder::{
-    Grid, Place, RangeRefusal, Ranking, Rect, Refusal, Session, Set, Sizes, Stand,
-};
+use finder::{Grid, Place, RangeRefusal, Ranking, Rect, Refusal, Session, Set, Sizes, Stand};
 use std::fmt::Display;
 use std::io;
 
@@ -35,22 +33,26 @@ pub(crate) fn print_verdict(rt: &impl Print, verdict: Result<(), Refusal>) -> io
 
 pub(crate) fn print_built(rt: &impl Print, answer: Result<Sizes, Refusal>) -> io::Result<()> {
     match answer {
-        Ok(Sizes {
-            nodes,
-            entries,
-            bits,
-        }) => println!(rt; "built {nodes} {entries} {bits}"),
+        Ok(
+            Sizes {
+                nodes,
+                entries,
+                bits,
+            },
+        ) => println!(rt; "built {nodes} {entries} {bits}"),
         Err(why) => print_refusal(rt, why),
     }
 }
 
 pub(crate) fn print_checked(rt: &impl Print, set: Set) -> io::Result<()> {
     match finder::check(set.table, set.grid, set.index) {
-        Some(Sizes {
-            nodes,
-            entries,
-            bits,
-        }) => println!(rt; "lawful {nodes} {entries} {bits}"),
+        Some(
+            Sizes {
+                nodes,
+                entries,
+                bits,
+            },
+        ) => println!(rt; "lawful {nodes} {entries} {bits}"),
         None => println!(rt; "unlawful"),
     }
 }
@@ -84,10 +86,7 @@ pub(crate) fn print_range(
     }
 }
 
-fn print_yes_or_no(
-    rt: &impl Print,
-    answer: Result<Option<Stand>, Refusal>,
-) -> io::Result<()> {
+fn print_yes_or_no(rt: &impl Print, answer: Result<Option<Stand>, Refusal>) -> io::Result<()> {
     match answer {
         Ok(Some(stand)) => println!(rt; "yes {}", stand.0),
         Ok(None) => println!(rt; "no"),

@@ -9,7 +9,7 @@ use answers::{
     print_any, print_any_typed, print_built, print_checked, print_range, print_ranked,
     print_ranked_typed, print_region, print_rest, print_verdict, print_words,
 };
-use finder::{Grid, Ranking, Rect, Place, Session, Set, Stand};
+use finder::{Grid, Place, Ranking, Rect, Session, Set, Stand};
 use rules::layout::NODE_WORDS;
 use set::{GRID, SCORE, STARTS, Words, table, table_with};
 use std::io;
