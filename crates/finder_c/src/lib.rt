@@ -20,6 +20,7 @@ use finder::{
 };
 use table::names::{Span, rest_span};
 
+// Stays: numbers for refusals and for yes, and parts lent one by one, since the C interface has them so.
 // A refusal is its number, or 0; with one every other number is 0, but for a range's matches.
 #[repr(C)]
 #[derive(Clone, Copy)]

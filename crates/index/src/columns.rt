@@ -18,6 +18,8 @@ fn shared_before(table: Table, stand: usize) -> u8
     shared(before, here) as u8
 }
 
+// Stays: three columns by three loops. One function with a closure for the row is no plainer, since its contract would have to say for which
+// stands the closure may be called and what it gives there.
 pub fn lengths(table: Table) -> [u8; Stand::MOST]
     requires { Spelled table.text.now table.starts.now (length table.score.now) }
     ensures { take (length table.entry.score.now) result ≡ lengths_in table.entry.text.now table.entry.starts.now (length table.entry.score.now) }

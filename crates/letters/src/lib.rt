@@ -1,5 +1,7 @@
 // The questions on the letters of a session. Its path has the letters' node, so nothing is walked from the root.
 // On a lawful set and session the outcome is that of the same text given afresh; on any other it is harmless.
+// Stays: a question for a text and one for a session. A trait for the two would be no plainer, since they share all but two lines already,
+// and each promises by its own ground of lawfulness.
 #![tactic(auto)]
 
 ghost use Rattle.std.specs.Prelude.{◌≡◌};

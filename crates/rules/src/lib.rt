@@ -11,6 +11,7 @@ ghost use Rattle.rules.specs.declared.Refusal.TheVariants.{NotLawful};
 pub mod layout;
 
 // The number of a stand: its position in the table.
+// Stays: three types for three numberings, as the rules name them; one generic type would still want a tag for each.
 #[derive(Clone, Copy)]
 pub struct Stand(pub u32);
 
@@ -118,6 +119,7 @@ pub struct Hit {
     pub value: u64,
 }
 
+// Stays: an array with a length beside it, since the C interface lends this record (krz_session).
 // The letters typed so far, and at place i of the path the node of the first i of them; 0 where there is none.
 #[repr(C)]
 #[derive(Clone, Copy)]

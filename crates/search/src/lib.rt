@@ -33,6 +33,7 @@ fn write_held(held: &Held, found: &mut [u32], values: &mut [u64])
 }
 
 // The k best stands that are listed, best first.
+// Stays: two rooms, for stands and for values, since the C interface lends them so.
 pub fn best_listed(
     set: Set,
     listing: Listing,
