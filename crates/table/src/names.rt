@@ -74,12 +74,23 @@ pub fn shared(a: &[u8], b: &[u8]) -> usize
     most
 }
 
+// Whether a typed byte is read as this letter. A small letter is spared the fold.
+fn read_as(typed: u8, letter: u8) -> bool
+    ensures { result ≡ eqb (folded typed) letter }
+{
+    if plain(typed) {
+        typed == letter
+    } else {
+        folded(typed) == letter
+    }
+}
+
 // Whether a name, or as much of one as was typed, begins with a typed text.
 fn begins(name: &[u8], typed: &[u8]) -> bool
     requires { length typed.now ≤ length name.now }
     ensures { result ≡ begins (folded_text (given typed)) (given name) }
 {
-    (0..typed.len()).all(|i| folded(typed[i]) == name[i])
+    (0..typed.len()).all(|i| read_as(typed[i], name[i]))
 }
 
 // Whether name a may stand before name b: byte order, the shorter first, equal ones either way.

@@ -1,5 +1,6 @@
 -- `table::table_refusal` gives the first refusal that holds: by the tests that came before it.
 -- Assumes nothing.
+use Rattle.std.proofs.Common.{sym, ◌∙◌}
 use native.Mathlib.Omega.{arith}
 use borrow.Author.Rules.{rules}
 use Rattle.base.proofs.Tests.{breaks, holds}
@@ -13,7 +14,7 @@ pub returns-then-not-lawful : goal.returns-then-not-lawful
 returns-then-not-lawful c = search (rules, refused-grid, holds, breaks)
 
 pub overflow_cast-stands : goal.overflow_cast-stands
-overflow_cast-stands c = omega (arith, (shape_parts _ (holds _ _ c.shape_lawful.ensures c.if-not-shape_lawful.false-raw)).few)
+overflow_cast-stands c = omega (arith, (shape_parts _ (sym c.shape_lawful.ensures ∙ c.if-not-shape_lawful.false)).few)
 
 pub returns-then-not-names_allowed : goal.returns-then-not-names_allowed
 returns-then-not-names_allowed c = search (rules, refused-name, holds, breaks)
@@ -23,7 +24,7 @@ returns-then-not-names_in_order c = search (rules, refused_order, holds, breaks)
 
 pub stands_lawful-requires : goal.stands_lawful-requires
 stands_lawful-requires c =
-    let shape = shape_parts _ (holds _ _ c.shape_lawful.ensures c.if-not-shape_lawful.false-raw) in
+    let shape = shape_parts _ (sym c.shape_lawful.ensures ∙ c.if-not-shape_lawful.false) in
     (shape.easts, shape.norths)
 
 pub returns-then-not-stands_lawful : goal.returns-then-not-stands_lawful

@@ -1,11 +1,12 @@
 -- `lawful::shape_lawful` tests one thing after the other; any that fails is enough.
 -- Assumes nothing.
+use Rattle.std.proofs.Common.{◌∙◌}
 use mathlib.Core.Path.{sym}
 use native.Mathlib.Omega.{arith}
 use lib.ListN.{length}
 use borrow.Author.Tests.{lt-leb, ne_eqb}
 use borrow.Author.Rules.{rules}
-use Rattle.base.proofs.Tests.{breaks, holds, every_not}
+use Rattle.base.proofs.Tests.{holds, every_not}
 use Rattle.rules.specs.Tables.{shape_lawful}
 use Rattle.rules.proofs.Lawful.{shape_holds}
 use Rattle.table.proofs.lawful.shape_lawful.Goals as goal
@@ -32,7 +33,7 @@ returns-then-starts-ne0 c = sym (every_not _ 4 (ne_eqb _ _ c.if-starts-ne0.true)
 
 pub returns-then-not-rising : goal.returns-then-not-rising
 unfolding shape_lawful
-returns-then-not-rising c = sym (every_not _ 5 (breaks _ _ c.rising.ensures c.if-not-rising.true-raw))
+returns-then-not-rising c = sym (every_not _ 5 (sym c.rising.ensures ∙ c.if-not-rising.true))
 
 pub overflow_cast-starts : goal.overflow_cast-starts
 overflow_cast-starts c = omega (arith, c.shared_slice_known-2-1.given (length c.args.table.score.now))

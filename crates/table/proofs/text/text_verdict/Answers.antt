@@ -1,8 +1,7 @@
 -- `text::text_verdict` tests the length, then the bytes.
 -- Assumes nothing.
-use Rattle.std.proofs.Common.{◌≤◌, length, arith}
+use Rattle.std.proofs.Common.{◌≤◌, length, arith, sym, ◌∙◌}
 use borrow.Author.Tests.{lt-ltb, le-ltb}
-use Rattle.base.proofs.Tests.{breaks, holds}
 use Rattle.base.proofs.Members.{length-each}
 use Rattle.rules.specs.Names.{folded, text_refusal}
 use Rattle.table.proofs.text.text_verdict.Goals as goal
@@ -15,10 +14,10 @@ pub returns-then-not-typed_allowed : goal.returns-then-not-typed_allowed
 unfolding text_refusal
 returns-then-not-typed_allowed c =
     let short : length c.args.typed.now ≤ 24 = omega arith in
-    rw (length-each folded, le-ltb _ _ short, breaks _ _ c.typed_allowed.ensures c.if-not-typed_allowed.true-raw)
+    rw (length-each folded, le-ltb _ _ short, sym c.typed_allowed.ensures ∙ c.if-not-typed_allowed.true)
 
 pub returns : goal.returns
 unfolding text_refusal
 returns c =
     let short : length c.args.typed.now ≤ 24 = omega arith in
-    rw (length-each folded, le-ltb _ _ short, holds _ _ c.typed_allowed.ensures c.if-not-typed_allowed.false-raw)
+    rw (length-each folded, le-ltb _ _ short, sym c.typed_allowed.ensures ∙ c.if-not-typed_allowed.false)
