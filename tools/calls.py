@@ -110,8 +110,14 @@ def numbers():
 
 
 def refusals():
-    told = re.findall(r"Refusal::(\w+) => (\d+)", bare(RULES))
-    return {spaced(name).upper(): int(value) for name, value in told}
+    """The crates' refusal numbers: a case of the enum without one has the next."""
+    cases = re.search(r"pub enum Refusal \{([^}]*)\}", bare(RULES))
+    found = {}
+    number = -1
+    for name, value in re.findall(r"(\w+)(?: = (\d+))?,", cases[1] if cases else ""):
+        number = int(value) if value else number + 1
+        found[spaced(name).upper()] = number
+    return found
 
 
 def limits():

@@ -31,6 +31,7 @@ pub const HITS_MOST: usize = Ranking::K_MOST as usize;
 pub const OUTPUT_MOST: usize = 2_048;
 
 // The rooms for an index.
+// Stays: one size, and no const parameters for the scheme's rooms too, since no function takes both.
 #[derive(Drop)]
 pub struct Rooms {
     pub order: [u32; ORDER_ROOM],

@@ -11,6 +11,7 @@ use crate::printing::{put_hits, put_refusal};
 use crate::{HITS_MOST, OUTPUT_MOST, Rooms};
 use finder::{Grid, Ranking, Refusal, Set, Table, build, check, ranked};
 
+// Stays, here and below: a length of at most 64 asked by each. A type for a table of so few is no plainer, since only these lend one on.
 // Builds an index and checks it. The rooms are enough for 64 stands, so a table is refused only for what it is; and what was built
 // is lawful, so the check's refusal is never given.
 fn index_made(table: Table, grid: Grid, rooms: &mut Rooms) -> Result<(), Refusal>

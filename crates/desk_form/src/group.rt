@@ -21,6 +21,7 @@ pub struct StandRead {
 }
 
 // The first of a stand's four lines that is not as it should be, from 0.
+// Stays: a number, since StandTorn tells the line's.
 #[derive(Clone, Copy)]
 pub struct TornLine(pub u32);
 
@@ -30,6 +31,8 @@ pub struct Question {
     pub text: Range<usize>,
     pub ranking: Ranking,
 }
+
+// Stays, here and below: the input and a place in it, as in lines.
 
 // The grid and how many stands follow, and where their lines begin.
 pub fn read_opening(input: &[u8]) -> Option<((Grid, u32), usize)>

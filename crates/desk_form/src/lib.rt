@@ -45,6 +45,7 @@ impl Reading {
 }
 
 // The parts of a table with room for any input's stands.
+// Stays: how much of them is used is told by the reading, since a Vec would want a heap.
 #[derive(Drop)]
 pub struct Parts {
     pub text: [u8; Reading::BYTES_MOST],

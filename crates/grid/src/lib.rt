@@ -21,6 +21,9 @@ const LAST: u32 = Grid::SIDE - 1;
 // How far a row's number is shifted to count the cells of the rows before it.
 const ROW_SHIFT: u32 = u32::trailing_zeros(Grid::SIDE);
 
+// Stays, here and in `cells`: an edge and the side of a cell for an axis. A struct is no plainer, since one would be made of the grid for
+// each of its two, and a side over 0 is known of a lawful grid alone.
+
 // Refusal 2 is for a grid that is not lawful.
 pub fn lawful(grid: Grid) -> bool
     ensures { result ≡ grid_lawful grid }

@@ -3,6 +3,8 @@ ghost use Rattle.base.specs.Lent.{given};
 ghost use Rattle.lines.specs.Writing.{decimal_of, line};
 ghost use Rattle.lines.specs.Puts.{RoomAt, Puts};
 
+// Stays, here and below: the room and a place in it. A struct that lends the room to be written is no plainer, since each contract would
+// have to say that it is the same room still.
 pub fn put(out: &mut [u8], at: usize, bytes: &[u8]) -> usize
     requires { RoomAt out.old at bytes.now }
     ensures { Puts (given bytes) out.old at out.new result }

@@ -15,6 +15,7 @@ fn feed_in(bytes: &[u8]) -> Option<usize>
 }
 
 // The value of a line: from behind the key up to the line feed.
+// Stays, here and below: the input and a place in it, since where a value stands is told as a part of the whole input (ReadsInput).
 pub fn bytes_line(input: &[u8], at: usize, key: &[u8]) -> Option<Range<usize>>
     requires { at ≤ length input.now }
     ensures { SaysBytes (given input) (at + length (given key)) (bytes_line (given key) (drop at (given input))) result }
@@ -25,6 +26,7 @@ pub fn bytes_line(input: &[u8], at: usize, key: &[u8]) -> Option<Range<usize>>
     Some(from..from + long)
 }
 
+// Stays: the library's parse takes a plus sign and leading zeros, which the form does not have.
 // The number that these digits make, where each is one and the number stays at most `most`.
 fn grown_by(digits: &[u8], most: u32) -> Option<u32>
     ensures { result ≡ grown_by most 0 (given digits) }

@@ -202,8 +202,8 @@ impl From<Refusal> for RangeRefusal {
 impl From<Broken> for RangeRefusal {
     ghost from_gives = { λ _ refused. refused ≡ range_refused NotLawful };
 
-    fn from(_: Broken) -> RangeRefusal {
-        RangeRefusal::from(Refusal::NotLawful)
+    fn from(broken: Broken) -> RangeRefusal {
+        RangeRefusal::from(Refusal::from(broken))
     }
 }
 

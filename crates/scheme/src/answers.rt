@@ -126,6 +126,7 @@ fn print_best(
     }
 }
 
+// Stays, with the next: a closure for the question is no plainer, since the rooms would go through it and each would ask as it does here.
 // A ranked question with room for as many as may be asked for.
 pub(crate) fn print_ranked(
     rt: &impl Print,

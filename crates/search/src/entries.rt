@@ -1,4 +1,6 @@
 // The listed entries in their order, each passed over or taken.
+// Stays, here and in `stands`: k beside what is held. A field for it is no plainer, since each contract would have to say that it is still
+// the k that was asked for.
 // An entry is passed over if k are held and even a stand with its bound and its first number would come after the last of them.
 ghost use Rattle.std.specs.Prelude.{◌≡◌, ◌≤◌, true, length};
 ghost use Rattle.base.specs.Lent.{given};

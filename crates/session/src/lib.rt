@@ -35,6 +35,7 @@ fn next(nodes: &[u32], letters: usize, last: Node, byte: u8) -> Result<Option<No
 }
 
 // Whether a letter is taken behind so many, and the node that it leads to, 0 for none. It is taken where it leads nowhere too.
+// Stays: 0 and no Option, since this is the word for the session's path, which the C interface has so.
 #[tactic(auto, unfolding(crate::specs::Strokes::led_on))]
 fn leads(nodes: &[u32], letters: usize, last: Node, byte: u8) -> Result<u32, Refusal>
     requires { letters ≤ 24 }
