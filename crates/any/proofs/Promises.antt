@@ -2,20 +2,19 @@
 -- Assumes nothing.
 use mathlib.Core.Path.{◌≡◌, refl, sym, ap, ◌∙◌}
 use mathlib.Core.Logic.{inl, inr}
-use mathlib.Core.Bool.{true, false}
+use mathlib.Core.Bool.{true}
 use mathlib.Core.List.{List, [], ◌∷◌}
 use Prim.Native.Nat.{ℕ}
 use lib.Dec.{ltb}
 use lib.IntN.{ℤ}
 use lib.ListN.{length}
 use borrow.Table.Steps.{cases}
-use Rattle.std.specs.Prelude.{Option, Some, None, Result, Ok, Err}
+use Rattle.std.specs.Prelude.{Option, Some, Result, Ok, Err}
 use Rattle.base.specs.Lists.{keep}
-use Rattle.base.proofs.Tests.{never, and_parts}
+use Rattle.base.proofs.Tests.{and_parts}
 use Rattle.rules.specs.declared.Grid.{Grid}
 use Rattle.rules.specs.declared.Rect.{Rect}
 use Rattle.rules.specs.declared.Refusal.{Refusal}
-use Rattle.rules.specs.declared.Refusal.TheVariants.{NotLawful}
 use Rattle.rules.specs.declared.Stand.{Stand}
 use Rattle.rules.specs.Numbers.{AnyTold, refusing_any, any_numbers, verdict_number}
 use Rattle.rules.specs.Names.{folded_text, text_refusal}
@@ -25,16 +24,16 @@ use Rattle.rules.specs.Outcomes.{any_outcome}
 use Rattle.rules.specs.Promises.{Harmless, AnyPromise}
 use Rattle.rules.specs.Indexes.{Index}
 use Rattle.rules.proofs.Outcomes.{any_refused}
-use Rattle.grid.specs.Cells.{regions_in}
 use Rattle.grid.proofs.Covers.{Edges}
-use Rattle.walk.specs.declared.listing.Listing.{Listing}
 use Rattle.walk.specs.Walks.{node_in}
 use Rattle.walk.specs.Listings.{Listed, listing_at}
 use Rattle.walk.specs.Asked as asked
 use Rattle.walk.proofs.Asked.{from_kept, text_refused, text_listed}
-use Rattle.runs.specs.Sights.{inside, sighted, known, noted_in, touched_stands, agree, look_by, look_at}
+use Rattle.runs.specs.declared.Runs.{Runs}
+use Rattle.runs.specs.Runs.{easts, norths, stands_there, met_by, met_at}
+use Rattle.runs.specs.Sights.{inside, sighted, known}
 use Rattle.runs.specs.Promises.{Answers}
-use Rattle.runs.proofs.Promises.{look-kept}
+use Rattle.runs.proofs.Promises.{met-kept}
 use Rattle.any.specs.Scans.{first_seen}
 use Rattle.any.specs.Promises.{AnyFrom}
 
@@ -57,26 +56,15 @@ module _ (east north : List ℤ) (rect : Rect) where
       (λ t. cases (inside east north rect s) (λ e. rw (t, e) (inr (s ∷ [], refl))) (λ e. rw (t, e) (first_harmless l)))
       (λ t. rw t (inl refl))
 
-module _ (t : Table) (g : Grid) (x : Index) (at : Listed) (r : Rect) (edges : Edges r) (numbers : List ℕ)
-    (looked-at : Result (Option Listing) Refusal) (looks : look_by looked-at numbers ≡ look_at g x.entries at r) where
-  kept : (o : AnyTold) → Answers any_outcome refusing_any t.east t.north x.order x.entries r (look_by looked-at numbers) o → AnyFrom t g x at r o
-  kept o = look-kept any_outcome refusing_any any_refused t.east t.north g x.order x.entries r o edges at (look_by looked-at numbers) looks
+-- by what the question begins with
+module _ (t : Table) (g : Grid) (x : Index) (at : Listed) (r : Rect) (edges : Edges r) (met : Result (Option Runs) Refusal) (is : met_by met ≡ met_at t g x at r) where
+  pub kept : (o : AnyTold) → Answers any_outcome refusing_any r (met_by met) o → AnyFrom t g x at r o
+  kept o = met-kept any_outcome refusing_any any_refused t.east t.north g x.order x.entries r o edges at (met_by met) is
 
-  module _ (touched : Listing) (e : looked-at ≡ Ok (Some touched)) where
-    pub from_apart : agree t.east t.north x.order ≡ false → AnyFrom t g x at r (any_numbers (Err NotLawful))
-    from_apart h = kept _ (rw e (record { agreed = λ q. absurd (never _ q h); apart = λ q. refl }))
-
-    pub from_regions : agree t.east t.north x.order ≡ true → (a : Result (Option Stand) Refusal)
-        → a ≡ first_seen t.east t.north r (touched_stands (noted_in t.east x.order x.entries touched.first numbers) (regions_in touched.regions)) → AnyFrom t g x at r (any_numbers a)
-    from_regions h a f =
-        let seen = touched_stands (noted_in t.east x.order x.entries touched.first numbers) (regions_in touched.regions) in
-        kept (any_numbers a) (rw (e, f) (record { agreed = λ q. record { exact = first_exact t.east t.north r seen; harmless = first_harmless t.east t.north r seen }; apart = λ q. absurd (never _ h q) }))
-
-  pub from_nothing : looked-at ≡ Ok None → AnyFrom t g x at r (any_numbers (Ok None))
-  from_nothing e = kept _ (rw e)
-
-  pub from_refused : (why : Refusal) → looked-at ≡ Err why → AnyFrom t g x at r (any_numbers (Err why))
-  from_refused why e = kept _ (rw e)
+  pub from_runs : (runs : Runs) → met ≡ Ok (Some runs) → (a : Result (Option Stand) Refusal) → a ≡ first_seen (easts runs) (norths runs) r (stands_there runs) → AnyFrom t g x at r (any_numbers a)
+  from_runs runs e a f =
+      kept (any_numbers a)
+      (rw (e, f) (record { exact = first_exact (easts runs) (norths runs) r (stands_there runs); harmless = first_harmless (easts runs) (norths runs) r (stands_there runs) }))
 
 -- ---- from a text
 

@@ -12,9 +12,9 @@ ghost use Rattle.any.specs.Promises.{AnyFrom};
 mod first;
 
 use first::first_in;
-use rules::{Grid, Index, Rect, Refusal, Set, Stand, Table};
+use rules::{Grid, Rect, Refusal, Set, Stand};
+use runs::met::runs_met;
 use runs::notes::EntryNumbers;
-use runs::{Runs, agree, touched_regions};
 use table::text::text_verdict;
 use walk::listing::{Listed, listing_of};
 
@@ -23,20 +23,9 @@ use walk::listing::{Listed, listing_of};
 pub fn any_from(set: Set, at: Listed, rect: Rect) -> Result<Option<Stand>, Refusal>
     ensures { AnyFrom (lent_table set.entry.table) set.entry.grid (lent_index set.entry.index) at rect (any_numbers result) }
 {
-    let Table { east, north, .. } = set.table;
-    let Index { order, entries, .. } = set.index;
     let mut numbers: EntryNumbers = [0; Grid::REGIONS];
-    let Some(touched) = touched_regions(set.grid, entries, at, rect, &mut numbers)? else {
+    let Some(runs) = runs_met(set, at, rect, &mut numbers)? else {
         return Ok(None);
-    };
-    agree(east, north, order)?;
-    let runs = Runs {
-        east,
-        north,
-        order,
-        entries,
-        touched,
-        numbers: &numbers,
     };
     first_in(runs, rect)
 }

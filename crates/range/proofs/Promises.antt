@@ -11,11 +11,9 @@ use lib.ListN.{length}
 use borrow.Author.Tests.{le-leb}
 use Rattle.std.specs.Prelude.{Option, Some, None, Result, Ok, Err}
 use Rattle.base.specs.Lists.{keep}
-use Rattle.base.proofs.Tests.{never}
 use Rattle.rules.specs.declared.Grid.{Grid}
 use Rattle.rules.specs.declared.Rect.{Rect}
 use Rattle.rules.specs.declared.Refusal.{Refusal}
-use Rattle.rules.specs.declared.Refusal.TheVariants.{NotLawful}
 use Rattle.rules.specs.Numbers.{verdict_number, range_refused}
 use Rattle.rules.specs.Names.{folded_text, text_refusal}
 use Rattle.rules.specs.Tables.{Table}
@@ -24,16 +22,16 @@ use Rattle.rules.specs.Outcomes.{Outcome, refused, range_outcome, range_came}
 use Rattle.rules.specs.Promises.{Harmless, RangePromise}
 use Rattle.rules.specs.Indexes.{Index}
 use Rattle.rules.proofs.Outcomes.{settled-refused}
-use Rattle.grid.specs.Cells.{regions_in}
 use Rattle.grid.proofs.Covers.{Edges}
-use Rattle.walk.specs.declared.listing.Listing.{Listing}
 use Rattle.walk.specs.Walks.{node_in}
 use Rattle.walk.specs.Listings.{Listed, listing_at}
 use Rattle.walk.specs.Asked as asked
 use Rattle.walk.proofs.Asked.{from_kept, text_refused, text_listed}
-use Rattle.runs.specs.Sights.{inside, known, noted_in, touched_stands, agree, look_by, look_at}
+use Rattle.runs.specs.declared.Runs.{Runs}
+use Rattle.runs.specs.Runs.{easts, norths, stands_there, met_by, met_at}
+use Rattle.runs.specs.Sights.{inside, known}
 use Rattle.runs.specs.Promises.{Sees, Answers}
-use Rattle.runs.proofs.Promises.{look-kept}
+use Rattle.runs.proofs.Promises.{met-kept}
 use Rattle.range.specs.Fetches.{looked}
 use Rattle.range.specs.Promises.{RangeFrom}
 
@@ -52,30 +50,19 @@ sees-looked east north rect seen room = record { exact = λ q. rw q; harmless = 
     either true = inr (list, refl)
     either false = inl refl
 
-module _ (t : Table) (g : Grid) (x : Index) (at : Listed) (r : Rect) (edges : Edges r) (room numbers : List ℕ)
-    (looked-at : Result (Option Listing) Refusal) (looks : look_by looked-at numbers ≡ look_at g x.entries at r) where
-  kept : (o : Outcome) → Answers (λ n list. range_outcome n list (room ∷ [])) (λ n. refused n (room ∷ [])) t.east t.north x.order x.entries r (look_by looked-at numbers) o
-      → RangeFrom t g x at r (room ∷ []) o
-  kept o = look-kept (λ n list. range_outcome n list (room ∷ [])) (λ n. refused n (room ∷ [])) (λ n list some. settled-refused n _ _ _ _ _ some)
-      t.east t.north g x.order x.entries r o edges at (look_by looked-at numbers) looks
+-- by what the question begins with
+module _ (t : Table) (g : Grid) (x : Index) (at : Listed) (r : Rect) (edges : Edges r) (room : List ℕ) (met : Result (Option Runs) Refusal) (is : met_by met ≡ met_at t g x at r) where
+  pub kept : (o : Outcome) → Answers (λ n list. range_outcome n list (room ∷ [])) (λ n. refused n (room ∷ [])) r (met_by met) o → RangeFrom t g x at r (room ∷ []) o
+  kept o = met-kept (λ n list. range_outcome n list (room ∷ [])) (λ n. refused n (room ∷ [])) (λ n list some. settled-refused n _ _ _ _ _ some)
+      t.east t.north g x.order x.entries r o edges at (met_by met) is
 
-  module _ (touched : Listing) (e : looked-at ≡ Ok (Some touched)) where
-    pub from_apart : agree t.east t.north x.order ≡ false → RangeFrom t g x at r (room ∷ []) (range_came (Err (range_refused NotLawful)) room)
-    from_apart h = kept _ (rw e (record { agreed = λ q. absurd (never _ q h); apart = λ q. refl }))
+  pub from_runs : (runs : Runs) → met ≡ Ok (Some runs) → (o : Outcome) → o ≡ looked (easts runs) (norths runs) r (stands_there runs) room → RangeFrom t g x at r (room ∷ []) o
+  from_runs runs e o f = kept o (rw (e, f) (sees-looked (easts runs) (norths runs) r (stands_there runs) room))
 
-    pub from_regions : agree t.east t.north x.order ≡ true → (o : Outcome)
-        → o ≡ looked t.east t.north r (touched_stands (noted_in t.east x.order x.entries touched.first numbers) (regions_in touched.regions)) room → RangeFrom t g x at r (room ∷ []) o
-    from_regions h o f =
-        let seen = touched_stands (noted_in t.east x.order x.entries touched.first numbers) (regions_in touched.regions) in
-        kept o (rw (e, f) (record { agreed = λ q. sees-looked t.east t.north r seen room; apart = λ q. absurd (never _ h q) }))
-
-  pub from_nothing : looked-at ≡ Ok None → RangeFrom t g x at r (room ∷ []) (range_came (Ok 0) room)
+  pub from_nothing : met ≡ Ok None → RangeFrom t g x at r (room ∷ []) (range_came (Ok 0) room)
   from_nothing e =
       let none : range_came (Ok 0) room ≡ range_outcome 0 [] (room ∷ []) = sym (rw (le-leb 0 (length room) (omega arith))) in
       kept _ (rw e none)
-
-  pub from_refused : (why : Refusal) → looked-at ≡ Err why → RangeFrom t g x at r (room ∷ []) (range_came (Err (range_refused why)) room)
-  from_refused why e = kept _ (rw e)
 
 -- ---- from a text
 

@@ -15,9 +15,10 @@ ghost use Rattle.range.specs.Fetches.{looked};
 mod gather;
 
 use gather::gather;
-use rules::{Grid, Index, RangeRefusal, Rect, Refusal, Set, Table};
+use rules::{Grid, RangeRefusal, Rect, Refusal, Set};
+use runs::Runs;
+use runs::met::runs_met;
 use runs::notes::EntryNumbers;
-use runs::{Runs, agree, touched_regions};
 use table::text::text_verdict;
 use walk::listing::{Listed, listing_of};
 
@@ -51,20 +52,9 @@ fn fill(runs: Runs, rect: Rect, found: &mut [u32]) -> Result<u32, RangeRefusal>
 pub fn range_from(set: Set, at: Listed, rect: Rect, found: &mut [u32]) -> Result<u32, RangeRefusal>
     ensures { RangeFrom (lent_table set.entry.table) set.entry.grid (lent_index set.entry.index) at rect (room_in found) (range_came_in result found) }
 {
-    let Table { east, north, .. } = set.table;
-    let Index { order, entries, .. } = set.index;
     let mut numbers: EntryNumbers = [0; Grid::REGIONS];
-    let Some(touched) = touched_regions(set.grid, entries, at, rect, &mut numbers)? else {
+    let Some(runs) = runs_met(set, at, rect, &mut numbers)? else {
         return Ok(0);
-    };
-    agree(east, north, order)?;
-    let runs = Runs {
-        east,
-        north,
-        order,
-        entries,
-        touched,
-        numbers: &numbers,
     };
     fill(runs, rect, found)
 }

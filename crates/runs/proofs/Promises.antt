@@ -27,8 +27,8 @@ use Rattle.walk.specs.Listings as listings
 use Rattle.walk.specs.Asked.{Listed}
 use Rattle.walk.proofs.Listed.{nowhere_none, never_broken, entries_listed}
 use Rattle.runs.specs.Notes.{notes_in, blank}
-use Rattle.runs.specs.Sights.{inside, known, agree, Look, listed_look, straight_look, look_at}
-use Rattle.runs.specs.Promises.{RectFrom, Answers}
+use Rattle.runs.specs.Sights.{inside, known, noted_in, touched_stands, agree, Look, listed_look, straight_look, look_at, Met, look_met}
+use Rattle.runs.specs.Promises.{RectFrom, Sees, Answers}
 use Rattle.runs.proofs.Meaning.{agreed, numbers, looked-at, look_is, seen, seen_are, seen_known, range_is}
 use Rattle.runs.proofs.Meaning as meaning
 
@@ -65,12 +65,19 @@ record Places : Type 0 where
 module _ {Out : Type 0} (comes_to : ℕ → List ℕ → Out) (refused : ℕ → Out) (whatever : (n : ℕ) (list : List ℕ) → (n ≡ 0 → ⊥) → comes_to n list ≡ refused n)
     (east north : List ℤ) (g : Grid) (order entries : List ℕ) (r : Rect) (o : Out) where
   abbrev answers : Look → Type 0
-  answers look = Answers comes_to refused east north order entries r look o
+  answers look = Answers comes_to refused r (look_met east north order entries look) o
 
   -- ---- on any words: 7, or what some stands come to
 
+  either-harmless : (test : Bool) (met other : Met) → (Answers comes_to refused r met o → Harmless (comes_to 0) (refused 7) o) → (Answers comes_to refused r other o → Harmless (comes_to 0) (refused 7) o)
+      → Answers comes_to refused r (cond test met other) o → Harmless (comes_to 0) (refused 7) o
+  either-harmless true met other h k = h
+  either-harmless false met other h k = k
+
   harmless_by : (look : Look) → OnlySeven look → answers look → Harmless (comes_to 0) (refused 7) o
-  harmless_by (Look.regions wanted first numbers) only w = cases (agree east north order) (λ q. (w.agreed q).harmless) (λ q. inl (w.apart q))
+  harmless_by (Look.regions wanted first numbers) only w =
+      let seen = touched_stands (noted_in east order entries first numbers) wanted in
+      either-harmless (agree east north order) (Met.stands east north seen) (Met.refused 7) (λ v. v.harmless) inl w
   harmless_by Look.nothing only w = inr ([], w)
   harmless_by (Look.refused n) only w = inl (w ∙ ap refused only)
 
@@ -84,9 +91,9 @@ module _ {Out : Type 0} (comes_to : ℕ → List ℕ → Out) (refused : ℕ →
         let lists = entries_listed t g x s p cells first (sym l.listing) in
         let stands = seen t g x s p cells first lists r in
         let wanted = looked-at t g x s p cells first lists r in
-        let lent : Look → Type 0 = λ look. Answers comes_to refused t.east t.north order entries r look o in
+        let lent : Look → Type 0 = λ look. Answers comes_to refused r (look_met t.east t.north order entries look) o in
         let same : ◌≡◌ {A = Places} (record { east = east; north = north }) (record { east = t.east; north = t.north }) = rw (l.easts, l.norths) in
-        let v : lent (listed_look g entries cells first r) = subst (λ (c : Places). Answers comes_to refused c.east c.north order entries r (listed_look g entries cells first r) o) same w in
+        let v : lent (listed_look g entries cells first r) = subst (λ (c : Places). Answers comes_to refused r (look_met c.east c.north order entries (listed_look g entries cells first r)) o) same w in
         cases (is_empty wanted)
         (λ none.
         let is : listed_look g entries cells first r ≡ Look.nothing = look_is t g x s p cells first lists r ∙ rw none in
@@ -94,9 +101,10 @@ module _ {Out : Type 0} (comes_to : ℕ → List ℕ → Out) (refused : ℕ →
         u ∙ ap (comes_to 0) (sym (meaning.none_ranged t g x s p cells first lists r edges none)))
         (λ some.
         let is : listed_look g entries cells first r ≡ Look.regions wanted first (numbers t g x s p cells first lists) = look_is t g x s p cells first lists r ∙ rw some in
-        let u = subst lent is v in
+        let found = touched_stands (noted_in t.east order entries first (numbers t g x s p cells first lists)) wanted in
+        let u : Sees (comes_to 0) (refused 7) t.east t.north r found o = rw (agreed t g x s p cells first lists) at (subst lent is v) in
         let are = seen_are t g x s p cells first lists r in
-        (u.agreed (agreed t g x s p cells first lists)).exact (ap (known t.east) are ∙ seen_known t g x s p cells first lists r)
+        u.exact (ap (known t.east) are ∙ seen_known t g x s p cells first lists r)
         ∙ ap (comes_to 0) (ap (keep (inside t.east t.north r)) are ∙ range_is t g x s p cells first lists r edges))
 
     at_exact : (at : listings.Listed) → Listed east north t.score g order entries at t p → answers (straight_look g entries at r) → o ≡ comes_to 0 (range_list t g p r)
@@ -104,15 +112,15 @@ module _ {Out : Type 0} (comes_to : ℕ → List ℕ → Out) (refused : ℕ →
     at_exact (Ok None) l w = w ∙ ap (comes_to 0) (sym (none_ranged t g p r (nowhere_none t g p (sym l.listing))))
     at_exact (Err e) l w = absurd (never_broken t g p (sym l.listing))
 
-  pub look-kept : Edges r → (at : listings.Listed) (look : Look) → look ≡ look_at g entries at r → answers look → RectFrom comes_to (refused 7) east north g order entries at r o
-  look-kept edges at look e w =
+  pub met-kept : Edges r → (at : listings.Listed) (met : Met) → met ≡ look_met east north order entries (look_at g entries at r) → Answers comes_to refused r met o
+      → RectFrom comes_to (refused 7) east north g order entries at r o
+  met-kept edges at met e w =
+      let there : answers (look_at g entries at r) = subst (λ (m : Met). Answers comes_to refused r m o) e w in
       cases (rect_lawful r)
       (λ straight.
-      let is : look ≡ straight_look g entries at r = e ∙ rw straight in
-      let a : answers (straight_look g entries at r) = subst answers is w in
+      let a : answers (straight_look g entries at r) = rw straight at there in
       rw straight (record { exact = λ t p l. at_exact edges t p at l a; harmless = harmless_by (straight_look g entries at r) (only_7 g entries at r) a }))
       (λ reversed.
-      let is : look ≡ Look.refused 11 = e ∙ rw reversed in
-      let a : o ≡ refused 11 = subst answers is w in
+      let a : o ≡ refused 11 = rw reversed at there in
       let all : (list : List ℕ) → o ≡ comes_to 11 list = λ list. a ∙ sym (whatever 11 list (λ z. omega arith)) in
       rw reversed (record { exact = λ t p l. all (range_list t g p r); harmless = inr ([], all []) }))

@@ -43,9 +43,6 @@ module _ (east north : List ℤ) (order : List ℕ) (a : Result Unit Broken) (e 
   test_is : agree east north order ≡ is_ok a
   test_is = cases (agree east north order) (λ h. rw (h, e, h)) (λ h. rw (h, e, h))
 
-  pub refuses : (b : Broken) → a ≡ Err b → agree east north order ≡ false
-  refuses b q = test_is ∙ ap is_ok q
-
   pub agrees : (u : Unit) → a ≡ Ok u → agree east north order ≡ true
   agrees u q = test_is ∙ ap is_ok q
 

@@ -1,6 +1,6 @@
 -- What a question about a rectangle promises that starts from a listing, and what it has to make of the stands that there are to look at.
 -- comes_to is what a refusal and a list of stands come to.
-use Rattle.std.specs.Prelude.{◌≡◌, true, false, List, [], ℕ, ℤ}
+use Rattle.std.specs.Prelude.{◌≡◌, true, List, [], ℕ, ℤ}
 use Rattle.base.specs.Lists.{keep}
 use Rattle.rules.specs.declared.Grid.{Grid}
 use Rattle.rules.specs.declared.Rect.{Rect}
@@ -8,7 +8,7 @@ use Rattle.rules.specs.Questions.{range_list, rect_refusal}
 use Rattle.rules.specs.Promises.{Harmless}
 use Rattle.walk.specs.Listings as listings
 use Rattle.walk.specs.Asked.{Listed, FromPromise}
-use Rattle.runs.specs.Sights.{inside, known, noted_in, touched_stands, agree, Look}
+use Rattle.runs.specs.Sights.{inside, known, Met}
 
 -- of a set it is lent the stands' places, the order and the entries; their scores may be any
 abbrev pub RectFrom : {Out : Type 0} → (ℕ → List ℕ → Out) → (seven : Out) → List ℤ → List ℤ → Grid → List ℕ → List ℕ → listings.Listed → Rect → Out → Type 0
@@ -20,13 +20,7 @@ pub record Sees {Out : Type 0} (comes_to : List ℕ → Out) (seven : Out) (east
   pub exact : known east seen ≡ true → o ≡ comes_to (keep (inside east north rect) seen)
   pub harmless : Harmless comes_to seven o
 
--- columns that do not agree are refused 7
-pub record SeesRuns {Out : Type 0} (comes_to : List ℕ → Out) (seven : Out) (east north : List ℤ) (order : List ℕ) (rect : Rect) (seen : List ℕ) (o : Out) : Type 0 where
-  pub agreed : agree east north order ≡ true → Sees comes_to seven east north rect seen o
-  pub apart : agree east north order ≡ false → o ≡ seven
-
-abbrev pub Answers : {Out : Type 0} → (ℕ → List ℕ → Out) → (ℕ → Out) → List ℤ → List ℤ → List ℕ → List ℕ → Rect → Look → Out → Type 0
-Answers comes_to refused east north order entries rect (Look.regions wanted first numbers) o =
-    SeesRuns (comes_to 0) (refused 7) east north order rect (touched_stands (noted_in east order entries first numbers) wanted) o
-Answers comes_to refused east north order entries rect Look.nothing o = o ≡ comes_to 0 []
-Answers comes_to refused east north order entries rect (Look.refused n) o = o ≡ refused n
+abbrev pub Answers : {Out : Type 0} → (ℕ → List ℕ → Out) → (ℕ → Out) → Rect → Met → Out → Type 0
+Answers comes_to refused rect (Met.stands east north seen) o = Sees (comes_to 0) (refused 7) east north rect seen o
+Answers comes_to refused rect Met.nothing o = o ≡ comes_to 0 []
+Answers comes_to refused rect (Met.refused n) o = o ≡ refused n

@@ -111,3 +111,18 @@ straight_look grid entries (Err e) rect = Look.refused 7
 
 abbrev pub look_at : Grid → List ℕ → Listed → Rect → Look
 look_at grid entries at rect = cond (rect_lawful rect) (straight_look grid entries at rect) (Look.refused 11)
+
+-- ---- and of it the stands
+
+-- the stands, with the columns that their places are in
+pub data Met : Type 0 where
+  stands : (east north : List ℤ) (seen : List ℕ) → Met
+  nothing : Met
+  refused : (n : ℕ) → Met
+
+-- columns that do not agree are refused 7
+abbrev pub look_met : List ℤ → List ℤ → List ℕ → List ℕ → Look → Met
+look_met east north order entries (Look.regions wanted first numbers) =
+    cond (agree east north order) (Met.stands east north (touched_stands (noted_in east order entries first numbers) wanted)) (Met.refused 7)
+look_met east north order entries Look.nothing = Met.nothing
+look_met east north order entries (Look.refused n) = Met.refused n

@@ -1,5 +1,5 @@
 // What a question about a rectangle has to look at: the stands of the regions that a text's listing and the rectangle share, region by region.
-// `notes` has the entry of each such region, which says where its stands are in the order, and `sight` where a stand is on the map.
+// `met` finds them, `notes` has the entry of each such region, which says where its stands are in the order, and `sight` where a stand is on the map.
 // No stand is reached but through the listing.
 #![tactic(auto)]
 
@@ -8,6 +8,7 @@ ghost use Rattle.base.specs.Lent.{given};
 ghost use Rattle.runs.specs.Notes.{blank};
 ghost use Rattle.runs.specs.Sights.{noted_in, Ready, agreed, look_by, listed_look, look_at};
 
+pub mod met;
 pub mod notes;
 pub mod sight;
 
@@ -31,7 +32,7 @@ pub struct Runs<'a> {
 
 // Whether there is a place for each stand, and a place in the order.
 #[tactic(auto, unfolding(crate::specs::Sights::agree, base::specs::Lists::every))]
-pub fn agree(east: &[i32], north: &[i32], order: &[u32]) -> Result<(), Broken>
+fn agree(east: &[i32], north: &[i32], order: &[u32]) -> Result<(), Broken>
     ensures { result ≡ agreed (given east) (given north) (given order) }
 {
     let stands = east.len();
@@ -73,7 +74,7 @@ fn touched_of(
 }
 
 // The regions of a text's listing that a rectangle touches.
-pub fn touched_regions(
+fn touched_regions(
     grid: Grid,
     entries: &[u32],
     at: Listed,
