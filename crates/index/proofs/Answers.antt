@@ -2,16 +2,16 @@
 -- Assumes nothing.
 use mathlib.Core.Path.{◌≡◌, refl, sym, ◌∙◌}
 use mathlib.Core.Logic.{◌⊎◌, inl, inr}
-use mathlib.Core.Bool.{Bool, true, false, cond, ◌||◌}
+use mathlib.Core.Bool.{Bool, true, false, cond}
 use mathlib.Core.List.{List, [], ◌∷◌}
-use Prim.Native.Nat.{ℕ, ◌*◌, ◌≤◌}
+use Prim.Native.Nat.{ℕ}
 use native.Mathlib.Omega.{arith}
 use native.Mathlib.Nat.{zero-add}
-use lib.Dec.{eqb, ltb}
+use lib.Dec.{eqb}
 use lib.ListN.{length}
-use borrow.Author.Tests.{ltb-false, ne_eqb}
+use borrow.Author.Tests.{ne_eqb}
 use Rattle.base.specs.Lists.{every, begins, written}
-use Rattle.base.proofs.Tests.{which, or_neither, every_not}
+use Rattle.base.proofs.Tests.{which, every_not}
 use Rattle.rules.specs.declared.Grid.{Grid}
 use Rattle.rules.specs.declared.Refusal.{Refusal}
 use Rattle.rules.specs.declared.Refusal.TheVariants.{BufferTooSmall}
@@ -26,7 +26,7 @@ use Rattle.rules.proofs.Refusals.{first_given_lem}
 use Rattle.rules.proofs.Numbers.{refusal_some}
 use Rattle.node.specs.Columns.{IndexColumns}
 use Rattle.words.specs.Over.{over, order_of}
-use Rattle.words.specs.Words.{node_count_of, entry_count_of, record_count_of, Counted, Rooms, rooms_of, WroteAll, has_words, ComparesAll}
+use Rattle.words.specs.Words.{Counted, Rooms, rooms_of, WroteAll, has_words, ComparesAll}
 use Rattle.index.specs.Columns.{table_columns}
 use Rattle.index.specs.Promises.{BuildPromise}
 use Rattle.index.specs.Written.{short_of, too_small_for, over_all, BuiltFrom, has_all, CheckedFrom}
@@ -103,13 +103,6 @@ module _ (t : Table) (g : Grid) (l : LawfulTable t g) (x : Index) where
 
 -- ---- the ways out past those
 
--- the buffers are long enough
-pub record Roomy (c : IndexColumns) (x : Index) : Type 0 where
-  pub for-order : length c.region ≤ length x.order
-  pub for-nodes : node_count_of c * 8 ≤ length x.nodes
-  pub for-entries : entry_count_of c * 4 ≤ length x.entries
-  pub for-bits : record_count_of c * 2 ≤ length x.bits
-
 -- by the counts and by the test of the buffers' lengths
 module _ (c : IndexColumns) (x : Index) (s : Sizes) (counted : Counted c s) (small : Bool) (tested : small ≡ short_of x (length c.region) s) where
   small-test : too_small_for c x ≡ small
@@ -118,21 +111,6 @@ module _ (c : IndexColumns) (x : Index) (s : Sizes) (counted : Counted c s) (sma
 
   pub no_room : small ≡ true → BuiltFrom c x (Err BufferTooSmall) x
   no_room q = record { told = rw (small-test, q); buffers = rw (small-test, q) }
-
-  pub roomy : small ≡ false → Roomy c x
-  roomy q =
-      let o = ltb (length x.order) (length c.region) in
-      let n = ltb (length x.nodes) (8 * s.nodes) in
-      let e = ltb (length x.entries) (4 * s.entries) in
-      let a = or_neither (o || n || e) (ltb (length x.bits) (2 * s.bits)) (sym tested ∙ q) in
-      let d = or_neither (o || n) e a.0 in
-      let f = or_neither o n d.0 in
-      record {
-        for-order = ltb-false _ _ f.0;
-        for-nodes = omega (arith, counted.nodes, ltb-false (length x.nodes) (8 * s.nodes) f.1);
-        for-entries = omega (arith, counted.entries, ltb-false (length x.entries) (4 * s.entries) d.1);
-        for-bits = omega (arith, counted.records, ltb-false (length x.bits) (2 * s.bits) a.1);
-      }
 
   pub wrote : small ≡ false → (order' : List ℕ) (rooms : Rooms) → order' ≡ over x.order 0 (order_of c.region) → WroteAll c (rooms_of x.nodes x.entries x.bits) rooms
       → BuiltFrom c x (Ok s) (index_of order' rooms.nodes rooms.entries rooms.bits)

@@ -1,7 +1,7 @@
 // The four buffers past refusals 1 to 5: whether they have room, and the words of the index written to them or compared with them.
 ghost use Rattle.std.specs.Prelude.{◌≡◌, ◌||◌, ◌*◌, ltb, length};
 ghost use Rattle.rules.specs.Indexes.{lent_index};
-ghost use Rattle.node.specs.Columns.{columns_of, LawfulColumns};
+ghost use Rattle.node.specs.Lent.{columns_of};
 ghost use Rattle.index.specs.Promises.{index_given, index_left};
 ghost use Rattle.index.specs.Written.{short_of, BuiltFrom, CheckedFrom};
 
@@ -28,7 +28,6 @@ pub fn put_index(
     entries: &mut [u32],
     bits: &mut [u32],
 ) -> Result<Sizes, Refusal>
-    requires { LawfulColumns (columns_of columns) }
     ensures { BuiltFrom (columns_of columns.entry) (index_given order nodes entries bits) result (index_left order nodes entries bits) }
 {
     let sizes = count(columns);
@@ -48,7 +47,6 @@ pub fn put_index(
 
 // How many nodes, entries and bit records there are, if the buffers begin with the index of the table with these columns.
 pub fn has_index(columns: Columns, index: Index) -> Option<Sizes>
-    requires { LawfulColumns (columns_of columns) }
     ensures { CheckedFrom (columns_of columns.entry) (lent_index index.entry) result }
 {
     if !has_order(columns.region, index.order) {

@@ -121,9 +121,6 @@ pub record Growing (lengths shared : List ℕ) (i e sum k : ℕ) : Type 0 where
   pub left : sum + grown_of lengths shared k e ≡ grown_of lengths shared i e
 
 module _ (lengths shared : List ℕ) (i e : ℕ) where
-  pub growing : Growing lengths shared i e 0 i
-  growing = record { left = omega arith }
-
   pub growing_more : (sum k w : ℕ) → Growing lengths shared i e sum k → k < e → w ≡ growth lengths shared k → Growing lengths shared i e (sum + w) (k + 1)
   growing_more sum k w s h q = record { left = rw (add-one k) (omega (arith, s.left, grown_first lengths shared k e h)) }
 

@@ -180,8 +180,3 @@ module _ (region score next : List ℕ) (i e : ℕ) where
               best_size = length-set best r m ∙ s.so_far.best_size;
             };
           }
-
-  pub tallying_end : (places best : List ℕ) (bits k : ℕ) → Tallying region score next i e places best bits k → e ≤ k → Tallied region score next (span i e) places best bits
-  tallying_end places best bits k s h =
-      let q : k ≡ e = omega (arith, s.within) in
-      rw q at s.so_far

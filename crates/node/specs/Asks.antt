@@ -3,14 +3,13 @@ use Rattle.std.specs.Prelude.{◌≡◌, List, ℕ, ◌+◌, ◌≤◌, ◌<◌,
 use Rattle.node.specs.declared.cursor.Cursor.{Cursor}
 use Rattle.node.specs.declared.Gathered.{Gathered}
 use Rattle.node.specs.declared.Work.{Work}
-use Rattle.node.specs.Columns.{IndexColumns, at, Grows, Placed, Spelt, Sized, InColumn, end_of, Ranks}
+use Rattle.node.specs.Columns.{IndexColumns, at, Placed, Sized, InColumn, end_of, Ranks}
 use Rattle.node.specs.declared.records.Served.{Served}
 use Rattle.node.specs.Visits.{places_at, On, Long, kept_of}
 
 -- ---- the cursor
 
 pub record StepAsks (lengths shared : List ℕ) (c : Cursor) (held kept : ℕ) : Type 0 where
-  pub grows : Grows lengths shared
   pub on : On lengths shared c
   pub low : c.number.0 < 100000
   pub fits : c.entries + held < 4294967296
@@ -24,8 +23,6 @@ pub record PassAsks (region next : List ℕ) (from to : ℕ) : Type 0 where
 pub record AdvanceAsks (t : IndexColumns) (c : Cursor) (g : Gathered) (s : Served) (w : Work) : Type 0 where
   pub step : StepAsks t.lengths t.shared c g.held (kept_of s)
   pub held : g.held ≤ 64
-  pub placed : Placed t.region
-  pub same : length t.region ≡ length t.lengths
   pub places : w.next ≡ places_at t.region c.stand.0
   pub long : Long w.above
 
@@ -36,8 +33,6 @@ abbrev pub Low : List ℕ → Type 0
 Low next = (r : ℕ) → r < 64 → at next r ≤ 1024
 
 pub record TallyAsks (t : IndexColumns) (first past : ℕ) (w : Work) : Type 0 where
-  pub placed : Placed t.region
-  pub scored : length t.score ≡ length t.region
   pub run : InColumn t.region first past
   pub low : Low w.next
   pub places_size : Sized w.places
@@ -49,9 +44,6 @@ pub record SettleAsks (best ranked : List ℕ) (held r : ℕ) : Type 0 where
   pub so_far : (l : List ℕ) × Ranks best l ranked held
 
 pub record GatherAsks (t : IndexColumns) (c : Cursor) (w : Work) : Type 0 where
-  pub placed : Placed t.region
-  pub scored : length t.score ≡ length t.region
-  pub same : length t.shared ≡ length t.region
   pub within : c.stand.0 ≤ length t.shared
   pub low : Low w.next
   pub places_size : Sized w.places
@@ -64,16 +56,13 @@ pub record LastAsks (text starts : List ℕ) (i l : ℕ) : Type 0 where
   pub short : l ≤ 24
   pub inside : 0 < l → (i < length starts) × (at starts i + l ≤ length text)
 
-pub record PastAsks (lengths shared : List ℕ) (c : Cursor) (e : ℕ) : Type 0 where
-  pub grows : Grows lengths shared
+pub record PastAsks (lengths : List ℕ) (c : Cursor) (e : ℕ) : Type 0 where
   pub run : InColumn lengths c.stand.0 e
   pub low : c.number.0 < 100000
   pub long : c.length ≤ at lengths c.stand.0
   pub some : c.stand.0 < length lengths → c.stand.0 < e
 
 pub record RowAsks (t : IndexColumns) (path : List ℕ) (c : Cursor) (e : ℕ) (s : Served) : Type 0 where
-  pub grows : Grows t.lengths t.shared
-  pub spelt : Spelt t.text t.starts t.lengths
   pub on : On t.lengths t.shared c
   pub low : c.number.0 < 100000
   pub size : length path ≡ 25

@@ -4,7 +4,6 @@ use Rattle.base.specs.Lists.{from_on, up_to, keep, each, total, largest, is_empt
 use Rattle.base.specs.Bits.{word_of}
 use Rattle.rules.specs.Places.{regions}
 use Rattle.rules.specs.Indexes.{Entry, ahead}
-use Rattle.node.specs.declared.Columns as lent
 
 abbrev pub at : List ℕ → ℕ → ℕ
 at l i = get_or l i 0
@@ -34,10 +33,6 @@ pub record IndexColumns : Type 0 where
 abbrev pub index_columns : List ℕ → List ℕ → List ℕ → List ℕ → List ℕ → List ℕ → IndexColumns
 index_columns text starts lengths shared region score =
     record { text = text; starts = starts; lengths = lengths; shared = shared; region = region; score = score }
-
--- the columns that a call is lent
-abbrev pub columns_of : lent.Columns → IndexColumns
-columns_of c = index_columns c.text.now c.starts.now c.lengths.now c.shared.now c.region.now c.score.now
 
 -- each name inside the text
 pub record Spelt (text starts lengths : List ℕ) : Type 0 where

@@ -1,7 +1,7 @@
 // The walk through the nodes in pre-order. A cursor is five numbers by value; what grows with it, what lies above it and each region's next
 // place in the stand order, is in the work beside it, so that counting carries no more of it than it needs.
 ghost use Rattle.std.specs.Prelude.{◌≡◌};
-ghost use Rattle.node.specs.Columns.{columns_of};
+ghost use Rattle.node.specs.Lent.{columns_of};
 ghost use Rattle.node.specs.Visits.{root_cursor, places_at, Stepped, Advanced};
 ghost use Rattle.node.specs.Asks.{StepAsks, PassAsks, AdvanceAsks};
 

@@ -2,35 +2,25 @@
 // `cursor` goes from node to node, `records` says whose bits serve one. The work for a node grows with its stands and its entries.
 #![tactic(auto)]
 
+pub mod columns;
 pub mod cursor;
 pub mod ranks;
 pub mod records;
 pub mod tally;
 
 ghost use Rattle.std.specs.Prelude.{◌≡◌, ◌≤◌};
-ghost use Rattle.node.specs.Columns.{columns_of};
+ghost use Rattle.node.specs.Lent.{columns_of};
 ghost use Rattle.node.specs.Rows.{last_of, past_number, Gathers, Rowed};
 ghost use Rattle.node.specs.Visits.{above_in};
 ghost use Rattle.node.specs.Asks.{GatherAsks, LastAsks, PastAsks, RowAsks};
 
+pub use columns::Columns;
 use cursor::Cursor;
 use ranks::ranks;
 use records::Served;
 use rules::layout::NODE_WORDS;
 use rules::{Grid, Node, Session, Stand};
 use tally::{end_of, grown, value_at};
-
-// The columns of a table, with a row for each stand: where its name begins in the text, how long the name is and how much of it the name
-// before has too, its region and its score.
-#[derive(Clone, Copy)]
-pub struct Columns<'a> {
-    pub text: &'a [u8],
-    pub starts: &'a [u32],
-    pub lengths: &'a [u8],
-    pub shared: &'a [u8],
-    pub region: &'a [u8],
-    pub score: &'a [u32],
-}
 
 // A number for each region.
 pub type Slots = [u32; Grid::REGIONS];
@@ -108,7 +98,7 @@ fn parent_of(path: &Path, length: u8) -> u32
 // The number past the subtree of the cursor's node: those under it are the longer ones of its first stand, and what the stands behind that
 // one add.
 fn past_number(columns: Columns, cursor: Cursor, past: Stand) -> Node
-    requires { PastAsks columns.lengths.now columns.shared.now cursor past.0 }
+    requires { PastAsks columns.lengths.now cursor past.0 }
     ensures { result.0 ≡ past_number columns.entry.lengths.now columns.entry.shared.now cursor.stand.0 cursor.length past.0 cursor.number.0 }
 {
     let stand = cursor.stand;

@@ -1,6 +1,7 @@
 // What lies under a node: where its stands end, how many nodes they make, and what each region holds of them.
 ghost use Rattle.std.specs.Prelude.{◌≡◌, ◌≤◌, ◌<◌, length};
-ghost use Rattle.node.specs.Columns.{columns_of, at, Grows, Placed, Ends, stands_under, grown_of, bits_among, RegionAt};
+ghost use Rattle.node.specs.Lent.{columns_of};
+ghost use Rattle.node.specs.Columns.{at, Placed, Ends, stands_under, grown_of, bits_among, RegionAt};
 ghost use Rattle.node.specs.Rows.{Tallies};
 ghost use Rattle.node.specs.Asks.{TallyAsks};
 
@@ -11,11 +12,7 @@ use rules::Stand;
 pub fn value_at(column: &[u8], stand: Stand) -> u8
     ensures { result ≡ at column.now stand.0 }
 {
-    let row = stand.0 as usize;
-    if column.len() <= row {
-        return 0;
-    }
-    column[row]
+    column.get(stand.0 as usize).copied().unwrap_or(0)
 }
 
 // The region of a stand.
@@ -45,7 +42,7 @@ pub fn end_of(shared: &[u8], stand: Stand, bytes: u8) -> Stand
 
 // How many nodes the stands from first on make, past not among them; none where first is past it.
 pub fn grown(columns: Columns, first: Stand, past: Stand) -> u32
-    requires { (Grows columns.lengths.now columns.shared.now) × (past.0 ≤ length columns.lengths.now) }
+    requires { past.0 ≤ length columns.lengths.now }
     ensures { result ≡ grown_of columns.entry.lengths.now columns.entry.shared.now first.0 past.0 }
 {
     let mut sum = 0;
@@ -58,7 +55,6 @@ pub fn grown(columns: Columns, first: Stand, past: Stand) -> u32
 // The regions of the stands under the node of a stand's first bytes, a bit for each; none past the end. Counting entries asks for no more,
 // so that the stands are gone through once.
 pub fn regions_under(columns: Columns, stand: Stand, bytes: u8) -> u64
-    requires { (Placed columns.region.now) × (length columns.shared.now ≡ length columns.region.now) }
     ensures { result ≡ bits_among columns.entry.region.now (stands_under columns.entry.shared.now stand.0 bytes) }
 {
     let first = stand.0 as usize;

@@ -9,8 +9,7 @@ use native.Mathlib.Omega.{arith}
 use native.Mathlib.Numerals.{add-one}
 use native.Mathlib.Nat.{add-zero}
 use lib.ListN.{length, take, drop, set, length-append, take-append-drop, drop_of_length-le, length-drop}
-use lib.Seq.{take_all, sets, length-sets, sets-eq, drop-drop, length-take-le, drop-cons, get_or-take}
-use borrow.Rule.Slice.PartMut.{put_mid}
+use lib.Seq.{take_all, sets, length-sets, sets-eq, drop-drop, length-take-le, drop-cons}
 use lib.Dec.{eqb}
 use Rattle.std.specs.List.{starts_with}
 use Rattle.base.specs.Lists.{each, begins}
@@ -94,12 +93,7 @@ module _ {room : List ℕ} {p : ℕ} {words rest : List ℕ} {q : ℕ} (f : From
 pub word_next : (w : List ℕ) (k : ℕ) → k < length w → Next (drop k w) (at w k ∷ []) (drop (k + 1) w)
 word_next w k h = record { is = rw (add-one k) (drop-cons w k 0 h) }
 
--- ---- by the library's own words
-
--- a part of a room that was written, and one that is compared
-pub put_over : (d : List ℕ) (p : ℕ) (w v : List ℕ) → v ≡ w → put_mid p (p + length w - p) d v ≡ over d p w
-unfolding over
-put_over d p w v e = let k : p + length w - p ≡ length w = omega arith in rw (e, k, drop-drop (length w) p d)
+-- ---- a part of a room that is compared, by the library's own words
 
 starts_begins : (w n : List ℕ) → starts_with eqb n w ≡ begins w n
 starts_begins [] n = refl
@@ -132,10 +126,6 @@ module _ (w : Work) (held : ℕ) (size : Sized w.ranked) (few : held ≤ 64) whe
 
   held_size : length ranked ≡ held
   held_size = length-take-le held w.ranked (omega arith)
-
-  -- a ranked region is a region
-  pub slots_small : (k : ℕ) → ((i : ℕ) → i < held → at w.ranked i < 64) → k < length ranked → at ranked k < 64
-  slots_small k small h = let lt : k < held = omega (arith, held_size) in rw (get_or-take held w.ranked k 0 lt) (small k lt)
 
   pub slots_filled : {d : List ℕ} {p q : ℕ} → q ≡ p → p + held * 4 ≤ length d
       → Filled d p (entry_rows (entries_held w held)) d (slots_from w held 0) q

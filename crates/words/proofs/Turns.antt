@@ -14,20 +14,20 @@ use Rattle.std.specs.Prelude.{Some, None}
 use Rattle.node.specs.declared.Gathered.{Gathered}
 use Rattle.node.specs.declared.Work.{Work}
 use Rattle.node.specs.declared.records.Served.{Served}
-use Rattle.node.specs.Columns.{IndexColumns}
+use Rattle.node.specs.Columns.{IndexColumns, LawfulColumns}
 use Rattle.node.specs.Visits.{places_at, Long, served_in, kept_of, Stepped, Advanced}
 use Rattle.node.specs.Rows.{bits_at, entries_at, row_at, Gathers, Rowed}
 use Rattle.node.specs.Asks.{Low, GatherAsks, RowAsks, AdvanceAsks}
 use Rattle.node.proofs.Placing.{next_small}
 use Rattle.words.specs.Over.{over}
-use Rattle.words.specs.Words.{entry_rows, entries_held, served_at, trail_past, row_of, kept_words, own_record, Rooms, visit_of, trail_of, Scratch, TurnAsks, Moved, Wrote, has_node, Compares}
+use Rattle.words.specs.Words.{entry_rows, entries_held, served_at, trail_past, row_of, kept_words, own_record, Rooms, visit_of, trail_of, Scratch, Standing, Moved, Wrote, has_node, Compares}
 use Rattle.words.proofs.Walks.{length-row, long_still, served_one}
 
-module _ {t : IndexColumns} {c : Cursor} {u : Work} (asks : TurnAsks t c u) where
-  pub gather_asks : GatherAsks t c u
-  gather_asks =
+module _ {t : IndexColumns} {c : Cursor} {u : Work} (asks : Standing t c u) where
+  pub gather_asks : LawfulColumns t → GatherAsks t c u
+  gather_asks l =
       let low : Low u.next =
-      λ r h. next_small t.region u.next c.stand.0 r asks.lawful.placed asks.standing.next_is (omega (arith, asks.standing.on.within, asks.lawful.same)) h in
+      λ r h. next_small t.region u.next c.stand.0 r l.placed asks.next_is (omega (arith, asks.on.within, l.same)) h in
       search rules
 
   -- w is what gathering leaves of u
@@ -39,8 +39,8 @@ module _ {t : IndexColumns} {c : Cursor} {u : Work} (asks : TurnAsks t c u) wher
     served_now : s ≡ served_at t (trail_of c u) (visit_of c)
     served_now = rw (k.kept.1, bits_now) at f
 
-    pub row-asks : RowAsks t w.above.numbers c g.past.0 s
-    row-asks = let one = rw (← served_now) at (served_one t (trail_of c u) (visit_of c)) in rw k.kept.1 (search rules)
+    pub row-asks : LawfulColumns t → RowAsks t w.above.numbers c g.past.0 s
+    row-asks l = let one = rw (← served_now) at (served_one t (trail_of c u) (visit_of c)) in rw k.kept.1 (search rules)
 
     -- what `row` gives
     abbrev pub RowHere : List ℕ → Type 0
@@ -55,11 +55,11 @@ module _ {t : IndexColumns} {c : Cursor} {u : Work} (asks : TurnAsks t c u) wher
 
     pub own_now : entries_held w g.held ≡ entries_at t (visit_of c)
     unfolding entries_at
-    own_now = rw (k.kept.0, ← asks.standing.next_is) k.entries
+    own_now = rw (k.kept.0, ← asks.next_is) k.entries
 
     pub count_now : g.held ≡ length (entries_at t (visit_of c))
     unfolding entries_at
-    count_now = rw (← asks.standing.next_is) k.count
+    count_now = rw (← asks.next_is) k.count
 
     pub record_now : kept_words s.own g.bits ≡ own_record t (trail_of c u) (visit_of c)
     record_now = rw (served_now, bits_now)
@@ -67,8 +67,8 @@ module _ {t : IndexColumns} {c : Cursor} {u : Work} (asks : TurnAsks t c u) wher
     pub advance_asks : AdvanceAsks t c g s w
     advance_asks =
         let one = rw (← served_now) at (served_one t (trail_of c u) (visit_of c)) in
-        let places : w.next ≡ places_at t.region c.stand.0 = k.kept.0 ∙ asks.standing.next_is in
-        let long : Long w.above = rw k.kept.1 asks.standing.scratch.long in
+        let places : w.next ≡ places_at t.region c.stand.0 = k.kept.0 ∙ asks.next_is in
+        let long : Long w.above = rw k.kept.1 asks.scratch.long in
         search rules
 
     module _ {w' : Work} {r : Cursor} (a : Advanced t c g s w w' r) where
@@ -82,7 +82,7 @@ module _ {t : IndexColumns} {c : Cursor} {u : Work} (asks : TurnAsks t c u) wher
       scratch_now : Scratch w'
       scratch_now =
           record {
-            long = rw (a.path, k.kept.1) (long_still u.above c.length c.number.0 s.number g.bits asks.standing.scratch.long);
+            long = rw (a.path, k.kept.1) (long_still u.above c.length c.number.0 s.number g.bits asks.scratch.long);
             places_size = rw a.slots.0 k.places_size;
             best_size = rw a.slots.1 k.best_size;
             ranked_size = rw a.slots.2 k.ranked_size;

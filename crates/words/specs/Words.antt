@@ -9,7 +9,7 @@ use Rattle.node.specs.declared.cursor.Cursor.{Cursor}
 use Rattle.node.specs.declared.records.Served.{Served}
 use Rattle.node.specs.declared.Above.{Above}
 use Rattle.node.specs.declared.Work.{Work}
-use Rattle.node.specs.Columns.{IndexColumns, LawfulColumns, Grows, Placed, at, end_of, regions_among, bits_among, entries_from, Sized}
+use Rattle.node.specs.Columns.{IndexColumns, at, end_of, regions_among, bits_among, entries_from, Sized}
 use Rattle.node.specs.Visits.{Visit, visits_from, places_at, On, Stepped, above_of, Long, on_path, above_in, keeps_in, served_in, kept_of, halves_of}
 use Rattle.node.specs.Rows.{stands_at, bits_at, entries_at, row_at}
 use Rattle.words.specs.Over.{over}
@@ -117,12 +117,7 @@ rooms_of nodes entries bits = record { nodes = nodes; entries = entries; bits = 
 abbrev pub rooms_in : lent.Index → Rooms
 rooms_in x = rooms_of x.nodes.now x.entries.now x.bits.now
 
--- ---- what counting, writing and checking ask, and what they leave
-
-pub record CountAsks (t : IndexColumns) : Type 0 where
-  pub grows : Grows t.lengths t.shared
-  pub placed : Placed t.region
-  pub same : length t.region ≡ length t.lengths
+-- ---- what writing asks, and what counting, writing and checking leave
 
 pub record Counted (t : IndexColumns) (s : Sizes) : Type 0 where
   pub nodes : s.nodes ≡ node_count_of t
@@ -130,7 +125,6 @@ pub record Counted (t : IndexColumns) (s : Sizes) : Type 0 where
   pub records : s.bits ≡ record_count_of t
 
 pub record WriteAsks (t : IndexColumns) (all : ℕ) (rooms : Rooms) : Type 0 where
-  pub lawful : LawfulColumns t
   pub count : all ≡ node_count_of t
   pub row_room : node_count_of t * 8 ≤ length rooms.nodes
   pub entry_room : entry_count_of t * 4 ≤ length rooms.entries
@@ -187,10 +181,6 @@ pub record Standing (t : IndexColumns) (c : Cursor) (w : Work) : Type 0 where
   pub next_is : w.next ≡ places_at t.region c.stand.0
   pub scratch : Scratch w
 
-pub record TurnAsks (t : IndexColumns) (c : Cursor) (w : Work) : Type 0 where
-  pub lawful : LawfulColumns t
-  pub standing : Standing t c w
-
 -- r is the cursor past c, and what is lent beside it is right for r
 pub record Moved (t : IndexColumns) (c : Cursor) (w : Work) (r : Cursor) (w' : Work) : Type 0 where
   pub stepped : Stepped t.lengths t.shared c (length (entries_at t (visit_of c))) (kept_of (served_at t (trail_of c w) (visit_of c))) r
@@ -212,7 +202,7 @@ pub record Wrote (t : IndexColumns) (c : Cursor) (w : Work) (rooms rooms' : Room
 
 -- what writing a node asks, and what it leaves
 pub record PutAsks (t : IndexColumns) (c : Cursor) (w : Work) (rooms : Rooms) : Type 0 where
-  pub turn : TurnAsks t c w
+  pub standing : Standing t c w
   pub room : Room t c w rooms
 
 pub record PutTurn (t : IndexColumns) (c : Cursor) (w : Work) (r : Cursor) (w' : Work) (rooms rooms' : Rooms) : Type 0 where

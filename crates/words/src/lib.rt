@@ -7,9 +7,9 @@ pub mod rooms;
 pub mod turn;
 
 ghost use Rattle.std.specs.Prelude.{◌≡◌, length};
-ghost use Rattle.node.specs.Columns.{columns_of, Grows, LawfulColumns};
+ghost use Rattle.node.specs.Lent.{columns_of};
 ghost use Rattle.node.specs.Visits.{visits_from};
-ghost use Rattle.words.specs.Words.{rooms_of, rooms_in, CountAsks, Counted, WriteAsks, WroteAll, ComparesAll};
+ghost use Rattle.words.specs.Words.{rooms_of, rooms_in, Counted, WriteAsks, WroteAll, ComparesAll};
 
 use node::cursor::{root, step};
 use node::records::keeps;
@@ -22,7 +22,6 @@ use turn::{check_node, write_node};
 
 // How many nodes.
 pub fn count_nodes(columns: Columns) -> u32
-    requires { Grows columns.lengths.now columns.shared.now }
     ensures { result ≡ length (visits_from columns.entry.lengths.now columns.entry.shared.now 0 0) }
 {
     let stands = columns.lengths.len() as u32;
@@ -31,7 +30,6 @@ pub fn count_nodes(columns: Columns) -> u32
 
 // How many nodes, entries and bit records.
 pub fn count(columns: Columns) -> Sizes
-    requires { CountAsks (columns_of columns) }
     ensures { Counted (columns_of columns.entry) result }
 {
     let all = count_nodes(columns);
@@ -77,7 +75,6 @@ pub fn write(columns: Columns, all: u32, nodes: &mut [u32], entries: &mut [u32],
 
 // How many nodes, entries and bit records there are, if an index begins with all words of them.
 pub fn check(columns: Columns, index: Index) -> Option<Sizes>
-    requires { LawfulColumns (columns_of columns) }
     ensures { ComparesAll (columns_of columns.entry) (rooms_in index.entry) result }
 {
     let all = count_nodes(columns);

@@ -1,7 +1,7 @@
 // One turn of building and of checking: the node at the cursor is gathered, its words put into the rooms or compared with them, and
 // the cursor moved on.
-ghost use Rattle.node.specs.Columns.{columns_of};
-ghost use Rattle.words.specs.Words.{rooms_of, rooms_in, TurnAsks, PutAsks, PutTurn, Compares};
+ghost use Rattle.node.specs.Lent.{columns_of};
+ghost use Rattle.words.specs.Words.{rooms_of, rooms_in, Standing, PutAsks, PutTurn, Compares};
 
 use crate::rooms::{has_entries, has_record, has_words, put_entries, put_record, put_words};
 use node::cursor::Cursor;
@@ -35,7 +35,7 @@ pub fn write_node(
 
 // The cursor past the node, if the index has its words.
 pub fn check_node(columns: Columns, cursor: Cursor, work: &mut Work, index: Index) -> Option<Cursor>
-    requires { TurnAsks (columns_of columns) cursor work.old }
+    requires { Standing (columns_of columns) cursor work.old }
     ensures { Compares (columns_of columns.entry) cursor work.old work.new (rooms_in index.entry) result }
 {
     let gathered = work.gather(columns, cursor);

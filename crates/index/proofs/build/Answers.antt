@@ -30,10 +30,10 @@ slice_bounds-shares-end c = let l = granted _ _ _ c.table_refusal.ensures c.in_o
 pub slice_bounds-regions-end : goal.slice_bounds-regions-end
 slice_bounds-regions-end c = let l = granted _ _ _ c.table_refusal.ensures c.in_ok-table_refusal.was in search rules
 
-pub put_index-requires : goal.put_index-requires
-put_index-requires c =
+pub invariant_of-columns : goal.invariant_of-columns
+invariant_of-columns c =
     let l = granted _ _ _ c.table_refusal.ensures c.in_ok-table_refusal.was in
-    rw (columns_are _ _ l _ c.lengths-lengths.ensures c.shares-shares.ensures c.regions-regions.ensures) (columns_lawful _ _ l)
+    record { lawful = rw (columns_are _ _ l _ c.lengths-lengths.ensures c.shares-shares.ensures c.regions-regions.ensures) (columns_lawful _ _ l) }
 
 pub returns : goal.returns
 returns c =

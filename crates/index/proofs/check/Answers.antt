@@ -26,10 +26,10 @@ slice_bounds-shares-end c = let l = granted_some _ _ _ c.table_refusal.ensures c
 pub slice_bounds-regions-end : goal.slice_bounds-regions-end
 slice_bounds-regions-end c = let l = granted_some _ _ _ c.table_refusal.ensures c.ok.ensures.value c.in_ok-ok.was in search rules
 
-pub has_index-requires : goal.has_index-requires
-has_index-requires c =
+pub invariant_of-columns : goal.invariant_of-columns
+invariant_of-columns c =
     let l = granted_some _ _ _ c.table_refusal.ensures c.ok.ensures.value c.in_ok-ok.was in
-    rw (columns_are _ _ l _ c.lengths-lengths.ensures c.shares-shares.ensures c.regions-regions.ensures) (columns_lawful _ _ l)
+    record { lawful = rw (columns_are _ _ l _ c.lengths-lengths.ensures c.shares-shares.ensures c.regions-regions.ensures) (columns_lawful _ _ l) }
 
 pub returns : goal.returns
 returns c =

@@ -6,7 +6,7 @@ use Rattle.words.proofs.check.Goals as goal
 
 pub loop-here-init : goal.loop-here-init
 loop-here-init c =
-    let p = c.requires in
+    let p = c.args.columns.lawful in
     let r = c.root-here.ensures in
     let places = c.places_of.ensures in
     checking (root-trail c.places_of.result r) r p c.count_nodes-all.ensures (carrying p r c.count_nodes-all.ensures places)

@@ -1,6 +1,6 @@
 -- What the loop of `check` keeps.
 use Prim.Native.Nat.{◌-◌}
-use Rattle.node.specs.Columns.{columns_of}
+use Rattle.node.specs.Lent.{columns_of}
 use Rattle.words.specs.Words.{rooms_in}
 use Rattle.words.proofs.Checks.{Checking}
 use Rattle.words.proofs.check.Given as goal

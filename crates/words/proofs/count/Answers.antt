@@ -7,7 +7,7 @@ use Rattle.words.proofs.Walks.{counting, held_is, counting_more}
 use Rattle.words.proofs.count.Goals as goal
 
 pub loop-cursor-init : goal.loop-cursor-init
-loop-cursor-init c = let p = c.requires in counting c.root-cursor.ensures p.grows c.count_nodes-all.ensures
+loop-cursor-init c = counting c.root-cursor.ensures c.args.columns.lawful.grows c.count_nodes-all.ensures
 
 pub loop-cursor-preserved : goal.loop-cursor-preserved
 loop-cursor-preserved c =

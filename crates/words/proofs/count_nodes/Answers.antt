@@ -6,7 +6,7 @@ use Rattle.words.proofs.Walks.{node_count_lem}
 use Rattle.words.proofs.count_nodes.Goals as goal
 
 pub overflow_add-result : goal.overflow_add-result
-overflow_add-result c = omega (arith, c.grown.ensures, grown_small _ _ c.requires 0 (length c.args.columns.lengths.now) (omega arith))
+overflow_add-result c = omega (arith, c.grown.ensures, grown_small _ _ c.args.columns.lawful.grows 0 (length c.args.columns.lengths.now) (omega arith))
 
 pub returns : goal.returns
-returns c = omega (arith, c.grown.ensures, node_count_lem _ _ c.requires)
+returns c = omega (arith, c.grown.ensures, node_count_lem _ _ c.args.columns.lawful.grows)

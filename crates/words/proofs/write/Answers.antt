@@ -8,13 +8,13 @@ loop-cursor-init c =
     let p = c.requires in
     let r = c.root-cursor.ensures in
     let places = c.places_of.ensures in
-    writing (root-trail c.places_of.result r) r p (carrying p.lawful r p.count places)
+    writing (root-trail c.places_of.result r) r p (carrying c.args.columns.lawful r p.count places)
 
 pub write_node-cursor-requires : goal.write_node-cursor-requires
 write_node-cursor-requires c =
     let s = c.loop-cursor.invariant in
     let lt = c.loop-cursor-test.true in
-    record { turn = record { lawful = c.requires.lawful; standing = standing s.carried lt }; room = writing_room s lt }
+    record { standing = standing s.carried lt; room = writing_room s lt }
 
 pub loop-cursor-preserved : goal.loop-cursor-preserved
 loop-cursor-preserved c = writing_more c.loop-cursor.invariant c.loop-cursor-test.true c.write_node-cursor.ensures

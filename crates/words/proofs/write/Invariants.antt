@@ -1,6 +1,6 @@
 -- What the loop of `write` keeps.
 use Prim.Native.Nat.{◌-◌}
-use Rattle.node.specs.Columns.{columns_of}
+use Rattle.node.specs.Lent.{columns_of}
 use Rattle.words.specs.Words.{rooms_of}
 use Rattle.words.proofs.Writes.{Writing}
 use Rattle.words.proofs.write.Given as goal

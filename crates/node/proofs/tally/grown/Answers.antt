@@ -8,7 +8,7 @@ pub overflow_add-sum : goal.overflow_add-sum
 overflow_add-sum c =
     omega (
       arith,
-      growing_fits _ _ _ _ _ _ _ c.requires.0 (search rules) c.loop-stand.invariant (search rules) c.from-sum.ensures,
+      growing_fits _ _ _ _ _ _ _ c.args.columns.lawful.grows (search rules) c.loop-stand.invariant (search rules) c.from-sum.ensures,
     )
 
 pub loop-stand-preserved : goal.loop-stand-preserved

@@ -4,7 +4,7 @@ use Rattle.words.proofs.Turns.{gather_asks, row_differs, entries_differ, record_
 use Rattle.words.proofs.turn.check_node.Goals as goal
 
 pub gather-gathered-requires : goal.gather-gathered-requires
-gather-gathered-requires c = gather_asks c.requires
+gather-gathered-requires c = gather_asks c.requires c.args.columns.lawful
 
 pub returns-then-not-has_words : goal.returns-then-not-has_words
 returns-then-not-has_words c = row_differs c.requires c.gather-gathered.ensures c.serve-served.ensures c.row-words.ensures (sym c.has_words.ensures ∙ c.if-not-has_words.true)

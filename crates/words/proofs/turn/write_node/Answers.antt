@@ -7,20 +7,20 @@ use Rattle.words.proofs.Turns.{gather_asks, count_now, record_now, moved, wrote}
 use Rattle.words.proofs.turn.write_node.Goals as goal
 
 pub gather-gathered-requires : goal.gather-gathered-requires
-gather-gathered-requires c = gather_asks c.requires.turn
+gather-gathered-requires c = gather_asks c.requires.standing c.args.columns.lawful
 
 pub put_entries-requires : goal.put_entries-requires
 put_entries-requires c =
     let g = c.gather-gathered.ensures in
-    (search rules, omega (arith, c.requires.room.entry_room, count_now c.requires.turn g c.serve-served.ensures))
+    (search rules, omega (arith, c.requires.room.entry_room, count_now c.requires.standing g c.serve-served.ensures))
 
 pub put_record-requires : goal.put_record-requires
 put_record-requires c =
-    omega (arith, c.requires.room.record_room, ap length (record_now c.requires.turn c.gather-gathered.ensures c.serve-served.ensures))
+    omega (arith, c.requires.room.record_room, ap length (record_now c.requires.standing c.gather-gathered.ensures c.serve-served.ensures))
 
 pub returns : goal.returns
 returns c =
-    let p = c.requires.turn in
+    let p = c.requires.standing in
     let g = c.gather-gathered.ensures in
     record {
       moved = moved p g c.serve-served.ensures c.advance.ensures;
