@@ -20,6 +20,8 @@ fn shared_before(table: Table, stand: usize) -> u8
 
 // Stays: three columns by three loops. One function with a closure for the row is no plainer, since its contract would have to say for which
 // stands the closure may be called and what it gives there.
+// Each is inlined: called, it would have its column on the stack, and so would its caller.
+#[inline(always)]
 pub fn lengths(table: Table) -> [u8; Stand::MOST]
     requires { Spelled table.text.now table.starts.now (length table.score.now) }
     ensures { take (length table.entry.score.now) result ≡ lengths_in table.entry.text.now table.entry.starts.now (length table.entry.score.now) }
@@ -32,6 +34,7 @@ pub fn lengths(table: Table) -> [u8; Stand::MOST]
     column
 }
 
+#[inline(always)]
 pub fn shares(table: Table) -> [u8; Stand::MOST]
     requires { Spelled table.text.now table.starts.now (length table.score.now) }
     ensures { take (length table.entry.score.now) result ≡ shares_in table.entry.text.now table.entry.starts.now (length table.entry.score.now) }
@@ -43,6 +46,7 @@ pub fn shares(table: Table) -> [u8; Stand::MOST]
     column
 }
 
+#[inline(always)]
 pub fn regions(table: Table, grid: Grid) -> [u8; Stand::MOST]
     requires { Located table.east.now table.north.now grid }
     ensures { take (length table.entry.east.now) result ≡ regions_over table.entry.east.now table.entry.north.now grid }

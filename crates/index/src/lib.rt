@@ -49,7 +49,8 @@ pub fn check(table: Table, grid: Grid, index: Index) -> Option<Sizes>
     ensures { checked_numbers result ≡ check_told (lent_table table.entry) grid (lent_index index.entry) }
 {
     table_refusal(table, grid).ok()?;
-    // Stays: fixed memory: what hands out arrays has them on the stack twice, so build and check each make the columns in place.
+    // Stays, with the same lines in build: columns lend arrays of the function that makes them. One that made them for both would be handed
+    // what is done with them as a closure, and promise what that does, which is no plainer.
     let stands = table.score.len();
     let lengths = lengths(table);
     let shares = shares(table);

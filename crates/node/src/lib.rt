@@ -47,6 +47,7 @@ pub struct Work {
     pub above: Above,
     pub places: Slots,
     pub best: Slots,
+    // Stays: how many are held is told beside it (`Gathered`), since a Vec would want a heap.
     pub ranked: Slots,
 }
 

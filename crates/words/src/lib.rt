@@ -78,6 +78,7 @@ pub fn check(columns: Columns, index: Index) -> Option<Sizes>
     ensures { ComparesAll (columns_of columns.entry) (rooms_in index.entry) result }
 {
     let all = count_nodes(columns);
+    // Stays: fixed memory, as in `write`.
     let mut work = Work {
         next: places_of(columns.region),
         above: Above {
