@@ -10,6 +10,7 @@ ghost use Rattle.table.specs.Parts.{Spans, RestSpans, Rest};
 use rules::Stand;
 
 // A part of the text: where it begins, and past its end.
+// Stays: no Range, since the C interface answers with these two numbers, and this may be copied.
 #[derive(Clone, Copy)]
 pub struct Span {
     pub from: usize,
@@ -108,6 +109,7 @@ pub fn in_order(a: &[u8], b: &[u8]) -> bool
     }
 }
 
+// Stays, here and below: text and starts alone, since the C interface lends them so for the rest of a name.
 // Where a stand's name lies.
 fn name_span(text: &[u8], starts: &[u32], stand: Stand) -> Span
     ensures { Spans (given text) (given starts) stand.0 result }
