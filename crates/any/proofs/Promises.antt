@@ -33,7 +33,7 @@ use Rattle.runs.specs.declared.Runs.{Runs}
 use Rattle.runs.specs.Runs.{easts, norths, stands_there, met_by, met_at}
 use Rattle.runs.specs.Sights.{inside, sighted, known}
 use Rattle.runs.specs.Promises.{Answers}
-use Rattle.runs.proofs.Promises.{met-kept}
+use Rattle.runs.proofs.Promises.{look-kept}
 use Rattle.any.specs.Scans.{first_seen}
 use Rattle.any.specs.Promises.{AnyFrom}
 
@@ -59,7 +59,7 @@ module _ (east north : List ℤ) (rect : Rect) where
 -- by what the question begins with
 module _ (t : Table) (g : Grid) (x : Index) (at : Listed) (r : Rect) (edges : Edges r) (met : Result (Option Runs) Refusal) (is : met_by met ≡ met_at t g x at r) where
   pub kept : (o : AnyTold) → Answers any_outcome refusing_any r (met_by met) o → AnyFrom t g x at r o
-  kept o = met-kept any_outcome refusing_any any_refused t.east t.north g x.order x.entries r o edges at (met_by met) is
+  kept o = look-kept any_outcome refusing_any any_refused t.east t.north g x.order x.entries r o edges at (met_by met) is
 
   pub from_runs : (runs : Runs) → met ≡ Ok (Some runs) → (a : Result (Option Stand) Refusal) → a ≡ first_seen (easts runs) (norths runs) r (stands_there runs) → AnyFrom t g x at r (any_numbers a)
   from_runs runs e a f =

@@ -31,7 +31,7 @@ use Rattle.runs.specs.declared.Runs.{Runs}
 use Rattle.runs.specs.Runs.{easts, norths, stands_there, met_by, met_at}
 use Rattle.runs.specs.Sights.{inside, known}
 use Rattle.runs.specs.Promises.{Sees, Answers}
-use Rattle.runs.proofs.Promises.{met-kept}
+use Rattle.runs.proofs.Promises.{look-kept}
 use Rattle.range.specs.Fetches.{looked}
 use Rattle.range.specs.Promises.{RangeFrom}
 
@@ -53,7 +53,7 @@ sees-looked east north rect seen room = record { exact = λ q. rw q; harmless = 
 -- by what the question begins with
 module _ (t : Table) (g : Grid) (x : Index) (at : Listed) (r : Rect) (edges : Edges r) (room : List ℕ) (met : Result (Option Runs) Refusal) (is : met_by met ≡ met_at t g x at r) where
   pub kept : (o : Outcome) → Answers (λ n list. range_outcome n list (room ∷ [])) (λ n. refused n (room ∷ [])) r (met_by met) o → RangeFrom t g x at r (room ∷ []) o
-  kept o = met-kept (λ n list. range_outcome n list (room ∷ [])) (λ n. refused n (room ∷ [])) (λ n list some. settled-refused n _ _ _ _ _ some)
+  kept o = look-kept (λ n list. range_outcome n list (room ∷ [])) (λ n. refused n (room ∷ [])) (λ n list some. settled-refused n _ _ _ _ _ some)
       t.east t.north g x.order x.entries r o edges at (met_by met) is
 
   pub from_runs : (runs : Runs) → met ≡ Ok (Some runs) → (o : Outcome) → o ≡ looked (easts runs) (norths runs) r (stands_there runs) room → RangeFrom t g x at r (room ∷ []) o

@@ -112,9 +112,9 @@ module _ {Out : Type 0} (comes_to : ℕ → List ℕ → Out) (refused : ℕ →
     at_exact (Ok None) l w = w ∙ ap (comes_to 0) (sym (none_ranged t g p r (nowhere_none t g p (sym l.listing))))
     at_exact (Err e) l w = absurd (never_broken t g p (sym l.listing))
 
-  pub met-kept : Edges r → (at : listings.Listed) (met : Met) → met ≡ look_met east north order entries (look_at g entries at r) → Answers comes_to refused r met o
+  pub look-kept : Edges r → (at : listings.Listed) (met : Met) → met ≡ look_met east north order entries (look_at g entries at r) → Answers comes_to refused r met o
       → RectFrom comes_to (refused 7) east north g order entries at r o
-  met-kept edges at met e w =
+  look-kept edges at met e w =
       let there : answers (look_at g entries at r) = subst (λ (m : Met). Answers comes_to refused r m o) e w in
       cases (rect_lawful r)
       (λ straight.
