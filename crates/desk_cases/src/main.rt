@@ -11,6 +11,7 @@ use std::io;
 const INPUT_ROOM: usize = Reading::BYTES_MOST + 1;
 
 // The answer to the first so many bytes.
+// Stays: fixed memory. The rooms are made here as in the desk program, since what hands them out has some 90 KB on the stack twice.
 fn print_answer(rt: &impl Print, room: &[u8], count: usize) -> io::Result<()> {
     if room.len() < count {
         return Ok(());

@@ -16,6 +16,8 @@ pub fn value_at(column: &[u8], stand: Stand) -> u8
 }
 
 // The region of a stand.
+// Stays, here and in the stand order: Placed asked of a column, and not said by its type. Given all columns, the promises, which say no more
+// than `region.now` (RegionAt, counts_of, places_at), would have to name the others.
 pub fn region_at(region: &[u8], stand: Stand) -> usize
     requires { (Placed region.now) × (stand.0 < length region.now) }
     ensures { RegionAt region.now stand.0 result }
