@@ -116,6 +116,7 @@ const EVERY_ROW: u64 = 0x0101_0101_0101_0101;
 const HALF: u64 = 4_294_967_296;
 
 // Columns or rows from first on, past not among them.
+// Stays: no Range, since it is copied, and its masks are methods.
 #[derive(Clone, Copy)]
 struct Span {
     first: u32,

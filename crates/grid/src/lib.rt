@@ -22,7 +22,8 @@ const LAST: u32 = Grid::SIDE - 1;
 const ROW_SHIFT: u32 = u32::trailing_zeros(Grid::SIDE);
 
 // Stays, here and in `cells`: an edge and the side of a cell for an axis. A struct is no plainer, since one would be made of the grid for
-// each of its two, and a side over 0 is known of a lawful grid alone.
+// each of its two, and a side over 0 is known of a lawful grid alone. And a lawful grid is asked for by three and has no type of its own,
+// since the C interface lends any grid, and each call judges it.
 
 // Refusal 2 is for a grid that is not lawful.
 pub fn lawful(grid: Grid) -> bool
