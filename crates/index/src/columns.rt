@@ -19,7 +19,8 @@ fn shared_before(table: Table, stand: usize) -> u8
 }
 
 // Stays: three columns by three loops. One function with a closure for the row is no plainer, since its contract would have to say for which
-// stands the closure may be called and what it gives there.
+// stands the closure may be called and what it gives there. Nor is a table a type of its own where its names are spelled, which only these
+// ask for.
 // Each is inlined: called, it would have its column on the stack, and so would its caller.
 #[inline(always)]
 pub fn lengths(table: Table) -> [u8; Stand::MOST]
