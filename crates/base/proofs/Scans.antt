@@ -1,6 +1,6 @@
--- A loop that tests one thing after the other and leaves at the first that fails: what is still to test decides.
--- Scanning is its invariant over the numbers below n, Reading over the elements of a list. Assumes nothing.
-use Prim.Native.Nat.{ℕ, zero, suc, ◌+◌, ◌-◌, ◌≤◌, ◌<◌}
+-- One test of many things: all pass where each does, over the numbers below n and over the elements of a list.
+-- Reading is the invariant of a loop over the elements that leaves at the first that fails. Assumes nothing.
+use Prim.Native.Nat.{ℕ, zero, suc, ◌+◌, ◌≤◌, ◌<◌}
 use mathlib.Core.Path.{◌≡◌, refl, sym, ap, ◌∙◌}
 use mathlib.Core.Bool.{Bool, true, false, ◌&&◌}
 use mathlib.Core.List.{List, [], ◌∷◌, ◌++◌}
@@ -69,26 +69,6 @@ begins_all (a ∷ p) [] h = absurd (omega arith)
 begins_all (a ∷ p) (b ∷ n) h =
     let test : ℕ → Bool = λ i. eqb (get_or (a ∷ p) i 0) (get_or (b ∷ n) i 0) in
     ap (λ r. eqb a b && r) (ap (all test) (from_shift 0 (length p)) ∙ all-each test suc (up_to (length p)) ∙ begins_all p n (omega arith))
-
-pub record Scanning (p : ℕ → Bool) (n i : ℕ) : Type 0 where
-  pub within : i ≤ n
-  pub rest : all p (up_to n) ≡ all p (from_on i (n - i))
-
-module _ (p : ℕ → Bool) (n : ℕ) where
-  pub begin : Scanning p n 0
-  begin = let e : n - 0 ≡ n = omega arith in record { within = omega arith; rest = rw e }
-
-  next : (i : ℕ) → i < n → Scanning p n i → all p (up_to n) ≡ p i && all p (from_on (i + 1) (n - (i + 1)))
-  next i h s = let e : n - i ≡ suc (n - (i + 1)) = omega arith in s.rest ∙ rw (e, add-one)
-
-  pub pass : (i : ℕ) → i < n → p i ≡ true → Scanning p n i → Scanning p n (i + 1)
-  pass i h t s = record { within = omega arith; rest = next i h s ∙ rw t }
-
-  pub fail : (i : ℕ) → i < n → p i ≡ false → Scanning p n i → all p (up_to n) ≡ false
-  fail i h t s = next i h s ∙ rw t
-
-  pub finish : (i : ℕ) → n ≤ i → Scanning p n i → all p (up_to n) ≡ true
-  finish i h s = let e : n - i ≡ 0 = omega arith in s.rest ∙ rw e
 
 pub record Reading (p : ℕ → Bool) (l : List ℕ) (i : ℕ) : Type 0 where
   pub within : i ≤ length l

@@ -1,12 +1,12 @@
 -- Signed metres as the machine holds them: what is read back, lifting by 2 ^ 31, differences, signs and floor division.
 -- Assumes nothing.
-use Rattle.std.proofs.Common.{◌≡◌, ℕ, zero, suc, ◌-◌, ◌/◌, ◌<◌, ◌≤◌, Bool, cond, not, ltb, leb, ℤ, pos, negsuc, ◌+ℤ◌, ◌-ℤ◌, neg_ℤ, sym, refl, ap, ◌∙◌, ⊎_elim, div-le_self, arith, to_z-of_z, w32, w64, Fits, SFits, to_z, of_z, ltb-false, ltb-true, le-ltb, lt-ltb, le-leb}
+use Rattle.std.proofs.Common.{◌≡◌, ℕ, zero, suc, ◌-◌, ◌/◌, ◌<◌, ◌≤◌, Bool, cond, not, ltb, leb, ℤ, pos, negsuc, ◌+ℤ◌, ◌-ℤ◌, neg_ℤ, sym, refl, ap, ◌∙◌, ⊎_elim, div-le_self, arith, to_z-of_z, w32, w64, SFits, to_z, of_z, ltb-false, ltb-true, le-ltb, lt-ltb, le-leb}
 use native.Mathlib.Nat.{zero-div}
 use lib.IntN.{sub_ℕ}
 use lib.Signed.{lt_z, le_z, quot_z}
 use borrow.Table.Steps.{cases}
 use borrow.Author.Tests.{lt-leb}
-use mir.Facts.{sfits_widen, to_z_pos}
+use mir.Facts.{sfits_widen}
 use Rattle.base.proofs.Tests.{le_or_lt}
 use Rattle.rules.specs.Places.{lifted}
 
@@ -96,9 +96,6 @@ one_down (suc n) = ap negsuc (omega arith)
 pub neg_fits : (n : ℕ) → n < 9223372036854775808 → SFits w64 (neg_ℤ (pos n))
 neg_fits zero h = record { sfits = omega arith }
 neg_fits (suc n) h = record { sfits = omega arith }
-
-pub quotient : (n c : ℕ) → n < 9223372036854775808 → Fits w32 c → quot_z (to_z w64 (of_z w64 (negsuc n +ℤ pos 1))) (to_z w64 c) ≡ neg_ℤ (pos (n / c))
-quotient n c h f = rw (one_up n, to_z-of_z (neg_fits n h), to_z_pos w64 {n = c} (omega (arith, f.fits))) (toward_zero n c)
 
 pub part_less : (n c : ℕ) → n < 9223372036854775808 → n / c < 9223372036854775808
 part_less n c h = omega (arith, div-le_self n c)

@@ -11,9 +11,6 @@ use lib.Dec.{eqb, ltb}
 use lib.ListN.{length, get_or}
 use borrow.Table.Steps.{cases}
 use borrow.Author.Tests.{ltb-true, eqb-true, lt-ltb, le-ltb, eq-eqb}
-use Rattle.std.specs.Prelude.{Some}
-use Rattle.std.specs.Ordering.{nat_cmp, partial_le}
-use Rattle.std.specs.Cmp.Lexicographic.{slice_partial_cmp}
 use Rattle.base.specs.Lists.{begins, shared_length}
 use Rattle.base.proofs.Tests.{never, refuted, le_or_lt, and_parts, or_cases}
 use Rattle.base.proofs.Begins.{begins_cases, begins_same}
@@ -35,13 +32,6 @@ order_same a b m n p h = rw (le-ltb a b (omega arith), eq-eqb a b p, h)
 
 pub order_by : (a b : ℕ) (m n : List ℕ) → a ≤ b → (a ≡ b → in_order m n ≡ true) → in_order (a ∷ m) (b ∷ n) ≡ true
 order_by a b m n h k = ⊎_elim (λ e. order_same a b m n e (k e)) (order_less a b m n) (eq-or-lt_of_le h)
-
--- the library's comparison of lists is this order
-pub order_compared : (m n : List ℕ) → partial_le (slice_partial_cmp (λ (a b : ℕ). Some (nat_cmp a b))) m n ≡ in_order m n
-order_compared [] [] = refl
-order_compared [] (b ∷ n) = refl
-order_compared (a ∷ m) [] = refl
-order_compared (a ∷ m) (b ∷ n) = cases (ltb a b) (λ e. rw e) (λ e. cases (eqb a b) (λ d. rw (e, d, order_compared m n)) (λ d. rw (e, d)))
 
 pub order_refl : (m : List ℕ) → in_order m m ≡ true
 order_refl [] = refl

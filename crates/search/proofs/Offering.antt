@@ -1,6 +1,6 @@
 -- One stand offered, and the loop that offers the stands of an entry: what is left of them gives what all of them give.
 -- Assumes nothing.
-use mathlib.Core.Path.{◌≡◌, refl, ap, ◌∙◌}
+use mathlib.Core.Path.{◌≡◌, ap, ◌∙◌}
 use mathlib.Core.Bool.{true, false}
 use mathlib.Core.List.{List, []}
 use Prim.Native.Nat.{ℕ, suc, ◌+◌, ◌≤◌, ◌<◌}
@@ -37,10 +37,6 @@ module _ (c : StandColumns) (g : Grid) (q : Ranking) (s : ℕ) (held : List ℕ)
 pub record Offering (c : StandColumns) (g : Grid) (q : Ranking) (stands : List ℕ) (whole : Kept) (held : List ℕ) (i : ℕ) : Type 0 where
   pub few : length held ≤ q.k
   pub rest : stands_offered c g q (drop i stands) held ≡ whole
-
-module _ (c : StandColumns) (g : Grid) (q : Ranking) (stands held : List ℕ) where
-  pub offer_begin : length held ≤ q.k → Offering c g q stands (stands_offered c g q stands held) held 0
-  offer_begin few = record { few = few; rest = refl }
 
 module _ (c : StandColumns) (g : Grid) (q : Ranking) (stands : List ℕ) (whole : Kept) (held : List ℕ) (i : ℕ) (w : Offering c g q stands whole held i) where
   module _ (more : i < length stands) (after : List ℕ) (r : Result Unit Broken) (k : Keeps (stand_offered c g q (get_or stands i 0) held) q.k after r) where

@@ -35,10 +35,6 @@ pub record Taking (c : StandColumns) (g : Grid) (q : Ranking) (order entries : L
   pub few : length held ≤ q.k
   pub rest : entries_taken c g q order entries (past - n) n held ≡ whole
 
-module _ (c : StandColumns) (g : Grid) (q : Ranking) (order entries held : List ℕ) where
-  pub take_begin : length held ≤ q.k → (count from : ℕ) → Taking c g q order entries (entries_taken c g q order entries count from held) held from (from + count)
-  take_begin few count from = let e : from + count - from ≡ count = omega arith in record { few = few; rest = rw e }
-
 module _ (c : StandColumns) (g : Grid) (q : Ranking) (order entries : List ℕ) (whole : Kept) (held : List ℕ) (n past : ℕ) (w : Taking c g q order entries whole held n past) where
   pub take_done : past ≤ n → Keeps whole q.k held (Ok tt)
   unfolding entries_taken
