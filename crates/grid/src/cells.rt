@@ -74,9 +74,7 @@ impl Cells {
             high: high & (high - 1),
         }
     }
-}
 
-impl Cells {
     // The regions one by one, the smallest first.
     pub fn iter(self) -> Regions
         ensures { result ≡ regions_of self }
