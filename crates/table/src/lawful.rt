@@ -51,19 +51,19 @@ pub fn shape_lawful(table: Table) -> bool
 }
 
 // Refusal 3.
-pub fn names_allowed(text: &[u8], starts: &[u32], stands: u32) -> bool
-    ensures { result ≡ names_allowed (given text) (given starts) stands }
+pub fn names_allowed(table: Table, stands: u32) -> bool
+    ensures { result ≡ names_allowed table.entry.text.now table.entry.starts.now stands }
 {
-    (0..stands).all(|i| name_allowed(name_of(text, starts, Stand(i))))
+    (0..stands).all(|i| name_allowed(name_of(table.text, table.starts, Stand(i))))
 }
 
 // Refusal 4. Neighbours are enough, since the byte order carries over a name between.
-pub fn names_in_order(text: &[u8], starts: &[u32], stands: u32) -> bool
-    ensures { result ≡ names_in_order (given text) (given starts) stands }
+pub fn names_in_order(table: Table, stands: u32) -> bool
+    ensures { result ≡ names_in_order table.entry.text.now table.entry.starts.now stands }
 {
     (1..stands).all(|i| {
-        let before = name_of(text, starts, Stand(i - 1));
-        in_order(before, name_of(text, starts, Stand(i)))
+        let before = name_of(table.text, table.starts, Stand(i - 1));
+        in_order(before, name_of(table.text, table.starts, Stand(i)))
     })
 }
 

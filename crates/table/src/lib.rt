@@ -25,10 +25,10 @@ pub fn table_refusal(table: Table, grid: Grid) -> Result<(), Refusal>
         return Err(Refusal::GridOutsideLimits);
     }
     let stands = table.score.len() as u32;
-    if !names_allowed(table.text, table.starts, stands) {
+    if !names_allowed(table, stands) {
         return Err(Refusal::NameNotAllowed);
     }
-    if !names_in_order(table.text, table.starts, stands) {
+    if !names_in_order(table, stands) {
         return Err(Refusal::NamesOutOfOrder);
     }
     if !stands_lawful(table.east, table.north, table.score, grid) {

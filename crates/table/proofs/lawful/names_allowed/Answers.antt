@@ -8,4 +8,6 @@ use Rattle.table.proofs.lawful.names_allowed.Goals as goal
 
 pub returns : goal.returns
 unfolding names_allowed
-returns c = all_below (λ i. name_allowed (name c.args.text.now c.args.starts.now i)) c.args.stands c.all.ensures.ran (λ x t q k. search rules)
+returns c =
+    let a = c.args.table in
+    all_below (λ i. name_allowed (name a.text.now a.starts.now i)) c.args.stands c.all.ensures.ran (λ x t q k. search rules)

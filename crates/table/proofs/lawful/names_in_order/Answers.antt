@@ -9,5 +9,5 @@ use Rattle.table.proofs.lawful.names_in_order.Goals as goal
 pub returns : goal.returns
 unfolding names_in_order
 returns c =
-    let a = c.args in
-    all_neighbours (λ i k. in_order (name a.text.now a.starts.now i) (name a.text.now a.starts.now k)) a.stands c.all.ensures.ran (λ x t q k. search rules)
+    let a = c.args.table in
+    all_neighbours (λ i k. in_order (name a.text.now a.starts.now i) (name a.text.now a.starts.now k)) c.args.stands c.all.ensures.ran (λ x t q k. search rules)
