@@ -1,15 +1,13 @@
 -- One test of many things: all pass where each does, over the numbers below n and over the elements of a list.
--- Reading is the invariant of a loop over the elements that leaves at the first that fails. Assumes nothing.
+-- Assumes nothing.
 use Prim.Native.Nat.{ℕ, zero, suc, ◌+◌, ◌≤◌, ◌<◌}
 use mathlib.Core.Path.{◌≡◌, refl, sym, ap, ◌∙◌}
-use mathlib.Core.Bool.{Bool, true, false, ◌&&◌}
+use mathlib.Core.Bool.{Bool, true, ◌&&◌}
 use mathlib.Core.List.{List, [], ◌∷◌, ◌++◌}
 use mathlib.Core.Logic.{⊎_elim}
-use native.Mathlib.Numerals.{add-one}
 use native.Mathlib.Nat.{eq-or-lt_of_le}
 use native.Mathlib.Omega.{arith}
-use lib.ListN.{length, get_or, drop, drop_of_length-le}
-use lib.Seq.{drop-cons}
+use lib.ListN.{length, get_or}
 use borrow.Table.Steps.{cases}
 use lib.Dec.{eqb}
 use Rattle.base.specs.Lists.{all, each, from_on, up_to, begins}
@@ -69,23 +67,3 @@ begins_all (a ∷ p) [] h = absurd (omega arith)
 begins_all (a ∷ p) (b ∷ n) h =
     let test : ℕ → Bool = λ i. eqb (get_or (a ∷ p) i 0) (get_or (b ∷ n) i 0) in
     ap (λ r. eqb a b && r) (ap (all test) (from_shift 0 (length p)) ∙ all-each test suc (up_to (length p)) ∙ begins_all p n (omega arith))
-
-pub record Reading (p : ℕ → Bool) (l : List ℕ) (i : ℕ) : Type 0 where
-  pub within : i ≤ length l
-  pub rest : all p l ≡ all p (drop i l)
-
-module _ (p : ℕ → Bool) (l : List ℕ) where
-  pub read_begin : Reading p l 0
-  read_begin = record { within = omega arith; rest = refl }
-
-  read_next : (i : ℕ) → i < length l → Reading p l i → all p l ≡ p (get_or l i 0) && all p (drop (i + 1) l)
-  read_next i h s = s.rest ∙ rw (drop-cons l i 0 h, add-one)
-
-  pub read_pass : (i : ℕ) → i < length l → p (get_or l i 0) ≡ true → Reading p l i → Reading p l (i + 1)
-  read_pass i h t s = record { within = omega arith; rest = read_next i h s ∙ rw t }
-
-  pub read_fail : (i : ℕ) → i < length l → p (get_or l i 0) ≡ false → Reading p l i → all p l ≡ false
-  read_fail i h t s = read_next i h s ∙ rw t
-
-  pub read_finish : (i : ℕ) → length l ≤ i → Reading p l i → all p l ≡ true
-  read_finish i h s = s.rest ∙ rw (drop_of_length-le l h)

@@ -1,9 +1,8 @@
--- Signed metres as the machine holds them: what is read back, lifting by 2 ^ 31, differences, signs and floor division.
+-- Signed metres as the machine holds them: what is read back, lifting by 2 ^ 31, differences and the order of two.
 -- Assumes nothing.
-use Rattle.std.proofs.Common.{◌≡◌, ℕ, zero, suc, ◌-◌, ◌/◌, ◌<◌, ◌≤◌, Bool, cond, not, ltb, leb, ℤ, pos, negsuc, ◌+ℤ◌, ◌-ℤ◌, neg_ℤ, sym, refl, ap, ◌∙◌, ⊎_elim, div-le_self, arith, to_z-of_z, w32, w64, SFits, to_z, of_z, ltb-false, ltb-true, le-ltb, lt-ltb, le-leb}
-use native.Mathlib.Nat.{zero-div}
+use Rattle.std.proofs.Common.{◌≡◌, ℕ, zero, suc, ◌-◌, ◌<◌, ◌≤◌, not, ltb, leb, ℤ, pos, negsuc, ◌+ℤ◌, ◌-ℤ◌, neg_ℤ, refl, ap, ◌∙◌, ⊎_elim, arith, to_z-of_z, w32, w64, SFits, to_z, of_z, ltb-false, ltb-true, le-ltb, lt-ltb, le-leb}
 use lib.IntN.{sub_ℕ}
-use lib.Signed.{lt_z, le_z, quot_z}
+use lib.Signed.{lt_z, le_z}
 use borrow.Table.Steps.{cases}
 use borrow.Author.Tests.{lt-leb}
 use mir.Facts.{sfits_widen}
@@ -67,38 +66,10 @@ difference_fits x o hx ho =
     (λ (h : lifted x < lifted o). rw (behind x o hx ho h) (record { sfits = omega (arith, lifted_less o ho) }))
     (le_or_lt (lifted o) (lifted x))
 
--- a number of 64 bits that is negative, and one that is not, as a test of the machine tells it
-pub record Signed (sign : ℕ → ℤ) (x : ℤ) : Type 0 where
-  pub n : ℕ
-  pub small : n < 9223372036854775808
-  pub is : x ≡ sign n
-
-pub by_sign : (x : ℤ) (t : Bool) → SFits w64 x → lt_z (to_z w64 (of_z w64 x)) (pos 0) ≡ t → Signed (cond t negsuc pos) x
-by_sign x t h e = plain x h (rw (to_z-of_z h) at e)
-  where
-    plain : (x : ℤ) → SFits w64 x → lt_z x (pos 0) ≡ t → Signed (cond t negsuc pos) x
-    plain (pos n) h e = rw (sym e ∙ le-ltb n 0 (omega arith)) (record { n = n; small = h.sfits; is = refl })
-    plain (negsuc n) h e = rw (sym e) (record { n = n; small = h.sfits; is = refl })
-
--- floor division of a negative number: one up, toward zero, one down
+-- one up from a negative number
 pub one_up : (n : ℕ) → negsuc n +ℤ pos 1 ≡ neg_ℤ (pos n)
 one_up zero = refl
 one_up (suc n) = sub_down 1 (suc (suc n)) (omega arith) ∙ ap negsuc (omega arith)
-
-toward_zero : (n c : ℕ) → quot_z (neg_ℤ (pos n)) (pos c) ≡ neg_ℤ (pos (n / c))
-toward_zero zero c = rw (zero-div c)
-toward_zero (suc n) c = refl
-
-pub one_down : (n : ℕ) → neg_ℤ (pos n) -ℤ pos 1 ≡ negsuc n
-one_down zero = refl
-one_down (suc n) = ap negsuc (omega arith)
-
-pub neg_fits : (n : ℕ) → n < 9223372036854775808 → SFits w64 (neg_ℤ (pos n))
-neg_fits zero h = record { sfits = omega arith }
-neg_fits (suc n) h = record { sfits = omega arith }
-
-pub part_less : (n c : ℕ) → n < 9223372036854775808 → n / c < 9223372036854775808
-part_less n c h = omega (arith, div-le_self n c)
 
 -- one signed test says the opposite of the other
 le_not_lt : (a b : ℕ) → leb b a ≡ not (ltb a b)

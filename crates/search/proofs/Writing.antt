@@ -1,6 +1,6 @@
 -- The loop that writes stands and values of the keys held to the two rooms.
 -- Assumes nothing.
-use mathlib.Core.Path.{◌≡◌, refl, sym, ap, ◌∙◌}
+use mathlib.Core.Path.{◌≡◌, sym, ap, ◌∙◌}
 use mathlib.Core.List.{List, [], ◌∷◌, ◌++◌}
 use Prim.Native.Nat.{ℕ, ◌+◌, ◌≤◌, ◌<◌}
 use native.Mathlib.Omega.{arith}
@@ -35,9 +35,6 @@ pub record Writing (held room₀ values₀ room values : List ℕ) (i : ℕ) : T
   pub done : Written (take i held) room₀ values₀ room values
 
 module _ (held room₀ values₀ : List ℕ) where
-  pub write_begin : Writable held room₀ values₀ → Writing held room₀ values₀ room₀ values₀ 0
-  write_begin f = record { within = omega arith; fits = f; done = record { stands = refl; worths = refl } }
-
   module _ (room values : List ℕ) (i : ℕ) (w : Writing held room₀ values₀ room values i) where
     length-kept : (f : ℕ → ℕ) (before : List ℕ) → length held ≤ length before → length (written (each f (take i held)) before) ≡ length before
     length-kept f before h =
