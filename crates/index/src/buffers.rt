@@ -20,6 +20,7 @@ fn too_small(room: Index, stands: usize, sizes: Sizes) -> bool
         || room.bits.len() < RECORD_WORDS * (sizes.bits as usize)
 }
 
+// Stays: the buffers one by one, and writing and checking in two functions, as in words' `turn` and `rooms`.
 // The index of the table with these columns, in the buffers. Whether they have room is known before the first word is written.
 pub fn put_index(
     columns: Columns,

@@ -15,7 +15,7 @@ use Rattle.base.proofs.Begins.{begins-length, begins_first}
 use Rattle.base.proofs.Scans.{all_same, begins_all}
 use Rattle.rules.specs.Names.{capital, folded, folded_text, spanned, name, name_at, rest_of, rest_at}
 use Rattle.rules.proofs.Lawful.{by_starts}
-use Rattle.table.specs.declared.names.Span.{Span}
+use Rattle.std.specs.declared.ops.Range.{Range}
 use Rattle.table.specs.Parts.{Spans, RestSpans}
 
 -- a part of a part is a part of the text
@@ -31,12 +31,12 @@ module _ (text : List ℕ) (a b : ℕ) where
       length-take-le (b - a) (drop a text) (omega arith)
 
 module _ (text starts : List ℕ) (i : ℕ) where
-  pub nowhere : spanned text starts i ≡ false → Spans text starts i (record { from = 0; past = 0 })
+  pub nowhere : spanned text starts i ≡ false → Spans text starts i (record { start = 0; end = 0 })
   unfolding name name_at
   nowhere h = record { forward = omega arith; inside = omega arith; holds = rw h; begins = rw h; fits = omega arith }
 
   pub found : i + 1 < length starts → get_or starts i 0 ≤ get_or starts (i + 1) 0 → get_or starts (i + 1) 0 ≤ length text → get_or starts (i + 1) 0 < 4294967296
-      → Spans text starts i (record { from = get_or starts i 0; past = get_or starts (i + 1) 0 })
+      → Spans text starts i (record { start = get_or starts i 0; end = get_or starts (i + 1) 0 })
   unfolding name name_at
   found h f o k =
       let s = by_starts text starts i h f o in
@@ -60,35 +60,35 @@ read_begins typed name h =
     ∙ begins_all (folded_text typed) name (omega (arith, same))
 
 -- the rest of a name, by the span that holds the name
-module _ (text starts : List ℕ) (i : ℕ) (s : Span) (w : Spans text starts i s) (typed : List ℕ) where
-  abbrev nothing : Span
-  nothing = record { from = 0; past = 0 }
+module _ (text starts : List ℕ) (i : ℕ) (s : Range ℕ) (w : Spans text starts i s) (typed : List ℕ) where
+  abbrev nothing : Range ℕ
+  nothing = record { start = 0; end = 0 }
 
   unlike : begins (folded_text typed) (name text starts i) ≡ false → RestSpans text starts i typed nothing
   unfolding rest_of rest_at
   unlike e = record { forward = omega arith; inside = omega arith; holds = rw e; begins = rw e; fits = omega arith }
 
-  pub too_short : s.past < s.from + length typed → RestSpans text starts i typed nothing
+  pub too_short : s.end < s.start + length typed → RestSpans text starts i typed nothing
   too_short h =
-      let l = length_part text s.from s.past w.forward w.inside in
+      let l = length_part text s.start s.end w.forward w.inside in
       unlike (refuted _ (λ b. omega (arith, begins-length (folded_text typed) _ b, length-each folded typed, ap length w.holds, w.forward)))
 
-  module _ (long : s.from + length typed ≤ s.past) where
+  module _ (long : s.start + length typed ≤ s.end) where
     -- the letters that stand where the typed ones would
     abbrev letters : List ℕ
-    letters = take (s.from + length typed - s.from) (drop s.from text)
+    letters = take (s.start + length typed - s.start) (drop s.start text)
 
     told : begins (folded_text typed) letters ≡ begins (folded_text typed) (name text starts i)
     told =
-        let e : s.from + length typed - s.from ≡ length (folded_text typed) = omega (arith, length-each folded typed) in
-        let t = take-take (length (folded_text typed)) (s.past - s.from) (drop s.from text) (omega (arith, length-each folded typed)) in
-        ap (λ k. begins (folded_text typed) (take k (drop s.from text))) e ∙ ap (begins (folded_text typed)) (sym t ∙ ap (take (length (folded_text typed))) w.holds) ∙ begins_first (folded_text typed) (name text starts i)
+        let e : s.start + length typed - s.start ≡ length (folded_text typed) = omega (arith, length-each folded typed) in
+        let t = take-take (length (folded_text typed)) (s.end - s.start) (drop s.start text) (omega (arith, length-each folded typed)) in
+        ap (λ k. begins (folded_text typed) (take k (drop s.start text))) e ∙ ap (begins (folded_text typed)) (sym t ∙ ap (take (length (folded_text typed))) w.holds) ∙ begins_first (folded_text typed) (name text starts i)
 
-    pub rest : begins (folded_text typed) letters ≡ true → RestSpans text starts i typed (record { from = s.from + length typed; past = s.past })
+    pub rest : begins (folded_text typed) letters ≡ true → RestSpans text starts i typed (record { start = s.start + length typed; end = s.end })
     unfolding rest_of rest_at
     rest h =
         let e = sym told ∙ h in
-        record { forward = long; inside = w.inside; holds = sym (drop-part text s.from s.past (length typed)) ∙ rw (w.holds, e); begins = rw e (omega (arith, w.begins)); fits = w.fits }
+        record { forward = long; inside = w.inside; holds = sym (drop-part text s.start s.end (length typed)) ∙ rw (w.holds, e); begins = rw e (omega (arith, w.begins)); fits = w.fits }
 
     pub no_rest : begins (folded_text typed) letters ≡ false → RestSpans text starts i typed nothing
     no_rest h = unlike (sym told ∙ h)

@@ -8,14 +8,7 @@ ghost use Rattle.rules.specs.Names.{allowed, folded, folded_text, name_allowed, 
 ghost use Rattle.table.specs.Parts.{Spans, RestSpans, Rest};
 
 use rules::Stand;
-
-// A part of the text: where it begins, and past its end.
-// Stays: no Range, since the C interface answers with these two numbers, and this may be copied.
-#[derive(Clone, Copy)]
-pub struct Span {
-    pub from: usize,
-    pub past: usize,
-}
+use std::ops::Range;
 
 // Whether a byte is a to z, 0 to 9 or space.
 #[tactic(auto, using(rules::proofs::Bytes::space, rules::proofs::Bytes::digit, rules::proofs::Bytes::letter, rules::proofs::Bytes::below, rules::proofs::Bytes::between, rules::proofs::Bytes::above))]
@@ -111,42 +104,41 @@ pub fn in_order(a: &[u8], b: &[u8]) -> bool
 
 // Stays, here and below: text and starts alone, since the C interface lends them so for the rest of a name.
 // Where a stand's name lies.
-fn name_span(text: &[u8], starts: &[u32], stand: Stand) -> Span
+fn name_span(text: &[u8], starts: &[u32], stand: Stand) -> Range<usize>
     ensures { Spans (given text) (given starts) stand.0 result }
 {
     let i = stand.0 as usize;
     if starts.len() <= i + 1 {
-        return Span { from: 0, past: 0 };
+        return 0..0;
     }
     let from = starts[i] as usize;
     let past = starts[i + 1] as usize;
     if past < from || text.len() < past {
-        return Span { from: 0, past: 0 };
+        return 0..0;
     }
-    Span { from, past }
+    from..past
 }
 
 // A stand's name, as a part of the text.
 pub fn name_of<'a>(text: &'a [u8], starts: &[u32], stand: Stand) -> &'a [u8]
     ensures { result.now ≡ name (given text) (given starts) stand.0 }
 {
-    let Span { from, past } = name_span(text, starts, stand);
-    &text[from..past]
+    &text[name_span(text, starts, stand)]
 }
 
 // Where the rest of a stand's name after a typed text lies; where the name doesn't begin so, the empty part at the text's start.
-pub fn rest_span(text: &[u8], starts: &[u32], stand: Stand, typed: &[u8]) -> Span
+pub fn rest_span(text: &[u8], starts: &[u32], stand: Stand, typed: &[u8]) -> Range<usize>
     ensures { RestSpans (given text) (given starts) stand.0 (given typed) result }
 {
-    let Span { from: start, past } = name_span(text, starts, stand);
+    let Range { start, end: past } = name_span(text, starts, stand);
     let from = start + typed.len();
     if past < from {
-        return Span { from: 0, past: 0 };
+        return 0..0;
     }
     if begins(&text[start..from], typed) {
-        return Span { from, past };
+        return from..past;
     }
-    Span { from: 0, past: 0 }
+    0..0
 }
 
 // What is left of a stand's name after a typed text, for showing a hit. Bytes and place are promised, so that no caller has to look
@@ -154,6 +146,5 @@ pub fn rest_span(text: &[u8], starts: &[u32], stand: Stand, typed: &[u8]) -> Spa
 pub fn rest_of_name<'a>(text: &'a [u8], starts: &[u32], stand: Stand, typed: &[u8]) -> &'a [u8]
     ensures { Rest (given text) (given starts) stand.0 (given typed) text.entry.ref_ptr result.now result.ref_ptr }
 {
-    let Span { from, past } = rest_span(text, starts, stand, typed);
-    &text[from..past]
+    &text[rest_span(text, starts, stand, typed)]
 }

@@ -11,6 +11,7 @@ use rules::layout::{ENTRY_WORDS, NODE_WORDS, RECORD_WORDS};
 
 // The node's words, in the rooms.
 // Stays: a struct of the three rooms is no plainer, since each contract would have to say of each field that it is the same loan still.
+// And writing and checking are two functions, here and in the crate's root, as in `rooms`.
 pub fn write_node(
     columns: Columns,
     cursor: Cursor,
