@@ -21,7 +21,7 @@ pub struct Listing {
 // A text has no listing where no name begins so.
 pub type Listed = Result<Option<Listing>, Broken>;
 
-// Stays, here and below: nodes and bits alone, since a set handed on is laid out in memory again, some hundred instructions to a question.
+// Stays, here and below: nodes and bits alone. A whole set is no plainer, since of one nothing else is read here.
 // A node's entries are those of the regions in its bit record.
 #[tactic(auto, unfolding(crate::specs::Listings::listing_in))]
 fn entries_of(nodes: &[u32], bits: &[u32], node: Node) -> Listed
