@@ -7,7 +7,7 @@ use mathlib.Core.List.{List, [], ◌∷◌, ◌++◌}
 use Prim.Native.Nat.{ℕ, zero, suc, ◌+◌, ◌≤◌, ◌<◌, min}
 use native.Mathlib.Numerals.{add-one}
 use native.Mathlib.Omega.{arith}
-use lib.Dec.{eqb}
+use lib.Dec.{eqb, eqb-zero-suc, eqb-suc-suc}
 use lib.ListN.{length, take, drop, get_or, drop_of_length-le, length-take, take-append-drop}
 use lib.Seq.{drop-cons, take-take, take_all, take-length, get_or-take, length-take-le, ext_get_or}
 use borrow.Table.Steps.{cases}
@@ -119,10 +119,10 @@ module _ (a b : List ℕ) where
   pub differ : (i : ℕ) → i < length a → i < length b → (get_or a i 0 ≡ get_or b i 0 → ⊥) → Sharing a b i → i ≡ shared_length a b
   differ i h k e s = ends i s (rw (drop-cons a i 0 h, drop-cons b i 0 k, ne_eqb _ _ e))
 
-  ended : (i : ℕ) → length a ≤ i → Sharing a b i → i ≡ shared_length a b
+  pub ended : (i : ℕ) → length a ≤ i → Sharing a b i → i ≡ shared_length a b
   ended i h s = ends i s (rw (drop_of_length-le a h))
 
-  ended_other : (i : ℕ) → i < length a → length b ≤ i → Sharing a b i → i ≡ shared_length a b
+  pub ended_other : (i : ℕ) → i < length a → length b ≤ i → Sharing a b i → i ≡ shared_length a b
   ended_other i h k s = ends i s (rw (drop-cons a i 0 h, drop_of_length-le b k))
 
   -- past the end of the shorter one
@@ -134,6 +134,13 @@ module _ (a b : List ℕ) where
       (λ (long : length a ≤ i). ended i long s)
       (λ (short : i < length a). let k : length b ≤ i = grind (arith, m, h, short) in ended_other i short k s)
       (le_or_lt (length a) i)
+
+-- a list begins with p where all of p is shared
+pub begins_shared : (p n : List ℕ) → begins p n ≡ eqb (shared_length p n) (length p)
+begins_shared [] n = refl
+begins_shared (x ∷ p) [] = sym (eqb-zero-suc (length p))
+begins_shared (x ∷ p) (y ∷ n) =
+    cases (eqb x y) (λ e. rw e (begins_shared p n ∙ sym (eqb-suc-suc (shared_length p n) (length p)))) (λ e. rw e (sym (eqb-zero-suc (length p))))
 
 pub shared_length-sym : (m n : List ℕ) → shared_length m n ≡ shared_length n m
 shared_length-sym [] [] = refl

@@ -58,6 +58,10 @@ pub or_cases : (a b : Bool) → (a || b) ≡ true → (a ≡ true) ⊎ (b ≡ tr
 or_cases true b e = inl refl
 or_cases false b e = inr e
 
+pub or_neither : (a b : Bool) → (a || b) ≡ false → (a ≡ false) × (b ≡ false)
+or_neither true b e = absurd (true≢false e)
+or_neither false b e = (refl, e)
+
 -- what a test `if !f(..)` says of f's definition, where it is taken and where it is left
 pub breaks : (r d : Bool) → r ≡ d → not r ≡ true → d ≡ false
 breaks r d e t = sym e ∙ not-true r t

@@ -27,7 +27,7 @@ pub record StandTorn (first last l : List ℕ) (line : ℕ) : Type 0 where
 
 abbrev pub SaysStand : List ℕ → ℕ → List ℕ → List ℕ → Result (StandRead × ℕ) TornLine → Type 0
 SaysStand input at first last (Ok (s, next)) =
-    StandReached input (at + length first) (stand_by first last (drop at input)) s.name.start s.name.end s.east s.north s.score next
+    StandReached input (at + length first) (stand_by first last (drop at input)) s.name.from s.name.past s.east s.north s.score next
 SaysStand input at first last (Err torn) = StandTorn first last (drop at input) torn.0
 
 -- the question's lines were got, with the text at the part of the input that begins past its key
@@ -38,7 +38,7 @@ pub record QuestionReached (input : List ℕ) (at : ℕ) (f : Got (List ℕ × R
   pub reached : Reached input f (part from past input, ranking) next
 
 abbrev pub SaysQuestion : List ℕ → ℕ → Option (Question × ℕ) → Type 0
-SaysQuestion input at (Some (q, next)) = QuestionReached input at (question_lines (drop at input)) q.text.start q.text.end q.ranking next
+SaysQuestion input at (Some (q, next)) = QuestionReached input at (question_lines (drop at input)) q.text.from q.text.past q.ranking next
 SaysQuestion input at None = question_lines (drop at input) ≡ None
 
 -- the parts of a table have room for so many stands, and for as many bytes of names as there are bytes

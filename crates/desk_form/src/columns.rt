@@ -28,7 +28,7 @@ pub fn read_stands(
             north,
             score,
         } = stand;
-        bytes = put(&mut parts.text, bytes, &input[name]);
+        bytes = put(&mut parts.text, bytes, &input[name.from..name.past]);
         parts.starts[i + 1] = bytes as u32;
         parts.east[i] = east;
         parts.north[i] = north;

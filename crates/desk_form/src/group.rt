@@ -7,14 +7,13 @@ ghost use Rattle.desk_form.specs.Reads.{grid_lines};
 ghost use Rattle.desk_form.specs.Says.{SaysStand, SaysQuestion};
 
 use crate::Reading;
-use lines::{bytes_line, signed_line, unsigned_line};
+use lines::{Part, bytes_line, signed_line, unsigned_line};
 use rules::{Grid, Place, Ranking};
-use std::ops::Range;
 
 // A stand, its name as a part of the input.
-#[derive(Drop)]
+#[derive(Clone, Copy)]
 pub struct StandRead {
-    pub name: Range<usize>,
+    pub name: Part,
     pub east: i32,
     pub north: i32,
     pub score: u32,
@@ -26,9 +25,9 @@ pub struct StandRead {
 pub struct TornLine(pub u32);
 
 // The question, its text as a part of the input.
-#[derive(Drop)]
+#[derive(Clone, Copy)]
 pub struct Question {
-    pub text: Range<usize>,
+    pub text: Part,
     pub ranking: Ranking,
 }
 
@@ -57,7 +56,7 @@ fn read_by(
     ensures { SaysStand (given input) at (given first) (given last) result }
 {
     let name = bytes_line(input, at, first).ok_or(TornLine(0))?;
-    let (east, at) = signed_line(input, name.end + 1, b"east=").ok_or(TornLine(1))?;
+    let (east, at) = signed_line(input, name.past + 1, b"east=").ok_or(TornLine(1))?;
     let (north, at) = signed_line(input, at, b"north=").ok_or(TornLine(2))?;
     let (score, at) = unsigned_line(input, at, last, Reading::NUMBER_MOST).ok_or(TornLine(3))?;
     let stand = StandRead {

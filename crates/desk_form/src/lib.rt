@@ -79,10 +79,16 @@ pub fn read_input(input: &[u8], parts: &mut Parts) -> Result<Reading, Refusal>
     if Reading::BYTES_MOST < input.len() {
         return Err(Refusal::InputMalformed);
     }
-    let ((grid, stands), next) = read_opening(input).ok_or(Refusal::InputMalformed)?;
+    let Some(((grid, stands), next)) = read_opening(input) else {
+        return Err(Refusal::InputMalformed);
+    };
     let stands = stands as usize;
-    let (bytes, next) = read_stands(input, next, stands, parts).ok_or(Refusal::InputMalformed)?;
-    let (question, next) = read_question(input, next).ok_or(Refusal::InputMalformed)?;
+    let Some((bytes, next)) = read_stands(input, next, stands, parts) else {
+        return Err(Refusal::InputMalformed);
+    };
+    let Some((question, next)) = read_question(input, next) else {
+        return Err(Refusal::InputMalformed);
+    };
     if next != input.len() {
         return Err(Refusal::InputMalformed);
     }
@@ -90,8 +96,8 @@ pub fn read_input(input: &[u8], parts: &mut Parts) -> Result<Reading, Refusal>
         stands,
         bytes,
         grid,
-        from: question.text.start,
-        past: question.text.end,
+        from: question.text.from,
+        past: question.text.past,
         ranking: question.ranking,
     })
 }

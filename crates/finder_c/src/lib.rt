@@ -18,8 +18,8 @@ ghost use Rattle.finder_c.specs.Told.{Tells, located_told, built_told, checked_t
 use finder::{
     Grid, Index, Place, RangeRefusal, Ranking, Rect, Refusal, Session, Set, Sizes, Stand, Table,
 };
-use std::ops::Range;
-use table::names::rest_span;
+use rules::number_of;
+use table::names::{Span, rest_span};
 
 // Stays: numbers for refusals and for yes, and parts lent one by one, since the C interface has them so.
 // A refusal is its number, or 0; with one every other number is 0, but for a range's matches.
@@ -184,16 +184,6 @@ impl From<Result<Option<Stand>, Refusal>> for AnyFound {
                 stand: 0,
             },
         }
-    }
-}
-
-// A verdict is told by its refusal's number, or 0.
-fn number_of(verdict: Result<(), Refusal>) -> u32
-    ensures { result ≡ verdict_number verdict }
-{
-    match verdict {
-        Ok(()) => 0,
-        Err(why) => why.into(),
     }
 }
 
@@ -485,9 +475,9 @@ pub extern "C" fn krz_rub_out(
 pub extern "C" fn krz_rest(text: &[u8], starts: &[u32], stand: u32, typed: &[u8]) -> Part
     ensures { RestPart (given text) (given starts) stand (given typed) result }
 {
-    let Range { start, end } = rest_span(text, starts, Stand(stand), typed);
+    let Span { from, past } = rest_span(text, starts, Stand(stand), typed);
     Part {
-        start: start as u32,
-        length: (end - start) as u32,
+        start: from as u32,
+        length: (past - from) as u32,
     }
 }

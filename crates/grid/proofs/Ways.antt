@@ -1,6 +1,6 @@
 -- Ways in the grid: their lengths are at most its diagonal, and none is shorter than its longer leg.
 -- Assumes nothing.
-use Rattle.std.proofs.Common.{◌≡◌, ℕ, ◌*◌, ◌/◌, ◌%◌, ◌<◌, ◌≤◌, true, ltb, refl, arith}
+use Rattle.std.proofs.Common.{◌≡◌, ℕ, ◌*◌, ◌/◌, ◌%◌, ◌<◌, ◌≤◌, true, ltb, refl, arith, le-ltb, lt-ltb}
 use borrow.Table.Steps.{cases}
 use Rattle.rules.specs.declared.Grid.{Grid}
 use Rattle.rules.specs.declared.Place.{Place}
@@ -55,6 +55,15 @@ module _ (g : Grid) (w : Way) (inside : WayIn g w) where
   length_most =
       let side = 8 * g.cell in
       root_order _ _ (omega (arith, square_less w.across side inside.across, square_less w.along side inside.along, side_squared g.cell))
+
+module _ (w : Way) where
+  pub leg_along : w.across < w.along → w.along ≡ longer_leg w
+  unfolding longer_leg
+  leg_along h = rw (lt-ltb w.across w.along h)
+
+  pub leg_across : w.along ≤ w.across → w.across ≡ longer_leg w
+  unfolding longer_leg
+  leg_across h = rw (le-ltb w.across w.along h)
 
 -- the longer leg is no longer than the way
 pub leg_most : (w : Way) → longer_leg w ≤ way_length w

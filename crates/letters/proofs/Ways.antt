@@ -38,11 +38,11 @@ use Rattle.letters.specs.Letters.{letters_refusal}
 -- ---- what the letters are refused with
 
 module _ (s : Session) where
-  over : 24 < s.len → letters_refusal s ≡ 7
+  pub over : 24 < s.len → letters_refusal s ≡ 7
   unfolding letters_refusal
   over h = rw (lt-ltb 24 s.len h)
 
-  within : s.len ≤ 24 → letters_refusal s ≡ text_refusal (folded_text (letters_of s))
+  pub within : s.len ≤ 24 → letters_refusal s ≡ text_refusal (folded_text (letters_of s))
   unfolding letters_refusal
   within h = rw (le-ltb 24 s.len h)
 

@@ -2,8 +2,8 @@
 use Rattle.std.specs.Prelude.{◌≡◌, Option, Some, None, List, ℕ, ◌+◌, ◌-◌, ◌≤◌, length, take, drop}
 use Rattle.std.specs.Fn.{Shared, FnReturnsAt}
 use Rattle.std.specs.Borrow.{Bor}
-use Rattle.std.specs.declared.ops.Range.{Range}
 use Rattle.lines.specs.Reads.{Got, got}
+use Rattle.lines.specs.declared.reading.Part.{Part}
 
 -- the bytes from one place of the input to another
 abbrev pub part : ℕ → ℕ → List ℕ → List ℕ
@@ -20,8 +20,8 @@ pub record PartReached (input : List ℕ) (keyed : ℕ) (f : Got (List ℕ)) (fr
   pub forward : from ≤ past
   pub reached : Reached input f (part from past input) (past + 1)
 
-abbrev pub SaysBytes : List ℕ → ℕ → Got (List ℕ) → Option (Range ℕ) → Type 0
-SaysBytes input keyed f (Some value) = PartReached input keyed f value.start value.end
+abbrev pub SaysBytes : List ℕ → ℕ → Got (List ℕ) → Option Part → Type 0
+SaysBytes input keyed f (Some value) = PartReached input keyed f value.from value.past
 SaysBytes input keyed f None = f ≡ None
 
 abbrev pub Says : {A : Type 0} → List ℕ → Got A → Option (A × ℕ) → Type 0

@@ -5,4 +5,4 @@ mod putting;
 mod reading;
 
 pub use putting::{put, put_line, put_number};
-pub use reading::{bytes_line, signed_line, unsigned_line};
+pub use reading::{Part, bytes_line, signed_line, unsigned_line};

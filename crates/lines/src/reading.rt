@@ -5,7 +5,13 @@ ghost use Rattle.base.specs.Lent.{given};
 ghost use Rattle.lines.specs.Reads.{value_line, grown_by, decimal_in, signed_in, bytes_line, unsigned_line, signed_line};
 ghost use Rattle.lines.specs.Says.{ReadsBy, SaysBytes, Says};
 
-use std::ops::Range;
+// A part of the input: where it begins, and past its end.
+// Stays: no Range, since the library's is not copied.
+#[derive(Clone, Copy)]
+pub struct Part {
+    pub from: usize,
+    pub past: usize,
+}
 
 // Where the first line feed stands.
 fn feed_in(bytes: &[u8]) -> Option<usize>
@@ -16,14 +22,17 @@ fn feed_in(bytes: &[u8]) -> Option<usize>
 
 // The value of a line: from behind the key up to the line feed.
 // Stays, here and below: the input and a place in it, since where a value stands is told as a part of the whole input (ReadsInput).
-pub fn bytes_line(input: &[u8], at: usize, key: &[u8]) -> Option<Range<usize>>
+pub fn bytes_line(input: &[u8], at: usize, key: &[u8]) -> Option<Part>
     requires { at ≤ length input.now }
     ensures { SaysBytes (given input) (at + length (given key)) (bytes_line (given key) (drop at (given input))) result }
 {
     let rest = input[at..].strip_prefix(key)?;
     let long = feed_in(rest)?;
     let from = at + key.len();
-    Some(from..from + long)
+    Some(Part {
+        from,
+        past: from + long,
+    })
 }
 
 // Stays: the library's parse takes a plus sign and leading zeros, which the form does not have.
@@ -84,9 +93,8 @@ fn value_line<T, F: Fn(&[u8]) -> Option<T>>(
     ensures { (f : List ℕ → Option T) → ReadsBy F.Fn read f → Says (given input) (value_line f (given key) (drop at (given input))) result }
 {
     let part = bytes_line(input, at, key)?;
-    let next = part.end + 1;
-    let value = read(&input[part])?;
-    Some((value, next))
+    let value = read(&input[part.from..part.past])?;
+    Some((value, part.past + 1))
 }
 
 pub fn unsigned_line(input: &[u8], at: usize, key: &[u8], most: u32) -> Option<(u32, usize)>

@@ -65,7 +65,7 @@ module _ (region score next s places best : List ℕ) (bits : ℕ) (t : Tallied 
 
 pub gathered : (t : IndexColumns) (c : Cursor) (w w' : Work) (past bits held : ℕ) (ranked : List ℕ)
     → Ends t.shared c.stand.0 c.length past
-    → Tallies t c.stand.0 past w w' bits
+    → Tallies t.region t.score c.stand.0 past w w' bits
     → Ranks w'.best (keep (bit_at bits) (up_to regions)) ranked held
     → Gathers t c w (record w' { ranked = ranked }) (record { past = record { 0 = past }; bits = bits; held = held })
 gathered columns c w w' past bits held ranked e d k =

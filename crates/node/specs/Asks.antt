@@ -32,8 +32,10 @@ pub record AdvanceAsks (t : IndexColumns) (c : Cursor) (g : Gathered) (s : Serve
 abbrev pub Low : List ℕ → Type 0
 Low next = (r : ℕ) → r < 64 → at next r ≤ 1024
 
-pub record TallyAsks (t : IndexColumns) (first past : ℕ) (w : Work) : Type 0 where
-  pub run : InColumn t.region first past
+pub record TallyAsks (region score : List ℕ) (first past : ℕ) (w : Work) : Type 0 where
+  pub placed : Placed region
+  pub scored : length score ≡ length region
+  pub run : InColumn region first past
   pub low : Low w.next
   pub places_size : Sized w.places
   pub best_size : Sized w.best

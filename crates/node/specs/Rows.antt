@@ -45,8 +45,8 @@ abbrev pub Untallied : Work → Work → Type 0
 Untallied w w' = (w'.next ≡ w.next) × (w'.above ≡ w.above) × (w'.ranked ≡ w.ranked)
 
 -- what a walk over the stands first .. past - 1 leaves, and what it leaves as it was
-pub record Tallies (t : IndexColumns) (first past : ℕ) (w w' : Work) (bits : ℕ) : Type 0 where
-  pub tallied : Tallied t.region t.score w.next (span first past) w'.places w'.best bits
+pub record Tallies (region score : List ℕ) (first past : ℕ) (w w' : Work) (bits : ℕ) : Type 0 where
+  pub tallied : Tallied region score w.next (span first past) w'.places w'.best bits
   pub kept : Untallied w w'
 
 -- what is gathered at the cursor's node, and left in the slots

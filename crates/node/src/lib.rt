@@ -67,7 +67,7 @@ impl Work {
     {
         let stand = cursor.stand;
         let past = end_of(columns.shared, stand, cursor.length);
-        let bits = self.tally(columns, stand, past);
+        let bits = self.tally(columns.region, columns.score, stand, past);
         let held = ranks(bits, &self.best, &mut self.ranked);
         Gathered { past, bits, held }
     }

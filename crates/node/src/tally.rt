@@ -1,6 +1,5 @@
 // What lies under a node: where its stands end, how many nodes they make, and what each region holds of them.
 ghost use Rattle.std.specs.Prelude.{◌≡◌, ◌≤◌, ◌<◌, length};
-ghost use Rattle.node.specs.Lent.{columns_of};
 ghost use Rattle.node.specs.Columns.{at, Placed, Ends, stands_under, grown_of, bits_among, RegionAt};
 ghost use Rattle.node.specs.Rows.{Tallies};
 ghost use Rattle.node.specs.Asks.{TallyAsks};
@@ -76,19 +75,19 @@ pub fn regions_under(columns: Columns, stand: Stand, bytes: u8) -> u64
 impl Work {
     // One walk over those stands: their regions as bits, and for each of those regions the largest score and the place past its last stand.
     // A region's slots count only once its bit is set, so nothing is cleared.
-    pub fn tally(&mut self, columns: Columns, first: Stand, past: Stand) -> u64
-        requires { TallyAsks (columns_of columns) first.0 past.0 self.old }
-        ensures { Tallies (columns_of columns.entry) first.0 past.0 self.old self.new result }
+    pub fn tally(&mut self, region: &[u8], score: &[u32], first: Stand, past: Stand) -> u64
+        requires { TallyAsks region.now score.now first.0 past.0 self.old }
+        ensures { Tallies region.now score.now first.0 past.0 self.old self.new result }
     {
         let mut bits = 0;
         for stand in first.0..past.0 {
-            let slot = region_at(columns.region, Stand(stand));
+            let slot = region_at(region, Stand(stand));
             let known = (bits >> slot) % 2 == 1;
             let next = self.next[slot];
             let seen = (self.places[slot], self.best[slot]);
             let (place, so_far) = if known { seen } else { (next, 0) };
             self.places[slot] = place + 1;
-            self.best[slot] = so_far.max(columns.score[stand as usize]);
+            self.best[slot] = so_far.max(score[stand as usize]);
             bits |= 1u64 << slot;
         }
         bits

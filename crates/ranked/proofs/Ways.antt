@@ -27,6 +27,7 @@ use Rattle.rules.specs.Outcomes.{Outcome, refused, ranked_outcome, ranked_came}
 use Rattle.rules.specs.Promises.{Harmless, RankedPromise}
 use Rattle.rules.specs.Indexes.{Index, index_of}
 use Rattle.rules.proofs.Lawful.{SetParts, set_parts}
+use Rattle.rules.proofs.Outcomes.{settled-refused}
 use Rattle.meaning.proofs.Tables.{in-under}
 use Rattle.walk.specs.declared.listing.Listing.{Listing}
 use Rattle.walk.specs.Walks.{node_in}
@@ -34,7 +35,7 @@ use Rattle.walk.specs.Listings as listings
 use Rattle.walk.specs.Listings.{listing_at, listing_of}
 use Rattle.walk.specs.Asked.{Listed}
 use Rattle.walk.proofs.Listed.{nowhere_none}
-use Rattle.walk.proofs.Asked.{from_kept, text_listed}
+use Rattle.walk.proofs.Asked.{from_kept, text_refused, text_listed}
 use Rattle.best.specs.Keys.{key_of, hit_of_key}
 use Rattle.best.specs.Holds.{best_of}
 use Rattle.best.proofs.Streams.{found_hits}
@@ -110,6 +111,11 @@ module _ (c : StandColumns) (g : Grid) (order entries : List ℕ) (at : listings
 -- ---- from a text
 
 module _ (t : Table) (g : Grid) (x : Index) (p : List ℕ) (q : Ranking) (found values : List ℕ) where
+  pub of_refused : (v : Result Unit Refusal) (why : Refusal) → verdict_number v ≡ text_refusal (folded_text p) → v ≡ Err why → RankedPromise t g x p q (found ∷ values ∷ []) (ranked_came (Err why) found values)
+  of_refused v why e r =
+      text_refused _ (λ n hits. ranked_outcome n q.k hits (found ∷ values ∷ [])) (ranking t g (folded_text p) q) (λ n. refused n (found ∷ values ∷ [])) (folded_text p) (ranking_refusal g q)
+      (λ n hits some. settled-refused n _ _ _ _ _ some) why (ap verdict_number (sym r) ∙ e)
+
   pub of_listed : (o : Outcome) (v : Result Unit Refusal) (u : Unit) (at : listings.Listed) → verdict_number v ≡ text_refusal (folded_text p) → v ≡ Ok u → at ≡ listing_at x.nodes x.bits (node_in x.nodes (folded_text p))
       → RankedFrom (table_columns t) g x.order x.entries at q (found ∷ values ∷ []) o → RankedPromise t g x p q (found ∷ values ∷ []) o
   of_listed o v u at e fine walked w =

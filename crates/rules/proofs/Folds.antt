@@ -49,14 +49,14 @@ module _ (b : ℕ) where
   fold_other e = rw e
 
   -- range by range
-  read_capital : 65 ≤ b → b < 91 → b + 32 ≡ folded b
+  pub read_capital : 65 ≤ b → b < 91 → b + 32 ≡ folded b
   unfolding capital
   read_capital h k = sym (fold_capital (rw (le-leb 65 b h, le-leb b 90 (omega arith))))
 
-  read_below : b < 65 → b ≡ folded b
+  pub read_below : b < 65 → b ≡ folded b
   read_below h = sym (fold_other (below_capitals h))
 
-  read_above : 91 ≤ b → b ≡ folded b
+  pub read_above : 91 ≤ b → b ≡ folded b
   read_above h = sym (fold_other (above_capitals h))
 
   -- as the library makes a small letter

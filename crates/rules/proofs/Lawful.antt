@@ -2,13 +2,13 @@
 -- Assumes nothing.
 use Prim.Native.Nat.{ℕ, zero, suc, ◌+◌, ◌-◌, ◌≤◌, ◌<◌}
 use mathlib.Core.Path.{◌≡◌, sym, ap, ◌∙◌}
-use mathlib.Core.Bool.{true, false, not}
+use mathlib.Core.Bool.{true, false, not, and-false}
 use mathlib.Core.List.{List}
 use native.Mathlib.Omega.{arith}
 use lib.Dec.{leb}
 use lib.IntN.{ℤ}
 use lib.ListN.{length, get_or, take, drop}
-use borrow.Author.Tests.{not-false, leb-true, eqb-true, lt-ltb, le-leb, eq-eqb}
+use borrow.Author.Tests.{not-false, leb-true, eqb-true, lt-ltb, lt-leb, le-leb, eq-eqb}
 use Rattle.base.specs.Lists.{begins}
 use Rattle.base.proofs.Tests.{missed, and_left, and_right, every-at, every_of}
 use Rattle.base.proofs.Scans.{all-at, all_of}
@@ -33,6 +33,10 @@ module _ (east north : List ℤ) (score : List ℕ) (g : Grid) (i : ℕ) where
   pub stand_off : in_grid g (place_in east north i) ≡ false → stand_lawful east north score g i ≡ false
   unfolding stand_lawful
   stand_off h = rw h
+
+  pub stand-over : 1000 < get_or score i 0 → stand_lawful east north score g i ≡ false
+  unfolding stand_lawful
+  stand-over h = rw (lt-leb _ _ h) (and-false (in_grid g (place_in east north i)))
 
   pub stand-in : in_grid g (place_in east north i) ≡ true → get_or score i 0 ≤ 1000 → stand_lawful east north score g i ≡ true
   unfolding stand_lawful

@@ -3,7 +3,7 @@
 #![tactic(auto)]
 
 ghost use Rattle.std.specs.Prelude.{◌≡◌};
-ghost use Rattle.rules.specs.Numbers.{refusal_number, range_refused};
+ghost use Rattle.rules.specs.Numbers.{refusal_number, verdict_number, range_refused};
 ghost use Rattle.rules.specs.Sessions.{fresh_session};
 ghost use Rattle.rules.specs.declared.Refusal.{Refusal};
 ghost use Rattle.rules.specs.declared.Refusal.TheVariants.{NotLawful};
@@ -164,11 +164,29 @@ pub enum Refusal {
     InputMalformed,
 }
 
+impl Refusal {
+    pub fn number(self) -> u32
+        ensures { result ≡ refusal_number self }
+    {
+        u32::from(self)
+    }
+}
+
 impl From<Refusal> for u32 {
     ghost from_gives = { λ why n. n ≡ refusal_number why };
 
     fn from(why: Refusal) -> u32 {
         why as u32
+    }
+}
+
+// A verdict is told by its refusal's number, or 0.
+pub fn number_of(verdict: Result<(), Refusal>) -> u32
+    ensures { result ≡ verdict_number verdict }
+{
+    match verdict {
+        Ok(()) => 0,
+        Err(why) => why.number(),
     }
 }
 
@@ -187,8 +205,9 @@ impl From<Broken> for Refusal {
 // Why a range question is refused; for want of room, also how many stands match.
 #[derive(Clone, Copy, Debug, PartialEq, Eq)]
 pub struct RangeRefusal {
-    pub why: Refusal,
+    // First, since behind the reason, which is a byte, it would be cleared with the gap between, by a routine that a Cortex-M0 has to link.
     pub matches: u32,
+    pub why: Refusal,
 }
 
 impl From<Refusal> for RangeRefusal {

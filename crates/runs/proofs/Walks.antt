@@ -21,17 +21,17 @@ use Rattle.runs.proofs.Sights.{stands_few, places_enough}
 use Rattle.runs.specs.Sights.{Ready, Noted, entry_noted, run_by, run_of, touched_stands}
 
 -- a run that ends before it begins
-run-over : (order : List ℕ) (i end : ℕ) → end ≤ i → slice i end order ≡ []
+pub run-over : (order : List ℕ) (i end : ℕ) → end ≤ i → slice i end order ≡ []
 run-over order i end h = drop_of_length-le (take end order) {i = i} (omega (arith, length-take end order))
 
 -- ---- at the first of some regions
 
 module _ (n : Noted) (r : ℕ) (a : Result Entry Broken) (read : a ≡ entry_noted n r) where
   -- its run, as the entry says that is noted for it
-  run_there : (x : Entry) → a ≡ Ok x → run_of n r ≡ slice x.first.0 x.past.0 n.order
+  pub run_there : (x : Entry) → a ≡ Ok x → run_of n r ≡ slice x.first.0 x.past.0 n.order
   run_there x e = ap (run_by n) (sym read ∙ e)
 
-  run-within : (x : Entry) → a ≡ Ok x → x.past.0 ≤ n.stands
+  pub run-within : (x : Entry) → a ≡ Ok x → x.past.0 ≤ n.stands
   run-within x e = (within_facts n.stands x (read_within n.entries n.stands _ a x read e)).1
 
   pub run-fits : (east north : List ℤ) → Ready east north n → (x : Entry) → a ≡ Ok x → x.past.0 ≤ length n.order

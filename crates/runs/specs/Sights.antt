@@ -64,7 +64,16 @@ run_of n r = run_by n (entry_noted n r)
 abbrev pub touched_stands : Noted → List ℕ → List ℕ
 touched_stands n regions = each_list (run_of n) regions
 
+-- and there is none to tell
+abbrev pub run_told : Noted → Result Entry Broken → Result (List ℕ) Broken
+run_told n (Ok e) = Ok (slice e.first.0 e.past.0 n.order)
+run_told n (Err e) = Err e
+
 -- what the code finds of a region's run
+abbrev pub run_found : Result (Bor (List ℕ)) Broken → Result (List ℕ) Broken
+run_found (Ok run) = Ok run.now
+run_found (Err e) = Err e
+
 abbrev pub run_seen : Noted → Result (Bor (List ℕ)) Broken → List ℕ
 run_seen n (Ok run) = run.now
 run_seen n (Err e) = n.stands ∷ []

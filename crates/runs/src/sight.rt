@@ -1,6 +1,6 @@
 // Where the stands are that a question about a rectangle looks at: in the order by their region's run, on the map by their number.
 ghost use Rattle.std.specs.Prelude.{◌≡◌, ◌<◌};
-ghost use Rattle.runs.specs.Sights.{sighted, run_seen, run_of};
+ghost use Rattle.runs.specs.Sights.{sighted, entry_noted, run_seen, run_of, run_found, run_told};
 ghost use Rattle.runs.specs.Runs.{easts, norths, noted};
 
 use crate::Runs;
@@ -11,7 +11,8 @@ impl<'a> Runs<'a> {
     // A region's run, as the entry says that is noted for it. One that ends before it begins has no stands.
     pub fn run_of(self, region: u32) -> Result<&'a [u32], Broken>
         requires { region < 64 }
-        ensures { run_seen (noted self.entry) result ≡ run_of (noted self.entry) region }
+        ensures told { run_found result ≡ run_told (noted self.entry) (entry_noted (noted self.entry) region) }
+        ensures seen { run_seen (noted self.entry) result ≡ run_of (noted self.entry) region }
     {
         let order = self.order;
         let number = self.numbers[region as usize] as usize;

@@ -12,6 +12,14 @@ use rules::{Broken, Node, Refusal, Session, Stand};
 use table::names::{allowed, folded};
 use walk::child_of;
 
+// What a keystroke by value comes to: whether it is taken, and the session after it, which is the old one where it is not.
+// Stays: a verdict beside a session, since both calls by value answer it (docs/FORMS.md), refused or not.
+#[derive(Clone, Copy)]
+pub struct Stroke {
+    pub verdict: Result<(), Refusal>,
+    pub session: Session,
+}
+
 // Whether the letters led nowhere, by the word of the path past them. The root is node 0 too, so a 0 says so only past some letters.
 #[tactic(auto, unfolding(crate::specs::Strokes::lost))]
 fn lost(letters: usize, last: u32) -> bool
@@ -90,6 +98,30 @@ pub fn rub_out(session: &mut Session) -> Result<(), Refusal>
     session.path[len] = 0;
     session.len -= 1;
     Ok(())
+}
+
+// A letter typed, by value: for a caller who keeps the session of before.
+pub fn with_letter(nodes: &[u32], session: Session, byte: u8) -> Stroke
+    ensures { Struck (typed_on (given nodes) session (folded byte)) session result.session result.verdict }
+{
+    let mut longer = session;
+    let verdict = type_byte(nodes, &mut longer, byte);
+    Stroke {
+        verdict,
+        session: longer,
+    }
+}
+
+// The last letter rubbed out, by value.
+pub fn rubbed_out(session: Session) -> Stroke
+    ensures { Struck (rubbed_out session) session result.session result.verdict }
+{
+    let mut shorter = session;
+    let verdict = rub_out(&mut shorter);
+    Stroke {
+        verdict,
+        session: shorter,
+    }
 }
 
 // Where the session's letters came to. Its path says so: nothing is walked.

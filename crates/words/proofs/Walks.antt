@@ -169,17 +169,16 @@ pub record Carrying (t : IndexColumns) (all : ℕ) (c : Cursor) (w : Work) : Typ
   pub next_is : w.next ≡ places_at t.region c.stand.0
   pub scratch : Scratch w
 
-blank : (next : List ℕ) → Scratch (blank_work next)
+pub blank : (next : List ℕ) → Scratch (blank_work next)
 blank next = record { long = record { numbers = refl; records = refl; regions = refl }; places_size = refl; best_size = refl; ranked_size = refl }
 
 pub root-trail : (next : List ℕ) {c : Cursor} → c ≡ root_cursor → trail_of c (blank_work next) ≡ root_trail
 root-trail next r = rw r
 
-module _ {t : IndexColumns} {all : ℕ} {c : Cursor} where
-  pub carrying : {next : List ℕ} → LawfulColumns t → c ≡ root_cursor → all ≡ node_count_of t → next ≡ places_at t.region 0 → Carrying t all c (blank_work next)
-  carrying {next} l r e n = record { way = going r l.grows e; next_is = rw r n; scratch = blank next }
-
 module _ {t : IndexColumns} {all : ℕ} {c : Cursor} {w : Work} where
+  pub carrying : LawfulColumns t → c ≡ root_cursor → all ≡ node_count_of t → w.next ≡ places_at t.region 0 → Scratch w → Carrying t all c w
+  carrying l r e n s = record { way = going r l.grows e; next_is = rw r n; scratch = s }
+
   module _ (s : Carrying t all c w) (lt : c.number.0 < all) where
     pub standing : Standing t c w
     standing = record { on = s.way.on lt; low = omega (arith, s.way.few); few = s.way.low; fewer = s.way.fewer; next_is = s.next_is; scratch = s.scratch }

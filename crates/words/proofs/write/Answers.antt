@@ -1,5 +1,5 @@
 -- `words::write` meets its contract: the loop's invariant is `Writing`, whose laws are of proofs/Writes.antt. Assumes nothing.
-use Rattle.words.proofs.Walks.{carrying, standing, root-trail}
+use Rattle.words.proofs.Walks.{blank, carrying, standing, root-trail}
 use Rattle.words.proofs.Writes.{writing, writing_room, writing_more}
 use Rattle.words.proofs.write.Goals as goal
 
@@ -8,7 +8,7 @@ loop-cursor-init c =
     let p = c.requires in
     let r = c.root-cursor.ensures in
     let places = c.places_of.ensures in
-    writing (root-trail c.places_of.result r) r p (carrying c.args.columns.lawful r p.count places)
+    writing (root-trail c.places_of.result r) r p (carrying c.args.columns.lawful r p.count places (blank _))
 
 pub write_node-cursor-requires : goal.write_node-cursor-requires
 write_node-cursor-requires c =

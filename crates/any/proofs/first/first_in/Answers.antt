@@ -16,10 +16,10 @@ run_of-requires c = listed_next _ _ _ c.in-Some.ensures.steps _ refl
 pub returns-in_err-stand-items : goal.returns-in_err-stand-items
 returns-in_err-stand-items c =
     let p = err_from_is_err_and c.from_residual.result c.from_residual.ensures.1 in
-    rw (p.1, p.2) (scan_unread _ _ _ _ _ _ c.loop-region.invariant _ _ c.in-Some.ensures.steps _ c.run_of.ensures c.args.runs.ready _ c.in_err-stand-items.was)
+    rw (p.1, p.2) (scan_unread _ _ _ _ _ _ c.loop-region.invariant _ _ c.in-Some.ensures.steps _ c.run_of.ensures.seen c.args.runs.ready _ c.in_err-stand-items.was)
 
 pub loop-stand-init : goal.loop-stand-init
-loop-stand-init c = run_begins _ _ _ _ _ _ c.loop-region.invariant _ _ c.in-Some.ensures.steps _ c.run_of.ensures _ c.in_ok-stand-items.was
+loop-stand-init c = run_begins _ _ _ _ _ _ c.loop-region.invariant _ _ c.in-Some.ensures.steps _ c.run_of.ensures.seen _ c.in_ok-stand-items.was
 
 pub returns-in_err-sight : goal.returns-in_err-sight
 returns-in_err-sight c =

@@ -17,20 +17,20 @@ run_of-requires c = listed_next _ _ _ c.in-Some.ensures.steps _ refl
 pub returns-in_err-run : goal.returns-in_err-run
 returns-in_err-run c =
     let p = err_from_is_err_and c.from_residual.result c.from_residual.ensures.1 in
-    rw p.1 (sweep_unread _ _ _ _ _ _ c.args.runs.ready _ _ _ c.loop-region.invariant _ _ c.in-Some.ensures.steps _ c.run_of.ensures _ c.in_err-run.was)
+    rw p.1 (sweep_unread _ _ _ _ _ _ c.args.runs.ready _ _ _ c.loop-region.invariant _ _ c.in-Some.ensures.steps _ c.run_of.ensures.seen _ c.in_err-run.was)
 
 pub gather_run-requires : goal.gather_run-requires
 gather_run-requires c =
-    sweep_room _ _ _ _ _ _ c.args.runs.ready _ _ _ c.loop-region.invariant _ _ c.in-Some.ensures.steps _ c.run_of.ensures _ c.in_ok-run.was
+    sweep_room _ _ _ _ _ _ c.args.runs.ready _ _ _ c.loop-region.invariant _ _ c.in-Some.ensures.steps _ c.run_of.ensures.seen _ c.in_ok-run.was
 
 pub returns-in_err-n : goal.returns-in_err-n
 returns-in_err-n c =
     let p = err_from_is_err_and c.from_residual-in_err-n.result c.from_residual-in_err-n.ensures.1 in
-    rw p.1 (sweep_breaks _ _ _ _ _ _ c.args.runs.ready _ _ _ c.loop-region.invariant _ _ c.in-Some.ensures.steps _ c.run_of.ensures _ c.in_ok-run.was _ _ _ c.gather_run.ensures c.in_err-n.was)
+    rw p.1 (sweep_breaks _ _ _ _ _ _ c.args.runs.ready _ _ _ c.loop-region.invariant _ _ c.in-Some.ensures.steps _ c.run_of.ensures.seen _ c.in_ok-run.was _ _ _ c.gather_run.ensures c.in_err-n.was)
 
 pub loop-region-preserved : goal.loop-region-preserved
 loop-region-preserved c =
-    sweep_on _ _ _ _ _ _ c.args.runs.ready _ _ _ c.loop-region.invariant _ _ c.in-Some.ensures.steps _ c.run_of.ensures _ c.in_ok-run.was _ _ _ c.gather_run.ensures c.in_ok-n.was
+    sweep_on _ _ _ _ _ _ c.args.runs.ready _ _ _ c.loop-region.invariant _ _ c.in-Some.ensures.steps _ c.run_of.ensures.seen _ c.in_ok-run.was _ _ _ c.gather_run.ensures c.in_ok-n.was
 
 pub returns : goal.returns
 returns c = sweep_ends _ _ _ _ _ _ c.args.runs.ready _ _ _ c.loop-region.invariant c.in-None.ensures.steps.0
