@@ -7,8 +7,8 @@
  * elements; each must be aligned for its type. What a call may write (no `const`) must not overlap anything else that is lent to it.
  * Nothing else is asked: any numbers and any words may be passed. A call ends, reads and writes only what it is lent, keeps no pointer,
  * and takes no memory from elsewhere. Calls may run at once where none writes what another is lent. krz_build and krz_check go less than
- * 7.5 KiB deep into the stack, every other call less than 2 KiB; measured they are 7.4 and 1.1 KiB on x86-64, 7.3 and 0.9 KiB on AArch64,
- * 6.9 and 1.1 KiB on a Cortex-M4 with -Os.
+ * 7.5 KiB deep into the stack, every other call less than 2 KiB; measured they are 6.9 and 1.0 KiB on x86-64, 6.8 and 0.9 KiB on AArch64,
+ * 7.3 and 1.3 KiB on a Cortex-M4 with -Os.
  *
  * The table: N stands, at most 1,024, a stand's number being its position from 0.
  *   text    the bytes of all names, one behind the other; a name has 1 to 24 bytes, each a to z, 0 to 9 or space
