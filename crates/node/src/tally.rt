@@ -75,6 +75,7 @@ pub fn regions_under(columns: Columns, stand: Stand, bytes: u8) -> u64
 impl Work {
     // One walk over those stands: their regions as bits, and for each of those regions the largest score and the place past its last stand.
     // A region's slots count only once its bit is set, so nothing is cleared.
+    // Stays: two columns, and not all: no more is asked of a table than is read.
     pub fn tally(&mut self, region: &[u8], score: &[u32], first: Stand, past: Stand) -> u64
         requires { TallyAsks region.now score.now first.0 past.0 self.old }
         ensures { Tallies region.now score.now first.0 past.0 self.old self.new result }

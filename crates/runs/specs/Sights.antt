@@ -64,7 +64,7 @@ run_of n r = run_by n (entry_noted n r)
 abbrev pub touched_stands : Noted → List ℕ → List ℕ
 touched_stands n regions = each_list (run_of n) regions
 
--- and there is none to tell
+-- a region's run, or why its entry cannot be gone by
 abbrev pub run_told : Noted → Result Entry Broken → Result (List ℕ) Broken
 run_told n (Ok e) = Ok (slice e.first.0 e.past.0 n.order)
 run_told n (Err e) = Err e

@@ -19,7 +19,7 @@ abbrev pub stands : Session → Stroke → Session
 stands s (Ok s') = s'
 stands s (Err why) = s
 
--- of a lent session, before and after
+-- of a session, lent or by value, before and after
 pub record Struck (r : Stroke) (s s' : Session) (v : Result Unit Refusal) : Type 0 where
   pub verdict : v ≡ verdict r
   pub session : s' ≡ stands s r

@@ -1,4 +1,4 @@
-// Keystrokes: a letter typed into the one session record that a caller lends, or rubbed out of it; and where its letters came to.
+// Keystrokes: a letter typed or rubbed out, in the one session record that a caller lends or by value; and where its letters came to.
 // Nothing is asked of session and nodes: on any words a keystroke ends, reads nothing outside them, and a refused one alters nothing.
 #![tactic(auto)]
 
@@ -13,7 +13,7 @@ use table::names::{allowed, folded};
 use walk::child_of;
 
 // What a keystroke by value comes to: whether it is taken, and the session after it, which is the old one where it is not.
-// Stays: a verdict beside a session, since both calls by value answer it (docs/FORMS.md), refused or not.
+// Stays: a verdict beside a session, since a caller by value has the session after a refusal, too.
 #[derive(Clone, Copy)]
 pub struct Stroke {
     pub verdict: Result<(), Refusal>,
